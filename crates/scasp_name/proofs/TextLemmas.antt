@@ -1,11 +1,10 @@
 -- Lists of keys that are read as texts, as a table keeps them.
-use Rattle.std.proofs.Common.{◌≡◌, ℕ, ◌<◌, ◌≤◌, zero, suc, Bool, true, false, ◌||◌, List, [], ◌∷◌, ◌++◌, length, get_or, map, slice_get, position, Option, None, Some, length-append, refl, sym, ap, subst, ◌∙◌, arith, true≢false, if◌then◌else◌}
+use Rattle.std.proofs.Common.{◌≡◌, ℕ, ◌<◌, zero, suc, Bool, true, false, ◌||◌, List, [], ◌∷◌, ◌++◌, length, get_or, map, slice_get, position, Some, length-append, refl, sym, ap, ◌∙◌, arith, true≢false, if◌then◌else◌}
 use Rattle.std.specs.List.{list_any, IsDistinct, AllByRecursion}
 use Rattle.std.specs.Str.{bytes_eq}
 use Rattle.std.proofs.lemmas.Slice.Eq.{bytes_eq-Decides}
 use Rattle.std.proofs.lemmas.Option.{slice_get-map, slice_get-get_or, slice_get_within}
 use Rattle.std.proofs.lemmas.List.Quantifiers.{position-Some}
-use Rattle.std.proofs.lemmas.List.Folds.{list_any-append}
 use Rattle.std.proofs.Math.ListN.{get_or-append}
 use Rattle.std.specs.Option.{option_map}
 use Rattle.scasp_name.specs.Texts.{has_text, with_text, AreDistinct, BeginWithLists}

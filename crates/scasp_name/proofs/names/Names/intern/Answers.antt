@@ -1,5 +1,5 @@
-use Rattle.std.proofs.Common.{◌≡◌, string_bytes, map, refl, ap, sym, subst, ◌∙◌, slice_get, Some}
-use Rattle.scasp_name.specs.Texts.{with_text, BeginWithLists}
+use Rattle.std.proofs.Common.{◌≡◌, string_bytes, map, ap, ◌∙◌}
+use Rattle.scasp_name.specs.Texts.{with_text}
 use Rattle.scasp_name.proofs.TextLemmas.{with_text-at, with_text-map, text_at-stored, slice_get-with_text, BeginWithLists-with_text}
 use Rattle.scasp_name.proofs.names.Names.intern.Goals as goal
 
