@@ -1,0 +1,245 @@
+//! Linear comparisons over the rationals, with whole coefficients.
+ghost use Rattle.std.specs.Prelude.{◌≡◌, [], ◌∷◌, ◌++◌, length, slice_get, OnOk, OnErr};
+ghost use Rattle.std.specs.Option.{option_copied};
+
+use crate::Memory;
+use crate::rational::Rat;
+use std::alloc::Global;
+use std::marker::Model;
+use thiserror::Error;
+
+/// How the sum of a row compares with 0: `=`, `<`, `=<` or `=\=`.
+#[derive(Clone, Copy, Debug, PartialEq, Eq)]
+pub enum Op {
+    Eq,
+    Lt,
+    Le,
+    Ne,
+}
+
+/// The variable `x` times `c`.
+#[derive(Clone, Copy, Debug, PartialEq, Eq)]
+pub struct Coeff {
+    pub x: u64,
+    pub c: i128,
+}
+
+/// The variable `x` times or with a number.
+#[derive(Clone, Copy, Debug, PartialEq, Eq)]
+pub struct RatPair {
+    pub x: u64,
+    pub value: Rat,
+}
+
+/// A list of coefficients, each with its variable.
+#[derive(Clone, Debug, Drop)]
+pub struct Coeffs {
+    list: Vec<Coeff>,
+}
+
+impl Model for Coeffs {
+    ghost use Rattle.std.specs.Prelude.{List};
+    ghost use Rattle.scasp_num.specs.declared.linear.Coeff.{Coeff};
+
+    ghost Value = { List Coeff };
+
+    ghost view = { λ a. a.list.items };
+}
+
+impl Coeffs {
+    /// The empty list; it takes no memory.
+    pub fn new(alloc: Global) -> Self
+        ensures { result ≡ [] }
+    {
+        Coeffs {
+            list: Vec::new(alloc),
+        }
+    }
+
+    pub fn len(&self) -> usize
+        ensures { result ≡ length self.now }
+    {
+        self.list.len()
+    }
+
+    pub fn get(&self, i: usize) -> Option<&Coeff>
+        ensures { option_copied result ≡ slice_get self.now i }
+    {
+        self.list.get(i)
+    }
+
+    pub fn as_slice(&self) -> &[Coeff]
+        ensures { result.now ≡ self.now }
+    {
+        self.list.as_slice()
+    }
+
+    /// Puts an item at the end.
+    pub fn push(&mut self, item: Coeff) -> Result<(), Memory>
+        ensures ok { OnOk result (self.new ≡ self.old ++ item ∷ []) }
+        ensures err { OnErr result (self.new ≡ self.old) }
+    {
+        self.list.push(item)?;
+        Ok(())
+    }
+}
+
+/// A list of pairs of a variable and a number.
+#[derive(Clone, Debug, Drop)]
+pub struct RatPairs {
+    list: Vec<RatPair>,
+}
+
+impl Model for RatPairs {
+    ghost use Rattle.std.specs.Prelude.{List};
+    ghost use Rattle.scasp_num.specs.declared.linear.RatPair.{RatPair};
+
+    ghost Value = { List RatPair };
+
+    ghost view = { λ a. a.list.items };
+}
+
+impl RatPairs {
+    /// The empty list; it takes no memory.
+    pub fn new(alloc: Global) -> Self
+        ensures { result ≡ [] }
+    {
+        RatPairs {
+            list: Vec::new(alloc),
+        }
+    }
+
+    pub fn len(&self) -> usize
+        ensures { result ≡ length self.now }
+    {
+        self.list.len()
+    }
+
+    pub fn get(&self, i: usize) -> Option<&RatPair>
+        ensures { option_copied result ≡ slice_get self.now i }
+    {
+        self.list.get(i)
+    }
+
+    pub fn as_slice(&self) -> &[RatPair]
+        ensures { result.now ≡ self.now }
+    {
+        self.list.as_slice()
+    }
+
+    /// Puts an item at the end.
+    pub fn push(&mut self, item: RatPair) -> Result<(), Memory>
+        ensures ok { OnOk result (self.new ≡ self.old ++ item ∷ []) }
+        ensures err { OnErr result (self.new ≡ self.old) }
+    {
+        self.list.push(item)?;
+        Ok(())
+    }
+}
+
+/// The comparison `c1*x1+..+ck*xk+constant OP 0` in normal form: variables ascend, no coefficient is 0,
+/// the greatest common divisor of all integers is 1 or all are 0, and for `=` and `=\=` the first
+/// integer that is not 0 is above 0.
+#[derive(Clone, Debug, Drop)]
+pub struct Row {
+    coeffs: Coeffs,
+    constant: i128,
+    op: Op,
+}
+
+impl Model for Row {
+    ghost use Rattle.scasp_num.specs.Linear.{Linear, IsNormal};
+
+    ghost Value = { Linear };
+
+    ghost view = { λ r. record { coeffs = r.coeffs; constant = r.constant; op = r.op } };
+
+    ghost invariant = { λ r. IsNormal (record { coeffs = r.coeffs; constant = r.constant; op = r.op }) };
+}
+
+impl Row {
+    ghost use Rattle.scasp_num.specs.Linear.{IsNormal};
+
+    pub fn coeffs(&self) -> &Coeffs
+        ensures value { result.now ≡ self.now.coeffs }
+        ensures normal { IsNormal self.now }
+    {
+        &self.coeffs
+    }
+
+    pub fn constant(&self) -> i128
+        ensures value { result ≡ self.now.constant }
+        ensures normal { IsNormal self.now }
+    {
+        self.constant
+    }
+
+    pub fn op(&self) -> Op
+        ensures value { result ≡ self.now.op }
+        ensures normal { IsNormal self.now }
+    {
+        self.op
+    }
+}
+
+/// A list of rows.
+#[derive(Clone, Debug, Drop)]
+pub struct Rows {
+    list: Vec<Row>,
+}
+
+impl Model for Rows {
+    ghost use Rattle.std.specs.Prelude.{List};
+    ghost use Rattle.scasp_num.specs.Linear.{Linear};
+
+    ghost Value = { List Linear };
+
+    ghost view = { λ a. a.list.items };
+}
+
+impl Rows {
+    /// The empty list; it takes no memory.
+    pub fn new(alloc: Global) -> Self
+        ensures { result ≡ [] }
+    {
+        Rows {
+            list: Vec::new(alloc),
+        }
+    }
+
+    pub fn len(&self) -> usize
+        ensures { result ≡ length self.now }
+    {
+        self.list.len()
+    }
+
+    pub fn get(&self, i: usize) -> Option<&Row>
+        ensures { option_copied result ≡ slice_get self.now i }
+    {
+        self.list.get(i)
+    }
+
+    pub fn as_slice(&self) -> &[Row]
+        ensures { result.now ≡ self.now }
+    {
+        self.list.as_slice()
+    }
+
+    /// Puts an item at the end.
+    pub fn push(&mut self, item: Row) -> Result<(), Memory>
+        ensures ok { OnOk result (self.new ≡ self.old ++ item ∷ []) }
+        ensures err { OnErr result (self.new ≡ self.old) }
+    {
+        self.list.push(item)?;
+        Ok(())
+    }
+}
+
+/// Why a row is not made.
+#[derive(Clone, Copy, Debug, PartialEq, Eq, Error)]
+pub enum RowErr {
+    #[error("a number is too large")]
+    Overflow,
+    #[error("out of memory")]
+    Memory,
+}
