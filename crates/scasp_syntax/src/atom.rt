@@ -1,0 +1,33 @@
+//! Atoms and literals.
+use crate::sequence::Sequence;
+use crate::term::Terms;
+use scasp_name::NameId;
+
+/// A predicate: its name, its number of arguments, and whether it is a name with `-` in front.
+#[derive(Clone, Copy, Debug, PartialEq, Eq)]
+pub struct Pred {
+    pub minus: bool,
+    pub name: NameId,
+    pub arity: u64,
+}
+
+/// A predicate's name with its arguments.
+#[derive(Debug, Drop)]
+pub struct Atom {
+    pub minus: bool,
+    pub name: NameId,
+    pub args: Terms,
+}
+
+/// An atom, or `not` and an atom.
+#[derive(Debug, Drop)]
+pub struct Lit {
+    pub positive: bool,
+    pub atom: Atom,
+}
+
+/// A list of atoms.
+pub type Atoms = Sequence<Atom>;
+
+/// A list of literals.
+pub type Lits = Sequence<Lit>;

@@ -1,0 +1,28 @@
+//! Atomic constraints.
+use crate::sequence::Sequence;
+use crate::term::Term;
+use scasp_name::NameId;
+use scasp_num::Row;
+
+/// An atomic constraint.
+#[derive(Debug, Drop)]
+pub enum Con {
+    /// The two terms are equal.
+    Eq(Term, Term),
+    /// The two terms differ.
+    Neq(Term, Term),
+    /// The variable is not this name with so many arguments.
+    NotShape(u64, NameId, u64),
+    /// The term is a number.
+    Num(Term),
+    /// The term is no number.
+    NotNum(Term),
+    /// The linear comparison holds, and its variables are numbers.
+    Row(Row),
+}
+
+/// A list of constraints.
+pub type Cons = Sequence<Con>;
+
+/// A list of lists of constraints.
+pub type ConLists = Sequence<Cons>;
