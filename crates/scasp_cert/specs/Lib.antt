@@ -1,0 +1,5 @@
+pub mod Trees
+pub mod View
+pub mod Certificate
+pub mod Lines
+pub mod States

@@ -1,0 +1,11 @@
+//! Certificates: an answer to a query, with the tree that says why it holds.
+#![tactic(auto)]
+
+mod certificate;
+mod count;
+mod lists;
+mod tree;
+
+pub use certificate::{Cert, Check, Checks, Clash, Clashes};
+pub use count::lines;
+pub use tree::{Case, Cover, Covers, Node, Nodes};
