@@ -1,8 +1,9 @@
 -- Lists of terms as plain values.
-use Rattle.std.proofs.Common.{◌≡◌, ℕ, ◌<◌, List, [], ◌∷◌, ◌++◌, length, get_or, map, slice_get, Option, Some, None, option_copied, is_some, nat_lt, IfSome, Bor, arith, refl, ap, sym, ◌∙◌}
+use Rattle.std.proofs.Common.{◌≡◌, ℕ, zero, suc, ◌<◌, ◌≤◌, List, [], ◌∷◌, ◌++◌, length, get_or, map, take, slice_get, Option, Some, None, option_copied, is_some, nat_lt, IfSome, Bor, All, arith, refl, ap, sym, ◌∙◌}
 use Rattle.std.proofs.lemmas.Bool.Decides.{nat_tests}
+use Rattle.std.proofs.lemmas.List.{take_all}
 use Rattle.std.proofs.lemmas.Option.{slice_get_past, slice_get-get_or}
-use Rattle.scasp_syntax.specs.Tm.{items}
+use Rattle.scasp_syntax.specs.Tm.{Tm, Tms, nil, cons, items, listed, weight, weight_s}
 use Rattle.scasp_syntax.specs.View.{tm_of, tms_of}
 use Rattle.scasp_syntax.specs.declared.term.Term.{Term}
 
@@ -21,3 +22,34 @@ slice_get-got None ys xs i e there item = rw (← e) (sym (slice_get_past ys i (
 slice_get-got (Some x) ys xs i e there item =
     let within : i < length ys = grind (arith, nat_tests) in
     rw (← e) (sym (slice_get-get_or ys i x.now within ∙ ap Some (sym item)))
+
+-- a list of terms is as heavy as each of them, at least
+pub weight-at : (ts : List Term) (i : ℕ) (d : Term) → i < length ts → weight (tm_of (get_or ts i d)) ≤ weight_s (tms_of ts)
+weight-at [] i d h = absurd (omega arith)
+weight-at (t ∷ ts) zero d h = omega arith
+weight-at (t ∷ ts) (suc i) d h = let s = weight-at ts i d (omega arith) in omega arith
+
+-- a list of terms is its items
+pub listed-items : (ts : Tms) → listed (items ts) ≡ ts
+listed-items nil = refl
+listed-items (cons t ts) = ap (cons t) (listed-items ts)
+
+pub items_inj : (ts us : Tms) → items ts ≡ items us → ts ≡ us
+items_inj ts us e = sym (listed-items ts) ∙ ap listed e ∙ listed-items us
+
+-- a list that was filled with the values of all terms
+pub filled : (f : Tm → Tm) (made ts : Tms) (xs : List Term) (n : ℕ) → items made ≡ map (λ t. f (tm_of t)) (take n xs) → length xs ≤ n → map tm_of xs ≡ items ts → made ≡ listed (map f (items ts))
+filled f made ts xs n e all is =
+    sym (listed-items made) ∙ ap listed (e ∙ ap (map (λ t. f (tm_of t))) (take_all n xs all) ∙ map-map f xs ∙ ap (map f) is)
+  where
+    map-map : (g : Tm → Tm) (ys : List Term) → map (λ t. g (tm_of t)) ys ≡ map g (map tm_of ys)
+    map-map g [] = refl
+    map-map g (y ∷ ys) = ap (λ l. g (tm_of y) ∷ l) (map-map g ys)
+
+-- the same of a copy
+pub copied : (made ts : Tms) (xs : List Term) (n : ℕ) → items made ≡ map tm_of (take n xs) → length xs ≤ n → map tm_of xs ≡ items ts → made ≡ ts
+copied made ts xs n e all is = items_inj made ts (e ∙ ap (map tm_of) (take_all n xs all) ∙ is)
+
+-- a slice of all terms of a list is that list
+pub tms_of-all : (xs : List Term) (ts : Tms) → map tm_of xs ≡ items ts → tms_of xs ≡ ts
+tms_of-all xs ts e = items_inj (tms_of xs) ts (items-tms_of xs ∙ e)

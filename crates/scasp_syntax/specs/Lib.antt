@@ -1,5 +1,7 @@
 pub mod Falls
+pub mod Same
 pub mod Tm
 pub mod TmCode
+pub mod Values
 pub mod View
 pub mod WellFormed

@@ -3,11 +3,15 @@
 
 mod atom;
 mod clause;
+mod copies;
+mod equality;
 mod con;
 mod hint;
 mod predicate_map;
 mod program;
+mod renaming;
 mod sequence;
+mod sizes;
 mod term;
 
 pub use atom::{Atom, Atoms, Lit, Lits, Pred};
@@ -15,8 +19,12 @@ pub use clause::{
     Clause, Clauses, FlatItem, FlatItems, Item, Items, Lin, Queries, Query, VarNames,
 };
 pub use con::{Con, ConLists, Cons};
+pub use copies::{copy, copy_terms};
+pub use equality::{same, same_atom, same_lit, same_term, same_terms};
 pub use hint::Hint;
 pub use predicate_map::{PredMap, PredMaps};
 pub use program::Program;
+pub use renaming::{rename, rename_terms};
 pub use sequence::{PlaceList, RuleList, Sequence, VarList};
+pub use sizes::size;
 pub use term::{Term, Terms};

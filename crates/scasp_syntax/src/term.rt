@@ -42,9 +42,9 @@ impl Model for Terms {
 }
 
 impl Terms {
-    ghost use Rattle.scasp_syntax.specs.Tm.{nil, items};
+    ghost use Rattle.scasp_syntax.specs.Tm.{nil, items, weight, weight_s};
     ghost use Rattle.scasp_syntax.specs.View.{tm_of};
-    ghost use Rattle.std.specs.Prelude.{map};
+    ghost use Rattle.std.specs.Prelude.{map, All, ◌≤◌};
 
     /// The empty list, which takes no memory.
     pub fn new(alloc: Global) -> Terms
@@ -71,7 +71,8 @@ impl Terms {
 
     /// All terms.
     pub fn as_slice(&self) -> &[Term]
-        ensures { map tm_of result.now ≡ items self.now }
+        ensures terms { map tm_of result.now ≡ items self.now }
+        ensures lighter { All (λ t. weight (tm_of t) ≤ weight_s self.now) result.now }
     {
         self.list.as_slice()
     }
