@@ -1,9 +1,11 @@
 -- Lists of terms as plain values.
-use Rattle.std.proofs.Common.{◌≡◌, ℕ, zero, suc, ◌<◌, ◌≤◌, List, [], ◌∷◌, ◌++◌, length, get_or, map, take, slice_get, Option, Some, None, option_copied, is_some, nat_lt, IfSome, Bor, All, arith, refl, ap, sym, ◌∙◌}
+use Rattle.std.proofs.Common.{◌≡◌, ◌≢◌, Bool, true, false, ◌&&◌, ℕ, zero, suc, ◌<◌, ◌≤◌, List, [], ◌∷◌, ◌++◌, length, get_or, map, take, slice_get, Option, Some, None, option_copied, is_some, nat_lt, IfSome, Bor, arith, refl, ap, sym, ◌∙◌}
 use Rattle.std.proofs.lemmas.Bool.Decides.{nat_tests}
 use Rattle.std.proofs.lemmas.List.{take_all}
 use Rattle.std.proofs.lemmas.Option.{slice_get_past, slice_get-get_or}
 use Rattle.scasp_syntax.specs.Tm.{Tm, Tms, nil, cons, items, listed, weight, weight_s}
+use Rattle.scasp_syntax.specs.Values.{Sub, under, all_under}
+use Rattle.scasp_syntax.specs.Same.{same_tm, same_tms}
 use Rattle.scasp_syntax.specs.View.{tm_of, tms_of}
 use Rattle.scasp_syntax.specs.declared.term.Term.{Term}
 
@@ -53,3 +55,18 @@ copied made ts xs n e all is = items_inj made ts (e ∙ ap (map tm_of) (take_all
 -- a slice of all terms of a list is that list
 pub tms_of-all : (xs : List Term) (ts : Tms) → map tm_of xs ≡ items ts → tms_of xs ≡ ts
 tms_of-all xs ts e = items_inj (tms_of xs) ts (items-tms_of xs ∙ e)
+
+pub all_under-listed : (s : Sub) (ts : Tms) → listed (map (under s) (items ts)) ≡ all_under s ts
+all_under-listed s nil = refl
+all_under-listed s (cons t ts) = ap (cons (under s t)) (all_under-listed s ts)
+
+-- lists of terms of other lengths differ
+pub same_tms-length : (ts us : Tms) → length (items ts) ≢ length (items us) → same_tms ts us ≡ false
+same_tms-length nil nil h = absurd (h refl)
+same_tms-length nil (cons u us) h = refl
+same_tms-length (cons t ts) nil h = refl
+same_tms-length (cons t ts) (cons u us) h = rw (same_tms-length ts us (λ e. h (ap suc e))) (and_false (same_tm t u))
+  where
+    and_false : (b : Bool) → (b && false) ≡ false
+    and_false true = refl
+    and_false false = refl

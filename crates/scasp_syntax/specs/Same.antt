@@ -1,6 +1,6 @@
 -- Tests of equality.
-use Rattle.std.specs.Prelude.{ℕ, Bool, true, false, ◌&&◌, not, nat_eq, length, List}
-use Rattle.std.specs.Int.{int_eq}
+use Rattle.std.specs.Prelude.{Bool, true, false, ◌&&◌, not, nat_eq}
+use Rattle.std.specs.Ordering.{int_eq}
 use Rattle.scasp_num.specs.Number.{Number}
 use Rattle.scasp_syntax.specs.Tm.{Tm, Tms, var, num, app, nil, cons}
 use Rattle.scasp_syntax.specs.declared.atom.Atom.{Atom}
@@ -25,6 +25,7 @@ abbrev mutual
   same_tm (app f ts) (var y) = false
   same_tm (app f ts) (num r) = false
   same_tm (app f ts) (app g us) = nat_eq f g && same_tms ts us
+
   pub same_tms : Tms → Tms → Bool
   same_tms nil nil = true
   same_tms nil (cons u us) = false

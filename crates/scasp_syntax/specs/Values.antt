@@ -12,6 +12,7 @@ abbrev mutual
   under s (var x) = s x
   under s (num q) = num q
   under s (app f ts) = app f (all_under s ts)
+
   pub all_under : Sub → Tms → Tms
   all_under s nil = nil
   all_under s (cons t ts) = cons (under s t) (all_under s ts)
@@ -26,6 +27,7 @@ abbrev mutual
   is_ground (var x) = false
   is_ground (num q) = true
   is_ground (app f ts) = are_ground ts
+
   pub are_ground : Tms → Bool
   are_ground nil = true
   are_ground (cons t ts) = is_ground t && are_ground ts

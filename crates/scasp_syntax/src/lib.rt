@@ -3,9 +3,9 @@
 
 mod atom;
 mod clause;
+mod con;
 mod copies;
 mod equality;
-mod con;
 mod hint;
 mod predicate_map;
 mod program;

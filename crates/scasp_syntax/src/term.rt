@@ -43,7 +43,7 @@ impl Model for Terms {
 
 impl Terms {
     ghost use Rattle.scasp_syntax.specs.Tm.{nil, items, weight, weight_s};
-    ghost use Rattle.scasp_syntax.specs.View.{tm_of};
+    ghost use Rattle.scasp_syntax.specs.View.{tm_of, tms_of};
     ghost use Rattle.std.specs.Prelude.{map, All, ◌≤◌};
 
     /// The empty list, which takes no memory.
@@ -71,6 +71,7 @@ impl Terms {
 
     /// All terms.
     pub fn as_slice(&self) -> &[Term]
+        ensures value { tms_of result.now ≡ self.now }
         ensures terms { map tm_of result.now ≡ items self.now }
         ensures lighter { All (λ t. weight (tm_of t) ≤ weight_s self.now) result.now }
     {

@@ -1,4 +1,3 @@
-use Rattle.std.proofs.Common.{◌≤◌}
 use Rattle.scasp_syntax.proofs.TermLemmas.{copied}
 use Rattle.scasp_syntax.proofs.copies.+copy_term.Goals as goal
 
