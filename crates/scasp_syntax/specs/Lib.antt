@@ -1,4 +1,5 @@
 pub mod Falls
+pub mod Programs
 pub mod Same
 pub mod Tm
 pub mod TmCode

@@ -31,3 +31,19 @@ pub type Atoms = Sequence<Atom>;
 
 /// A list of literals.
 pub type Lits = Sequence<Lit>;
+
+impl Atom {
+    ghost use Rattle.std.specs.Prelude.{◌≡◌};
+    ghost use Rattle.scasp_syntax.specs.Programs.{pred_of};
+
+    /// The atom's predicate.
+    pub fn pred(&self) -> Pred
+        ensures { result ≡ pred_of self.now }
+    {
+        Pred {
+            minus: self.minus,
+            name: self.name,
+            arity: self.args.len() as u64,
+        }
+    }
+}

@@ -1,9 +1,13 @@
 //! Copies.
 ghost use Rattle.std.specs.Prelude.{◌≡◌, IfOk};
-ghost use Rattle.scasp_syntax.specs.View.{tm_of};
 
+use crate::atom::{Atom, Lit};
+use crate::clause::{Clause, FlatItem, Item, Lin, Query};
+use crate::con::Con;
+use crate::program::Program;
+use crate::sequence::Sequence;
 use crate::term::{Term, Terms};
-use scasp_name::Memory;
+use scasp_name::{Memory, NameId};
 use std::alloc::Global;
 
 /// A copy of a term.
@@ -28,4 +32,136 @@ pub fn copy_terms(alloc: Global, terms: &Terms) -> Result<Terms, Memory>
         copied.push(copy(alloc, term)?)?;
     }
     Ok(copied)
+}
+
+/// A value of which copies are made with an allocator's memory.
+pub trait Duplicate {
+    /// A copy of the value.
+    fn duplicate(&self, alloc: Global) -> Result<Self, Memory>
+        ensures { IfOk result (λ copied. copied ≡ self.now) };
+}
+
+impl Duplicate for u64 {
+    fn duplicate(&self, _alloc: Global) -> Result<u64, Memory> {
+        Ok(*self)
+    }
+}
+
+impl Duplicate for Option<NameId> {
+    fn duplicate(&self, _alloc: Global) -> Result<Option<NameId>, Memory> {
+        Ok(*self)
+    }
+}
+
+impl Duplicate for Term {
+    fn duplicate(&self, alloc: Global) -> Result<Term, Memory> {
+        copy(alloc, self)
+    }
+}
+
+impl<T: Duplicate + Drop> Duplicate for Sequence<T> {
+    fn duplicate(&self, alloc: Global) -> Result<Sequence<T>, Memory> {
+        let mut copied = Sequence::new(alloc);
+        for item in self.as_slice() {
+            copied.push(item.duplicate(alloc)?)?;
+        }
+        Ok(copied)
+    }
+}
+
+impl Duplicate for Atom {
+    fn duplicate(&self, alloc: Global) -> Result<Atom, Memory> {
+        Ok(Atom {
+            minus: self.minus,
+            name: self.name,
+            args: copy_terms(alloc, &self.args)?,
+        })
+    }
+}
+
+impl Duplicate for Lit {
+    fn duplicate(&self, alloc: Global) -> Result<Lit, Memory> {
+        Ok(Lit {
+            positive: self.positive,
+            atom: self.atom.duplicate(alloc)?,
+        })
+    }
+}
+
+impl Duplicate for Con {
+    fn duplicate(&self, alloc: Global) -> Result<Con, Memory> {
+        match self {
+            Con::Eq(left, right) => Ok(Con::Eq(copy(alloc, left)?, copy(alloc, right)?)),
+            Con::Neq(left, right) => Ok(Con::Neq(copy(alloc, left)?, copy(alloc, right)?)),
+            Con::NotShape(x, name, arity) => Ok(Con::NotShape(*x, *name, *arity)),
+            Con::Num(term) => Ok(Con::Num(copy(alloc, term)?)),
+            Con::NotNum(term) => Ok(Con::NotNum(copy(alloc, term)?)),
+            Con::Row(row) => Ok(Con::Row(row.clone()?)),
+        }
+    }
+}
+
+impl Duplicate for Lin {
+    fn duplicate(&self, alloc: Global) -> Result<Lin, Memory> {
+        Ok(Lin {
+            vars: self.vars.duplicate(alloc)?,
+            row: self.row.clone()?,
+        })
+    }
+}
+
+impl Duplicate for Item {
+    fn duplicate(&self, alloc: Global) -> Result<Item, Memory> {
+        match self {
+            Item::Call(literal) => Ok(Item::Call(literal.duplicate(alloc)?)),
+            Item::Equal(left, right) => Ok(Item::Equal(copy(alloc, left)?, copy(alloc, right)?)),
+            Item::Differ(left, right) => Ok(Item::Differ(copy(alloc, left)?, copy(alloc, right)?)),
+            Item::Linear(linear) => Ok(Item::Linear(linear.duplicate(alloc)?)),
+        }
+    }
+}
+
+impl Duplicate for FlatItem {
+    fn duplicate(&self, alloc: Global) -> Result<FlatItem, Memory> {
+        match self {
+            FlatItem::Call(literal) => Ok(FlatItem::Call(literal.duplicate(alloc)?)),
+            FlatItem::Test(test) => Ok(FlatItem::Test(test.duplicate(alloc)?)),
+        }
+    }
+}
+
+impl Duplicate for Option<Atom> {
+    fn duplicate(&self, alloc: Global) -> Result<Option<Atom>, Memory> {
+        match self {
+            Some(atom) => Ok(Some(atom.duplicate(alloc)?)),
+            None => Ok(None),
+        }
+    }
+}
+
+impl Duplicate for Clause {
+    fn duplicate(&self, alloc: Global) -> Result<Clause, Memory> {
+        Ok(Clause {
+            head: self.head.duplicate(alloc)?,
+            body: self.body.duplicate(alloc)?,
+            vars: self.vars,
+        })
+    }
+}
+
+impl Duplicate for Query {
+    fn duplicate(&self, alloc: Global) -> Result<Query, Memory> {
+        Ok(Query {
+            body: self.body.duplicate(alloc)?,
+            names: self.names.duplicate(alloc)?,
+        })
+    }
+}
+
+impl Duplicate for Program {
+    fn duplicate(&self, alloc: Global) -> Result<Program, Memory> {
+        let clauses = self.clauses.duplicate(alloc)?;
+        let queries = self.queries.duplicate(alloc)?;
+        Ok(Program { clauses, queries })
+    }
 }

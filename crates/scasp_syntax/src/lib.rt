@@ -7,6 +7,7 @@ mod con;
 mod copies;
 mod equality;
 mod hint;
+pub mod laws;
 mod predicate_map;
 mod program;
 mod renaming;
@@ -19,7 +20,7 @@ pub use clause::{
     Clause, Clauses, FlatItem, FlatItems, Item, Items, Lin, Queries, Query, VarNames,
 };
 pub use con::{Con, ConLists, Cons};
-pub use copies::{copy, copy_terms};
+pub use copies::{Duplicate, copy, copy_terms};
 pub use equality::{same, same_atom, same_lit, same_term, same_terms};
 pub use hint::Hint;
 pub use predicate_map::{PredMap, PredMaps};

@@ -2,7 +2,7 @@
 ghost use Rattle.std.specs.Prelude.{IsTrue};
 ghost use Rattle.scasp_syntax.specs.WellFormed.{are_well_formed};
 
-use crate::clause::{Clauses, Queries};
+use crate::clause::{Clause, Clauses, Queries, Query};
 
 /// A program: its rules and denials, numbered from 1, and its queries, numbered from 1 by themselves.
 ///
@@ -14,4 +14,29 @@ pub struct Program {
     pub clauses: Clauses,
     pub queries: Queries,
     ghost well_formed: { IsTrue (are_well_formed clauses queries) },
+}
+
+impl Program {
+    ghost use Rattle.std.specs.Prelude.{◌≡◌, option_copied};
+    ghost use Rattle.scasp_syntax.specs.Programs.{numbered};
+
+    /// The clause of this number, counted from 1.
+    pub fn clause(&self, number: u64) -> Option<&Clause>
+        ensures { option_copied result ≡ numbered self.now.clauses number }
+    {
+        if number == 0 {
+            return None;
+        }
+        self.clauses.get((number - 1) as usize)
+    }
+
+    /// The query of this number, counted from 1.
+    pub fn query(&self, number: u64) -> Option<&Query>
+        ensures { option_copied result ≡ numbered self.now.queries number }
+    {
+        if number == 0 {
+            return None;
+        }
+        self.queries.get((number - 1) as usize)
+    }
 }
