@@ -38,5 +38,5 @@ certificate_of c = record {
   trees = trees_of c.trees;
   checks = checks_of c.checks;
   clashes = c.clashes;
-  map = c.map
+  map = c.map;
 }

@@ -10,14 +10,17 @@ abbrev mutual
   lines_of (loop_tree lit at) = 1
   lines_of (seen_tree lit at) = 1
   lines_of (test_tree con hint) = 1
+
   pub lines_below : Trees → ℕ
   lines_below no_tree = 0
   lines_below (tree t ts) = lines_of t + lines_below ts
+
   pub lines_at : Branch → ℕ
   lines_at (split con first second) = 1 + (lines_at first + lines_at second)
   lines_at (void hint) = 1
   lines_at (leaf item children) = 1 + lines_below children
   lines_at (head children) = 1 + lines_below children
+
   pub lines_in : Branches → ℕ
   lines_in no_branch = 0
   lines_in (branch rule b bs) = 1 + lines_at b + lines_in bs

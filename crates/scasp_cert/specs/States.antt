@@ -26,4 +26,4 @@ abbrev pub closed : List Tree → List Item → List Opened → State
 closed done (item ∷ items) above = record { level = record { done = done; todo = item ∷ items }; above = above }
 closed done [] [] = record { level = record { done = done; todo = [] }; above = [] }
 closed done [] (o ∷ above) =
-  closed (o.outer.done ++ pos_tree o.atom o.rule o.terms (listed done) ∷ []) o.outer.todo above
+    closed (o.outer.done ++ pos_tree o.atom o.rule o.terms (listed done) ∷ []) o.outer.todo above

@@ -13,14 +13,17 @@ mutual
     loop_tree : Lit → ℕ → Tree
     seen_tree : Lit → ℕ → Tree
     test_tree : Con → Hint → Tree
+
   pub data Trees : Type 0 where
     no_tree : Trees
     tree : Tree → Trees → Trees
+
   pub data Branch : Type 0 where
     split : Con → Branch → Branch → Branch
     void : Hint → Branch
     leaf : ℕ → Trees → Branch
     head : Trees → Branch
+
   pub data Branches : Type 0 where
     no_branch : Branches
     branch : ℕ → Branch → Branches → Branches

@@ -2,10 +2,12 @@
 #![tactic(auto)]
 
 mod certificate;
+mod copies;
 mod count;
 mod lists;
 mod tree;
 
 pub use certificate::{Cert, Check, Checks, Clash, Clashes};
+pub use copies::{copy_case, copy_node, copy_nodes};
 pub use count::lines;
 pub use tree::{Case, Cover, Covers, Node, Nodes};

@@ -21,13 +21,25 @@ pub enum Node {
         children: Nodes,
     },
     /// A negated literal; below it each rule of its predicate, with its cases.
-    Neg { atom: Atom, covers: Covers },
+    Neg {
+        atom: Atom,
+        covers: Covers,
+    },
     /// A literal that repeats its ancestor on line `at`.
-    Loop { lit: Lit, at: u64 },
+    Loop {
+        lit: Lit,
+        at: u64,
+    },
     /// A negated literal that repeats the earlier one on line `at`.
-    Seen { lit: Lit, at: u64 },
+    Seen {
+        lit: Lit,
+        at: u64,
+    },
     /// A constraint that the context entails, as the hint shows.
-    Test { con: Con, hint: Hint },
+    Test {
+        con: Con,
+        hint: Hint,
+    },
 }
 
 /// A list of nodes.
@@ -63,11 +75,18 @@ pub enum Case {
         second: Box<Case>,
     },
     /// A case that cannot arise, as the hint shows.
-    Void { hint: Hint },
+    Void {
+        hint: Hint,
+    },
     /// Items 1 to `item - 1` of the body are true, and item `item` is false.
-    Leaf { item: u64, children: Nodes },
+    Leaf {
+        item: u64,
+        children: Nodes,
+    },
     /// All items of the rule are true, and so is its head.
-    Head { children: Nodes },
+    Head {
+        children: Nodes,
+    },
 }
 
 impl Nodes {

@@ -6,6 +6,6 @@ use Rattle.scasp_cert.proofs.certificate.Checks.get.Goals as goal
 
 pub returns : goal.returns
 returns c =
-  ap (λ xs. slice_get xs c.args.i) (sym c.as_slice.ensures)
+    ap (λ xs. slice_get xs c.args.i) (sym c.as_slice.ensures)
     ∙ slice_get-map check_of c.as_slice.result.now c.args.i
     ∙ ap (option_map check_of) (sym c.item_at.ensures)

@@ -6,6 +6,6 @@ use Rattle.scasp_cert.proofs.tree.Nodes.get.Goals as goal
 
 pub returns : goal.returns
 returns c =
-  ap (λ xs. slice_get xs c.args.i) (sym c.as_slice.ensures)
+    ap (λ xs. slice_get xs c.args.i) (sym c.as_slice.ensures)
     ∙ slice_get-map tree_of c.as_slice.result.now c.args.i
     ∙ ap (option_map tree_of) (sym c.item_at.ensures)

@@ -1,0 +1,5 @@
+pub mod Successors
+pub mod Machine
+pub mod Run
+pub mod Laws
+pub mod Views

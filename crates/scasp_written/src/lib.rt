@@ -1,0 +1,5 @@
+//! The written search: rules in order, depth first, over whole copied states. It is plain for good: what other searches are compared with.
+#![tactic(auto)]
+
+mod position;
+mod successors;
