@@ -1,3 +1,4 @@
 pub mod Counts
 pub mod Bytes
 pub mod Lookup
+pub mod Behind
