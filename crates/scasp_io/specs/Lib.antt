@@ -1,4 +1,6 @@
 pub mod Counts
 pub mod Bytes
-pub mod Lookup
 pub mod Behind
+pub mod Calls
+pub mod Lookup
+pub mod MemoryFiles

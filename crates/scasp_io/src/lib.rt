@@ -4,10 +4,16 @@
 
 mod errors;
 mod lists;
+mod memory_files;
+mod memory_sink;
 mod outside;
+mod sure;
 mod whole;
 
 pub use errors::{Failed, Memory, ReadErr, SinkFault};
-pub use lists::{Bytes, CallList, MemFile, MemFileList};
+pub use lists::{Bytes, CallList, ItemList, MemFile, MemFileList};
+pub use memory_files::MemFiles;
+pub use memory_sink::MemSink;
 pub use outside::{Files, Sink};
+pub use sure::{SureFiles, SureSink, read_sure, write_sure};
 pub use whole::{read_file, write_all};
