@@ -8,6 +8,8 @@ mod memory_files;
 mod memory_sink;
 mod outside;
 mod sure;
+#[cfg(test)]
+mod tests;
 mod whole;
 
 pub use errors::{Failed, Memory, ReadErr, SinkFault};
