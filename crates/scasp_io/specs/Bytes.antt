@@ -1,5 +1,5 @@
 -- What a call gives or takes of bytes that an object tells. None: the object does not tell its bytes.
-use Rattle.std.specs.Prelude.{◌≡◌, ℕ, ◌≤◌, ◌<◌, List, ◌++◌, length, take, drop, Option, None, Some, IfSome}
+use Rattle.std.specs.Prelude.{◌≡◌, ℕ, ◌≤◌, ◌<◌, ◌-◌, min, List, ◌++◌, length, take, drop, Option, None, Some, IfSome}
 
 -- a count of bytes from `at` was read to the front of the buffer, and is 0 at the end of the bytes alone
 pub record Reads (all : List ℕ) (at : ℕ) (buffer : List ℕ) (count : ℕ) : Type 0 where
@@ -10,6 +10,11 @@ pub record Reads (all : List ℕ) (at : ℕ) (buffer : List ℕ) (count : ℕ) :
 -- the same of the bytes of a file, where they are told
 abbrev pub Fills : Option (List ℕ) → ℕ → List ℕ → ℕ → Type 0
 Fills told at buffer count = IfSome told (λ all. Reads all at buffer count)
+
+-- as many bytes were read as are there and as the buffer holds
+abbrev pub ReadsMost : Option (List ℕ) → ℕ → List ℕ → ℕ → Type 0
+ReadsMost told at buffer count =
+    IfSome told (λ all. count ≡ min (length all - at) (length buffer))
 
 -- what a sink holds once a piece stands behind what it held
 abbrev pub behind : Option (List ℕ) → List ℕ → Option (List ℕ)

@@ -1,9 +1,9 @@
-ghost use Rattle.std.specs.Prelude.{◌≡◌, ℕ, ◌<◌, ◌≤◌, ◌-◌, List, length, min, if◌then◌else◌, is_err, IfOk, OnErr, IfSome};
+ghost use Rattle.std.specs.Prelude.{◌≡◌, ℕ, ◌<◌, ◌≤◌, ◌-◌, List, length, min, is_err, IfOk, OnErr, IfSome};
 ghost use Rattle.std.specs.Option.{option_copied};
-ghost use Rattle.scasp_io.specs.Counts.{raised, Rose};
-ghost use Rattle.scasp_io.specs.Bytes.{Fills, Reads};
+ghost use Rattle.scasp_io.specs.Counts.{Rose};
+ghost use Rattle.scasp_io.specs.Bytes.{Fills, Reads, ReadsMost};
 ghost use Rattle.scasp_io.specs.Lookup.{bytes_of};
-ghost use Rattle.scasp_io.specs.MemoryFiles.{is_refused};
+ghost use Rattle.scasp_io.specs.MemoryFiles.{after_read, is_refused};
 
 use crate::errors::Failed;
 use crate::lists::{Bytes, CallList, MemFile, MemFileList};
@@ -14,8 +14,11 @@ use crate::outside::Files;
 #[derive(Debug, Drop)]
 pub struct MemFiles {
     pub files: MemFileList,
+    /// The numbers of the calls that fail.
     pub failing: CallList,
+    /// How many calls there were, at most 2^64 - 1.
     pub calls: u64,
+    /// How many of them failed, at most 2^64 - 1.
     pub faults: u64,
 }
 
@@ -41,9 +44,9 @@ impl Files for MemFiles {
     fn read(&mut self, name: &str, at: u64, buffer: &mut [u8]) -> Result<usize, Failed>
         ensures bound { IfOk result (λ count. count ≤ length buffer.new) }
         ensures fills { IfOk result (λ count. Fills (bytes_of self.old.files name.now) at buffer.new count) }
-        ensures most { IfOk result (λ count. IfSome (bytes_of self.old.files name.now) (λ all. count ≡ min (length all - at) (length buffer.new))) }
+        ensures most { IfOk result (λ count. ReadsMost (bytes_of self.old.files name.now) at buffer.new count) }
         ensures refused { is_err result ≡ is_refused self.old name.now }
-        ensures after { self.new ≡ record self.old { calls = raised self.old.calls; faults = (if is_err result then raised self.old.faults else self.old.faults) } }
+        ensures after { self.new ≡ after_read self.old (is_err result) }
         ensures cause { OnErr result (Rose self.old.faults self.new.faults) }
         ensures counts { self.old.faults ≤ self.new.faults }
     {

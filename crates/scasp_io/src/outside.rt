@@ -36,7 +36,7 @@ pub trait Sink {
     /// are not none, or it fails; after a failure nothing was taken.
     fn write(&mut self, bytes: &[u8]) -> Result<usize, Failed>
         ensures bound { IfOk result (λ count. count ≤ length bytes.now) }
-        ensures some { IfOk result (λ count. 0 < length bytes.now → 0 < count) }
+        ensures progress { IfOk result (λ count. 0 < length bytes.now → 0 < count) }
         ensures ok { IfOk result (λ count. taken self.new ≡ behind (taken self.old) (take count bytes.now)) }
         ensures err { OnErr result (taken self.new ≡ taken self.old) }
         ensures cause { OnErr result (Rose (faults self.old) (faults self.new)) }

@@ -1,4 +1,4 @@
-ghost use Rattle.std.specs.Prelude.{◌≡◌, ℕ, ◌<◌, ◌≤◌, List, length, Some, IfOk, OnOk, OnErr, IfSome, IsErrOf, vec_len};
+ghost use Rattle.std.specs.Prelude.{◌≡◌, ℕ, ◌<◌, ◌≤◌, List, length, Some, IfOk, OnOk, OnErr, IfSome, IsErrOf};
 ghost use Rattle.scasp_io.specs.Counts.{Rose};
 ghost use Rattle.scasp_io.specs.Bytes.{behind, TakesPrefix};
 
@@ -20,9 +20,11 @@ pub fn read_file<F: Files>(
     limit: u64,
 ) -> Result<Vec<u8>, ReadErr>
     ensures whole { IfOk result (λ all. IfSome (F.told files.old name.now) (λ told. all.items ≡ told)) }
-    ensures limit { IfOk result (λ all. vec_len all ≤ limit) }
-    ensures too_long { IsErrOf result ReadErr.TooLong → IfSome (F.told files.old name.now) (λ told. limit < length told) }
-    ensures fault { IsErrOf result ReadErr.Fault → Rose (F.faults files.old name.now) (F.faults files.new name.now) }
+    ensures limit { IfOk result (λ all. length all.items ≤ limit) }
+    ensures too_long { IsErrOf result ReadErr.TooLong
+        → IfSome (F.told files.old name.now) (λ told. limit < length told) }
+    ensures fault { IsErrOf result ReadErr.Fault
+        → Rose (F.faults files.old name.now) (F.faults files.new name.now) }
     ensures stays { (other : List ℕ) → F.told files.new other ≡ F.told files.old other }
     ensures counts { (other : List ℕ) → F.faults files.old other ≤ F.faults files.new other }
 {

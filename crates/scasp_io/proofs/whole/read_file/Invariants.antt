@@ -3,7 +3,8 @@ use Rattle.scasp_io.proofs.whole.read_file.Given as goal
 
 abbrev pub invariant-loop-chunk : goal.invariant-loop-chunk
 invariant-loop-chunk g l =
-    IfSome (g.F.Files.told l.fn.files l.name) (λ told. (l.all.items ≡ take (vec_len l.all) told) × (vec_len l.all ≤ length told))
+    IfSome (g.F.Files.told l.fn.files l.name)
+    (λ told. (l.all.items ≡ take (vec_len l.all) told) × (vec_len l.all ≤ length told))
     × ((other : List ℕ) → g.F.Files.told l.files other ≡ g.F.Files.told l.fn.files other)
     × ((other : List ℕ) → g.F.Files.faults l.fn.files other ≤ g.F.Files.faults l.files other)
 

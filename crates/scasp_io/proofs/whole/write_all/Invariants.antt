@@ -1,4 +1,4 @@
-use Rattle.std.proofs.Common.{◌≡◌, ℕ, ◌≤◌, ◌-◌, length, take}
+use Rattle.std.proofs.Common.{◌≡◌, ◌≤◌, ◌-◌, length, take}
 use Rattle.scasp_io.specs.Bytes.{behind}
 use Rattle.scasp_io.proofs.whole.write_all.Given as goal
 
