@@ -1,5 +1,5 @@
 -- How bytes spell tokens: the grammar of words, signs and blanks.
-use Rattle.std.specs.Prelude.{◌≡◌, ℕ, ◌+◌, IsTrue, List, [], ◌∷◌, ◌++◌, codes, if◌then◌else◌}
+use Rattle.std.specs.Prelude.{◌≡◌, ℕ, ◌+◌, ◌<◌, length, slice_get, IsTrue, List, [], ◌∷◌, ◌++◌, codes, if◌then◌else◌}
 use Rattle.std.specs.List.{list_all}
 use Rattle.std.specs.Str.{bytes_eq}
 use Rattle.scasp_name.specs.Texts.{with_text}
@@ -11,6 +11,10 @@ use Rattle.scasp_reader.specs.Bytes.{is_blank, is_name, ends_name}
 abbrev pub place_of : List (List ℕ) → List ℕ → ℕ
 place_of [] text = 0
 place_of (t ∷ names) text = if bytes_eq text t then 0 else place_of names text + 1
+
+-- each place of the old table has the same text in the new
+abbrev pub KeepsPlaces : List (List ℕ) → List (List ℕ) → Type 0
+KeepsPlaces old new = (place : ℕ) → place < length old → slice_get new place ≡ slice_get old place
 
 -- blanks, then the text, then a rest of which this holds
 abbrev pub Begins : List ℕ → List ℕ → (List ℕ → Type 0) → Type 0

@@ -1,5 +1,5 @@
 -- What is read from bytes: the grammar as a relation, and as a function.
-use Rattle.std.specs.Prelude.{◌≡◌, ℕ, Bool, true, false, List, [], ◌∷◌, ◌++◌, map, codes, Option, None, Some, option_map, option_and_then}
+use Rattle.std.specs.Prelude.{◌≡◌, ℕ, List, [], ◌∷◌, ◌++◌, map, codes, if◌then◌else◌, Option, None, Some, option_map, option_and_then}
 use Rattle.std.specs.List.{take_while}
 use Rattle.std.specs.Str.{bytes_eq}
 use Rattle.scasp_name.specs.Texts.{with_text}
@@ -68,7 +68,7 @@ lexed_at _ bytes.Comma names text rest = option_map (with_tokens (tokens.Comma �
 lexed_at _ bytes.Colon names text rest = rest behind_colon names
 lexed_at _ bytes.Question names text rest = rest behind_question names
 lexed_at _ bytes.Lower names text rest =
-    elim (bytes_eq text (codes "not")) [ true ↦ None | false ↦ option_map (with_tokens (tokens.Word (place_of names text) ∷ [])) (rest in_name (with_text names text)) ]
+    if bytes_eq text (codes "not") then None else option_map (with_tokens (tokens.Word (place_of names text) ∷ [])) (rest in_name (with_text names text))
 lexed_at _ _ names text rest = None
 
 -- the tokens of all the bytes

@@ -1,11 +1,11 @@
 //! Bytes as tokens.
-ghost use Rattle.std.specs.Prelude.{◌≡◌, ◌≢◌, ℕ, ◌<◌, ◌≤◌, true, false, codes, length, drop, IfOk, OnOk, IfErr, OnErr, slice_get, slice_index, option_map, option_to_list};
+ghost use Rattle.std.specs.Prelude.{◌≡◌, ◌≢◌, ◌<◌, ◌≤◌, true, false, codes, length, drop, IfOk, OnOk, IfErr, OnErr, slice_index, option_map, option_to_list};
 ghost use Rattle.std.specs.List.{prefix_len, take_while};
 ghost use Rattle.std.specs.Str.{bytes_eq};
 ghost use Rattle.scasp_name.specs.Texts.{with_text};
 ghost use Rattle.scasp_reader.specs.declared.token.Token.TheVariants as tokens;
 ghost use Rattle.scasp_reader.specs.Bytes.{is_name_byte};
-ghost use Rattle.scasp_reader.specs.Lexis.{place_of};
+ghost use Rattle.scasp_reader.specs.Lexis.{place_of, KeepsPlaces};
 ghost use Rattle.scasp_reader.specs.Reading.{lexed_in, with_tokens};
 ghost use Rattle.scasp_reader.specs.Refusal.{IsUnsupported};
 
@@ -20,7 +20,7 @@ use std::str;
 pub fn lex(alloc: Global, bytes: &[u8], names: &mut Names) -> Result<Vec<Token>, ReadError>
     ensures ok { IfOk result (λ tokens. lexed_in names.old bytes.now ≡ Some (record { tokens = tokens.items; names = names.new })) }
     ensures refused { IfErr result (IsUnsupported (lexed_in names.old bytes.now ≡ None)) }
-    ensures kept { (place : ℕ) → place < length names.old → slice_get names.new place ≡ slice_get names.old place }
+    ensures kept { KeepsPlaces names.old names.new }
 {
     let mut tokens = Vec::new(alloc);
     let mut rest = bytes;
@@ -41,7 +41,7 @@ fn token_at(bytes: &[u8], names: &mut Names) -> Result<(Option<Token>, usize), R
     ensures some { IfOk result (λ x. 0 < x.1) }
     ensures within { IfOk result (λ x. x.1 ≤ length bytes.now) }
     ensures refused { IfErr result (IsUnsupported (lexed_in names.old bytes.now ≡ None)) }
-    ensures kept { (place : ℕ) → place < length names.old → slice_get names.new place ≡ slice_get names.old place }
+    ensures kept { KeepsPlaces names.old names.new }
 {
     match Class::of(bytes[0]) {
         Class::Blank => Ok((None, 1)),
@@ -74,7 +74,7 @@ fn word(bytes: &[u8], names: &mut Names) -> Result<(Option<Token>, usize), ReadE
     ensures gained { OnOk result (names.new ≡ with_text names.old (take_while is_name_byte bytes.now)) }
     ensures no_sign { OnOk result (bytes_eq (take_while is_name_byte bytes.now) (codes "not") ≡ false) }
     ensures refused { IfErr result (IsUnsupported (bytes_eq (take_while is_name_byte bytes.now) (codes "not") ≡ true)) }
-    ensures kept { (place : ℕ) → place < length names.old → slice_get names.new place ≡ slice_get names.old place }
+    ensures kept { KeepsPlaces names.old names.new }
 {
     let len = name_len(bytes);
     let text = &bytes[..len];
@@ -102,7 +102,7 @@ fn name_len(bytes: &[u8]) -> usize
 fn intern(names: &mut Names, text: &str) -> Result<NameId, Memory>
     ensures place { IfOk result (λ id. id ≡ place_of names.old text.now) }
     ensures gained { OnOk result (names.new ≡ with_text names.old text.now) }
-    ensures kept { (place : ℕ) → place < length names.old → slice_get names.new place ≡ slice_get names.old place }
+    ensures kept { KeepsPlaces names.old names.new }
     ensures err { OnErr result (names.new ≡ names.old) }
 {
     let id = names.intern(text)?;

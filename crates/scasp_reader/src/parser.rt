@@ -51,13 +51,13 @@ fn body(alloc: Global, tokens: &[Token]) -> Result<(Items, usize), ReadError>
     ensures refused { IfErr result (IsUnsupported (goals_at tokens.now ≡ None)) }
 {
     let mut items = Items::new(alloc);
-    let mut rest = tokens;
-    while let [Token::Word(name), sign, behind @ ..] = rest {
+    let mut read = 0;
+    while let [Token::Word(name), sign, ..] = &tokens[read..] {
         items.push(call(alloc, *name))?;
-        rest = behind;
+        read += 2;
         match sign {
             Token::Comma => {}
-            Token::Dot => return Ok((items, tokens.len() - rest.len())),
+            Token::Dot => return Ok((items, read)),
             _ => return Err(UNSUPPORTED),
         }
     }

@@ -1,5 +1,6 @@
 //! Reading a program.
-ghost use Rattle.std.specs.Prelude.{◌≡◌, ℕ, ◌<◌, ◌≤◌, length, IfOk, IfErr, OnOk, Some, slice_get};
+ghost use Rattle.std.specs.Prelude.{◌≡◌, ◌≤◌, length, IfOk, IfErr, OnOk};
+ghost use Rattle.scasp_reader.specs.Lexis.{KeepsPlaces};
 ghost use Rattle.scasp_reader.specs.Reading.{program_in};
 ghost use Rattle.scasp_reader.specs.Refusal.{IsCause};
 
@@ -26,8 +27,7 @@ pub fn read_program(
     ensures ok { IfOk result (λ program. program_in names.old bytes.now
         ≡ Some (record { clauses = program.clauses; queries = program.queries; names = names.new })) }
     ensures refused { IfErr result (IsCause names.old bytes.now) }
-    ensures kept { (place : ℕ) → place < length names.old
-        → slice_get names.new place ≡ slice_get names.old place }
+    ensures kept { KeepsPlaces names.old names.new }
 {
     if bytes.len() > BYTE_LIMIT {
         return Err(ReadError::At {
