@@ -2,3 +2,4 @@ pub mod Places
 pub mod Classes
 pub mod Refusals
 pub mod Lexing
+pub mod Parsing
