@@ -1,5 +1,5 @@
 -- The tokens of bytes, by what stands at their front.
-use Rattle.std.proofs.Common.{◌≡◌, ℕ, ◌<◌, Bool, true, false, List, [], ◌∷◌, length, get_or, drop, codes, Option, None, Some, Result, Ok, Err, IfOk, IfErr, OnOk, option_to_list, refl, sym, ap, ◌∙◌, subst, arith}
+use Rattle.std.proofs.Common.{◌≡◌, ℕ, ◌<◌, Bool, true, false, List, [], ◌∷◌, ◌++◌, append_assoc, length, get_or, drop, codes, Option, None, Some, Result, Ok, Err, IfOk, IfErr, OnOk, option_to_list, refl, sym, ap, ◌∙◌, subst, arith}
 use Rattle.std.specs.Option.{option_map}
 use Rattle.std.specs.List.{take_while}
 use Rattle.std.specs.Str.{bytes_eq}
@@ -130,3 +130,10 @@ front-ascii (b ∷ bs) = by (is_name_byte b) refl (front-ascii bs)
     by : (t : Bool) → is_name_byte b ≡ t → IsAscii (front bs) → IsAscii (front (b ∷ bs))
     by true e h = let P : List ℕ → Type 0 = λ x. IsAscii x in subst P (sym (front-in b bs e)) (IsAscii-cons b (front bs) (name_byte-below b e) h)
     by false e h = let P : List ℕ → Type 0 = λ x. IsAscii x in subst P (sym (front-out b bs e)) IsAscii-nil
+
+-- one more token, or none, in front of those that are left
+pub lexed-more : (tokens : List Token) (token : Option Token) (before after whole : Option Lexed) → before ≡ option_map (with_tokens (option_to_list token)) after → option_map (with_tokens tokens) before ≡ whole
+    → option_map (with_tokens (tokens ++ option_to_list token)) after ≡ whole
+lexed-more tokens token before None whole e h = sym (ap (option_map (with_tokens tokens)) e) ∙ h
+lexed-more tokens token before (Some x) whole e h =
+    ap (λ t. Some (record { tokens = t; names = x.names })) (append_assoc tokens (option_to_list token) x.tokens) ∙ sym (ap (option_map (with_tokens tokens)) e) ∙ h

@@ -4,7 +4,8 @@ use Rattle.std.specs.Str.{bytes_eq}
 use Rattle.std.proofs.lemmas.Slice.Eq.{bytes_eq-Decides}
 use Rattle.scasp_name.specs.Texts.{has_text, with_text, AreDistinct}
 use Rattle.scasp_name.proofs.TextLemmas.{has_text-at}
-use Rattle.scasp_reader.specs.Lexis.{place_of}
+use Rattle.scasp_reader.specs.Lexis.{place_of, KeepsPlaces}
+use Rattle.std.proofs.lemmas.Option.{slice_get-get_or, slice_get_within}
 
 bytes_eq-self : (text : List ℕ) → bytes_eq text text ≡ true
 bytes_eq-self text = (bytes_eq-Decides text text).1 refl
@@ -37,3 +38,8 @@ place_of-with_text names text = by (has_text names text) refl
     by : (b : Bool) → has_text names text ≡ b → place_of (with_text names text) text ≡ place_of names text
     by true q = rw q refl
     by false q = rw q (place_of-push names text q)
+
+pub KeepsPlaces-trans : (first second third : List (List ℕ)) → KeepsPlaces first second → KeepsPlaces second third → KeepsPlaces first third
+KeepsPlaces-trans first second third h g i below =
+    let at = h i below ∙ slice_get-get_or first i [] below in
+    g i (slice_get_within second i _ at) ∙ h i below

@@ -41,7 +41,15 @@ pub record GoalsAt : Type 0 where
   pub goals : Goals
   pub rest : List Token
 
+abbrev pub with_goal_at : ℕ → GoalsAt → GoalsAt
+with_goal_at name at = record { goals = with_goal name at.goals; rest = at.rest }
+
 abbrev pub goals_at : List Token → Option GoalsAt
 goals_at (Word name ∷ Dot ∷ tokens) = Some (record { goals = one_goal name; rest = tokens })
-goals_at (Word name ∷ Comma ∷ tokens) = option_map (λ at. record { goals = with_goal name at.goals; rest = at.rest }) (goals_at tokens)
+goals_at (Word name ∷ Comma ∷ tokens) = option_map (with_goal_at name) (goals_at tokens)
 goals_at _ = None
+
+-- the name of a token that is one
+abbrev pub word_of : Token → Option ℕ
+word_of (Word name) = Some name
+word_of _ = None

@@ -14,7 +14,7 @@ use Rattle.scasp_reader.specs.Bytes.{class_of, is_name_byte}
 use Rattle.scasp_reader.specs.Source.{Source}
 use Rattle.scasp_reader.specs.Spelling.{tokens_of}
 use Rattle.scasp_reader.specs.Lexis.{place_of, Lexes}
-use Rattle.scasp_reader.specs.Parse.{GoalsAt, source_in}
+use Rattle.scasp_reader.specs.Parse.{GoalsAt, goals_at, source_in}
 use Rattle.scasp_reader.specs.Meaning.{items_of, clause_of, query_of}
 
 -- what reading gives: a program, and the table of names behind it
@@ -30,6 +30,12 @@ lists_of source = (map clause_of source.rules, query_of source.query ∷ [])
 -- the items of the goals at the front of tokens, and the tokens behind them
 abbrev pub items_at : GoalsAt → List Item × List Token
 items_at at = (items_of at.goals, at.rest)
+
+-- the items of what stands behind the head of a rule, and the tokens behind that
+abbrev pub rule_body_at : List Token → Option (List Item × List Token)
+rule_body_at (tokens.Dot ∷ rest) = Some ([], rest)
+rule_body_at (tokens.If ∷ rest) = option_map items_at (goals_at rest)
+rule_body_at _ = None
 
 abbrev pub reading_of : Source → List (List ℕ) → Reading
 reading_of source names = record { clauses = map clause_of source.rules; queries = query_of source.query ∷ []; names = names }

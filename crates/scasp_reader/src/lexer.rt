@@ -29,7 +29,8 @@ pub fn lex(alloc: Global, bytes: &[u8], names: &mut Names) -> Result<Vec<Token>,
         if let Some(token) = token {
             tokens.push(token)?;
         }
-        rest = &rest[len..];
+        let (_, behind) = rest.split_at(len);
+        rest = behind;
     }
     Ok(tokens)
 }

@@ -1,10 +1,11 @@
 //! Tokens as a program.
-ghost use Rattle.std.specs.Prelude.{◌≡◌, ◌≤◌, [], ◌∷◌, length, drop, map, IsTrue, IfOk, IfErr, option_map};
+ghost use Rattle.std.specs.Prelude.{◌≡◌, ◌≤◌, [], ◌∷◌, length, drop, map, IsTrue, IfOk, IfErr, option_map, slice_get};
 ghost use Rattle.std.specs.List.{list_all};
+ghost use Rattle.std.specs.Option.{option_and_then};
 ghost use Rattle.scasp_syntax.specs.WellFormed.{is_clause_well_formed, is_item_below};
-ghost use Rattle.scasp_reader.specs.Meaning.{atom_of, call_of, clause_from, query_from};
-ghost use Rattle.scasp_reader.specs.Parse.{goals_at, source_in};
-ghost use Rattle.scasp_reader.specs.Reading.{items_at, lists_of};
+ghost use Rattle.scasp_reader.specs.Meaning.{atom_of, call_of, clause_from, query_from, query_of};
+ghost use Rattle.scasp_reader.specs.Parse.{goals_at, goals_in, source_in, word_of};
+ghost use Rattle.scasp_reader.specs.Reading.{items_at, lists_of, rule_body_at};
 ghost use Rattle.scasp_reader.specs.Refusal.{IsUnsupported};
 
 use crate::error::{ReadError, UNSUPPORTED};
@@ -19,49 +20,97 @@ pub fn parse(alloc: Global, tokens: &[Token]) -> Result<Program, ReadError>
     ensures refused { IfErr result (IsUnsupported (source_in tokens.now ≡ None)) }
 {
     let mut clauses = Clauses::new(alloc);
-    let mut rest = tokens;
-    loop {
-        match rest {
-            [Token::Word(head), Token::Dot, behind @ ..] => {
-                clauses.push(clause(alloc, *head, Items::new(alloc)))?;
-                rest = behind;
+    let mut place = 0;
+    while let Some(first) = token(tokens, place) {
+        match first {
+            Token::Word(head) => {
+                let (body, behind) = rule_body(alloc, tokens, place + 1)?;
+                clauses.push(clause(alloc, head, body))?;
+                place = behind;
             }
-            [Token::Word(head), Token::If, behind @ ..] => {
-                let (items, len) = body(alloc, behind)?;
-                clauses.push(clause(alloc, *head, items))?;
-                rest = &behind[len..];
-            }
-            [Token::Query, behind @ ..] => {
-                let (items, len) = body(alloc, behind)?;
-                if len < behind.len() {
-                    return Err(UNSUPPORTED);
-                }
-                return Ok(finish(alloc, clauses, items)?);
-            }
-            _ => return Err(UNSUPPORTED),
+            Token::Query => return query(alloc, clauses, tokens, place + 1),
+            Token::Dot | Token::Comma | Token::If => return Err(UNSUPPORTED),
         }
+    }
+    Err(UNSUPPORTED)
+}
+
+/// The token at the place.
+fn token(tokens: &[Token], place: usize) -> Option<Token>
+    ensures { result ≡ slice_get tokens.now place }
+{
+    tokens.get(place).copied()
+}
+
+/// What stands behind the head of a rule: its stop, or `:-` and goals; and the place behind that.
+fn rule_body(alloc: Global, tokens: &[Token], place: usize) -> Result<(Items, usize), ReadError>
+    requires { place ≤ length tokens.now }
+    ensures ok { IfOk result (λ x. rule_body_at (drop place tokens.now) ≡ Some (x.0, drop x.1 tokens.now)) }
+    ensures behind { IfOk result (λ x. place ≤ x.1) }
+    ensures within { IfOk result (λ x. x.1 ≤ length tokens.now) }
+    ensures plain { IfOk result (λ x. IsTrue (list_all (is_item_below 0) x.0)) }
+    ensures refused { IfErr result (IsUnsupported (rule_body_at (drop place tokens.now) ≡ None)) }
+{
+    let Some(sign) = token(tokens, place) else {
+        return Err(UNSUPPORTED);
+    };
+    match sign {
+        Token::Dot => Ok((Items::new(alloc), place + 1)),
+        Token::If => goals(alloc, tokens, place + 1),
+        _ => Err(UNSUPPORTED),
     }
 }
 
-/// The items `name, .., name.` at the front, and their number of tokens.
-fn body(alloc: Global, tokens: &[Token]) -> Result<(Items, usize), ReadError>
-    ensures ok { IfOk result (λ x. option_map items_at (goals_at tokens.now) ≡ Some (x.0, drop x.1 tokens.now)) }
+/// The goals `name, .., name.`, and the place behind their stop.
+fn goals(alloc: Global, tokens: &[Token], start: usize) -> Result<(Items, usize), ReadError>
+    requires { start ≤ length tokens.now }
+    ensures ok { IfOk result (λ x. option_map items_at (goals_at (drop start tokens.now)) ≡ Some (x.0, drop x.1 tokens.now)) }
+    ensures behind { IfOk result (λ x. start ≤ x.1) }
     ensures within { IfOk result (λ x. x.1 ≤ length tokens.now) }
     ensures plain { IfOk result (λ x. IsTrue (list_all (is_item_below 0) x.0)) }
-    ensures refused { IfErr result (IsUnsupported (goals_at tokens.now ≡ None)) }
+    ensures refused { IfErr result (IsUnsupported (option_map items_at (goals_at (drop start tokens.now)) ≡ None)) }
 {
     let mut items = Items::new(alloc);
-    let mut read = 0;
-    while let [Token::Word(name), sign, ..] = &tokens[read..] {
-        items.push(call(alloc, *name))?;
-        read += 2;
+    let mut place = start;
+    while let Some(sign) = token(tokens, place + 1) {
+        let Some(name) = word(tokens, place) else {
+            return Err(UNSUPPORTED);
+        };
+        items.push(call(alloc, name))?;
+        place += 2;
         match sign {
             Token::Comma => {}
-            Token::Dot => return Ok((items, read)),
+            Token::Dot => return Ok((items, place)),
             _ => return Err(UNSUPPORTED),
         }
     }
     Err(UNSUPPORTED)
+}
+
+/// The name at the place, where one stands there.
+fn word(tokens: &[Token], place: usize) -> Option<NameId>
+    ensures { result ≡ option_and_then word_of (slice_get tokens.now place) }
+{
+    match token(tokens, place)? {
+        Token::Word(name) => Some(name),
+        Token::Dot | Token::Comma | Token::If | Token::Query => None,
+    }
+}
+
+/// The program of the clauses, with the query of the goals that are the rest of the tokens.
+fn query(alloc: Global, clauses: Clauses, tokens: &[Token], place: usize) -> Result<Program, ReadError>
+    requires start { place ≤ length tokens.now }
+    requires rules { IsTrue (list_all is_clause_well_formed clauses) }
+    ensures clauses { IfOk result (λ program. program.clauses ≡ clauses) }
+    ensures queries { IfOk result (λ program. option_map (λ goals. query_of goals ∷ []) (goals_in (drop place tokens.now)) ≡ Some program.queries) }
+    ensures refused { IfErr result (IsUnsupported (goals_in (drop place tokens.now) ≡ None)) }
+{
+    let (items, behind) = goals(alloc, tokens, place)?;
+    if behind < tokens.len() {
+        return Err(UNSUPPORTED);
+    }
+    let program = finish(alloc, clauses, items)?;
+    Ok(program)
 }
 
 /// The program of the clauses, with the query of the items.
