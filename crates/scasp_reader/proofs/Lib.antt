@@ -3,3 +3,4 @@ pub mod Classes
 pub mod Refusals
 pub mod Lexing
 pub mod Parsing
+pub mod Ruling

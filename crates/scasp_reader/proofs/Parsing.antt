@@ -1,5 +1,7 @@
 -- Goals at the front of tokens that are still to be read.
-use Rattle.std.proofs.Common.{◌≡◌, ◌≢◌, ℕ, zero, suc, ◌+◌, List, [], ◌∷◌, ◌++◌, drop, get_or, slice_get, Option, None, Some, refl, sym, ap, ◌∙◌, append_assoc, arith}
+use Rattle.std.proofs.Common.{◌≡◌, ◌≢◌, ℕ, zero, suc, ◌+◌, List, [], ◌∷◌, ◌++◌, drop, get_or, slice_get, Option, None, Some, refl, sym, ap, ◌∙◌, append_assoc, arith, Bool, true, ◌&&◌, IsTrue}
+use Rattle.std.specs.List.{list_all}
+use Rattle.std.proofs.lemmas.List.Folds.{list_all-append}
 use Rattle.std.specs.Option.{option_map, option_and_then}
 use Rattle.std.proofs.lemmas.List.{drop_more, drop_all}
 use Rattle.std.proofs.lemmas.Option.{slice_get_within, slice_get-get_or}
@@ -95,3 +97,6 @@ module _ (ts : List Token) (place : ℕ) (items : List Item) (whole : Option (Li
 
       pub goals-more : sign ≡ Comma → more_items (items ++ call_of name ∷ []) (drop (place + 2) ts) ≡ whole
       goals-more e = comma items name (goals_at (drop (place + 2) ts)) ∙ sym (ap (λ s. more_items items (Word name ∷ s ∷ drop (place + 2) ts)) e) ∙ front
+
+pub list_all-push : {X : Type 0} (p : X → Bool) (xs : List X) (x : X) → IsTrue (list_all p xs) → IsTrue (p x) → IsTrue (list_all p (xs ++ x ∷ []))
+list_all-push p xs x h g = list_all-append p xs (x ∷ []) ∙ rw (h, g) refl

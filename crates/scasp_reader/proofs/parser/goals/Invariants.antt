@@ -7,9 +7,9 @@ use Rattle.scasp_reader.specs.Reading.{items_at}
 use Rattle.scasp_reader.proofs.Parsing.{more_items}
 use Rattle.scasp_reader.proofs.parser.goals.Given as goal
 
-abbrev pub invariant-loop-place : goal.invariant-loop-place
-invariant-loop-place l =
+abbrev pub invariant-loop-sign : goal.invariant-loop-sign
+invariant-loop-sign l =
     (l.start ≤ l.place) × (l.place ≤ length l.tokens) × (more_items l.items (drop l.place l.tokens) ≡ option_map items_at (goals_at (drop l.start l.tokens))) × IsTrue (list_all (is_item_below 0) l.items)
 
-abbrev pub decreases-loop-place : goal.decreases-loop-place
-decreases-loop-place l = length l.tokens - l.place
+abbrev pub decreases-loop-sign : goal.decreases-loop-sign
+decreases-loop-sign l = length l.tokens - l.place
