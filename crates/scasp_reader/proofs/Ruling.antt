@@ -1,10 +1,12 @@
 -- Rules in front of tokens that are still to be read.
-use Rattle.std.proofs.Common.{◌≡◌, ◌≢◌, ℕ, ◌+◌, List, [], ◌∷◌, ◌++◌, map, drop, slice_get, Option, None, Some, refl, sym, ap, ◌∙◌, append_assoc, append-nil, arith}
+use Rattle.std.proofs.Common.{◌≡◌, ◌≢◌, ℕ, ◌+◌, List, [], ◌∷◌, ◌++◌, map, drop, slice_get, Option, None, Some, refl, sym, ap, ◌∙◌, append_assoc, append-nil, Result, Ok, Err, IfOk, ◌⊎◌}
 use Rattle.std.specs.Option.{option_map, option_and_then}
 use Rattle.std.proofs.lemmas.Option.{some_pair_parts}
 use Rattle.scasp_syntax.specs.declared.clause.Clause.{Clause}
 use Rattle.scasp_syntax.specs.declared.clause.Item.{Item}
 use Rattle.scasp_syntax.specs.declared.clause.Query.{Query}
+use Rattle.scasp_syntax.specs.declared.program.Program.{Program}
+use Rattle.scasp_reader.specs.declared.error.ReadError.{ReadError}
 use Rattle.scasp_reader.specs.declared.token.Token.{Token}
 use Rattle.scasp_reader.specs.declared.token.Token.TheVariants as tokens
 use Rattle.scasp_reader.specs.Meaning.{call_of, items_of, clause_from, clause_of, query_of, query_from}
@@ -124,3 +126,54 @@ rule-none head (tokens.If ∷ ts) e = ap (option_map (λ x. with_rule (rule head
     by : (o : Option GoalsAt) → option_map items_at o ≡ None → option_and_then source_at o ≡ None
     by None p = refl
     by (Some at) p = cc
+
+pub rule_body-none : (t : Token) (rest : List Token) → t ≢ tokens.Dot → t ≢ tokens.If → rule_body_at (t ∷ rest) ≡ None
+rule_body-none (tokens.Word x) rest f g = refl
+rule_body-none tokens.Comma rest f g = refl
+rule_body-none tokens.Query rest f g = refl
+rule_body-none tokens.Dot rest f g = absurd (f refl)
+rule_body-none tokens.If rest f g = absurd (g refl)
+
+pub lists-none : (ts : List Token) → option_map lists_of (source_in ts) ≡ None → source_in ts ≡ None
+lists-none ts e = by (source_in ts) e
+  where
+    by : (o : Option Source) → option_map lists_of o ≡ None → o ≡ None
+    by None p = refl
+    by (Some s) p = cc
+
+query-at : (clauses : List Clause) (queries : List Query) (o : Option Goals) → option_map (λ goals. query_of goals ∷ []) o ≡ Some queries
+    → option_map (behind_clauses clauses) (option_map lists_of (option_map (λ goals. record { rules = []; query = goals }) o)) ≡ Some (clauses, queries)
+query-at clauses queries None e = cc
+query-at clauses queries (Some goals) e =
+    let same : (query_of goals ∷ []) ≡ queries = cc in
+    ap (λ c. Some (c, query_of goals ∷ [])) (append-nil clauses) ∙ ap (λ q. Some (clauses, q)) same
+
+module _ (ts : List Token) (place : ℕ) (clauses : List Clause) (all : Option (List Clause × List Query)) (known : more_clauses clauses (drop place ts) ≡ all) where
+  at_front : (t : Token) → slice_get ts place ≡ Some t → more_clauses clauses (t ∷ drop (place + 1) ts) ≡ all
+  at_front t e = sym (ap (more_clauses clauses) (drop-at ts place t e)) ∙ known
+
+  pub rules-more : (head : ℕ) (body : List Item) (behind : ℕ) → slice_get ts place ≡ Some (tokens.Word head) → rule_body_at (drop (place + 1) ts) ≡ Some (body, drop behind ts)
+      → more_clauses (clauses ++ clause_from head body ∷ []) (drop behind ts) ≡ all
+  rules-more head body behind e h = rule-at head clauses (drop (place + 1) ts) body (drop behind ts) h ∙ at_front (tokens.Word head) e
+
+  pub rules-no_body : (head : ℕ) → slice_get ts place ≡ Some (tokens.Word head) → rule_body_at (drop (place + 1) ts) ≡ None → all ≡ None
+  rules-no_body head e h = sym (at_front (tokens.Word head) e) ∙ ap (λ o. option_map (behind_clauses clauses) (option_map lists_of o)) (rule-none head (drop (place + 1) ts) h)
+
+  pub rules-query : (queries : List Query) → slice_get ts place ≡ Some tokens.Query → option_map (λ goals. query_of goals ∷ []) (goals_in (drop (place + 1) ts)) ≡ Some queries → all ≡ Some (clauses, queries)
+  rules-query queries e h = sym (at_front tokens.Query e) ∙ query-at clauses queries (goals_in (drop (place + 1) ts)) h
+
+  pub rules-no_query : slice_get ts place ≡ Some tokens.Query → goals_in (drop (place + 1) ts) ≡ None → all ≡ None
+  rules-no_query e h =
+      sym (at_front tokens.Query e) ∙ ap (λ o. option_map (behind_clauses clauses) (option_map lists_of (option_map (λ goals. record { rules = []; query = goals }) o))) h
+
+  pub rules-sign : (t : Token) → slice_get ts place ≡ Some t → ((t ≡ tokens.Dot) ⊎ (t ≡ tokens.Comma) ⊎ (t ≡ tokens.If)) → all ≡ None
+  rules-sign t e h = ?
+
+  pub rules-end : slice_get ts place ≡ None → all ≡ None
+  rules-end e = sym known ∙ ap (more_clauses clauses) (drop-none ts place e)
+
+-- what the query's part of the tokens gives is what all of them give
+pub read-query : (clauses : List Clause) (all : Option (List Clause × List Query)) (o : Option (List Query)) (r : Result Program ReadError) → ((queries : List Query) → o ≡ Some queries → all ≡ Some (clauses, queries))
+    → IfOk r (λ p. p.clauses ≡ clauses) → IfOk r (λ p. o ≡ Some p.queries) → IfOk r (λ p. all ≡ Some (p.clauses, p.queries))
+read-query clauses all o (Err e) f h g = tt
+read-query clauses all o (Ok p) f h g = f p.queries g ∙ ap (λ c. Some (c, p.queries)) (sym h)
