@@ -1,0 +1,6 @@
+pub mod Places
+pub mod Classes
+pub mod Refusals
+pub mod Lexing
+pub mod Parsing
+pub mod Ruling
