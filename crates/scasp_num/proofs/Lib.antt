@@ -1,1 +1,3 @@
 pub mod Gcds
+pub mod Integers
+pub mod Numbers

@@ -1,6 +1,7 @@
 //! Exact rational numbers of 128 bits, and linear comparisons over them in normal form.
 #![tactic(auto)]
 
+mod bounded;
 pub mod hints;
 pub mod linear;
 pub mod rational;

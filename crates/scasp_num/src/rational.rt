@@ -1,11 +1,15 @@
 //! Rational numbers whose numerator and denominator lie within -M..M, where M is 2^127 - 1.
-ghost use Rattle.std.specs.Prelude.{◌≡◌, ℕ, ◌≢◌, ◌↔◌, pos, IsTrue, IfOk, is_ok, unsigned_abs};
+ghost use Rattle.std.specs.Prelude.{◌<◌, ◌≡◌, ℕ, ◌≢◌, ◌↔◌, pos, IsTrue, IfOk, is_ok, unsigned_abs, int_div};
 ghost use Rattle.scasp_num.specs.Gcd.{gcd};
 ghost use Rattle.std.specs.Int.{IsGcd};
-ghost use Rattle.scasp_num.specs.Number.{IsReduced, IsReduced-prop};
+ghost use Rattle.std.specs.Result.{result_ok};
+ghost use Rattle.scasp_num.specs.Arithmetic.{lowest, number, sum_of, difference_of, product_of, quotient_of, negation_of};
+ghost use Rattle.scasp_num.specs.Number.{IsReduced, IsReduced-prop, IsFraction, InRange};
 
 use std::marker::Model;
 use thiserror::Error;
+
+use crate::bounded::{product, quotient, signed, sum};
 
 /// An integer of a stated formula lies outside -M..M.
 #[derive(Clone, Copy, Debug, PartialEq, Eq, Error)]
@@ -16,6 +20,8 @@ pub struct Overflow;
 pub fn gcd(a: u128, b: u128) -> u128
     ensures value { result ≡ gcd a b }
     ensures greatest { IsGcd a b result }
+    ensures first_above { 0 < a → 0 < result }
+    ensures second_above { 0 < b → 0 < result }
 {
     let mut x = a;
     let mut y = b;
@@ -50,16 +56,126 @@ impl Model for Rat {
 }
 
 impl Rat {
+    /// The size of the numerator.
+    fn size(&self) -> u128
+        ensures { result ≡ unsigned_abs self.now.num }
+    {
+        self.num.unsigned_abs()
+    }
+
+    /// The denominator, as an unsigned number.
+    fn parts(&self) -> u128
+        ensures value { result ≡ unsigned_abs self.now.den }
+        ensures above { 0 < result }
+    {
+        self.den.unsigned_abs()
+    }
+
+    /// The numerator divided by a number above 0, rounded toward 0.
+    fn num_over(&self, by: u128) -> i128
+        requires { 0 < by }
+        ensures value { result ≡ int_div self.now.num (pos by) }
+        ensures range { InRange result }
+    {
+        quotient(self.num, by)
+    }
+
+    /// The denominator divided by a number above 0, rounded toward 0.
+    fn den_over(&self, by: u128) -> i128
+        requires { 0 < by }
+        ensures value { result ≡ int_div self.now.den (pos by) }
+        ensures range { InRange result }
+    {
+        quotient(self.den, by)
+    }
+
+    fn from_parts(num: i128, den: i128) -> Self
+        requires reduced { IsReduced num den }
+        requires range { InRange num × InRange den }
+        ensures { Some result ≡ number num den }
+    {
+        Rat { num, den }
+    }
+
+    /// The fraction `n`/`d`. Overflow exactly where an integer of its lowest terms lies outside -M..M.
+    #[tactic(auto, using(crate::proofs::Numbers::plain), unfolding(crate::specs::Arithmetic::lowest))]
+    pub fn new(n: i128, d: i128) -> Result<Self, Overflow>
+        requires { d ≢ pos 0 }
+        ensures value { result_ok result ≡ lowest n d }
+        ensures exact { IfOk result (λ q. IsFraction q n d) }
+    {
+        let size = n.unsigned_abs();
+        let parts = d.unsigned_abs();
+        let g = gcd(size, parts);
+        let num = signed((n < 0) != (d < 0), size / g)?;
+        let den = signed(false, parts / g)?;
+        Ok(Rat::from_parts(num, den))
+    }
+
+    /// The sum. With g = gcd(d1, d2), Overflow exactly where one of n1*(d2/g), n2*(d1/g), their sum and
+    /// d1*(d2/g) lies outside -M..M.
+    #[tactic(auto, using(crate::proofs::Numbers::plain), unfolding(crate::specs::Arithmetic::sum_of))]
+    pub fn add(&self, o: &Rat) -> Result<Self, Overflow>
+        ensures value { result_ok result ≡ sum_of self.now o.now }
+    {
+        let g = gcd(self.parts(), o.parts());
+        let left = product(self.num(), o.den_over(g))?;
+        let right = product(o.num(), self.den_over(g))?;
+        let num = sum(left, right)?;
+        let den = product(self.den(), o.den_over(g))?;
+        Rat::new(num, den)
+    }
+
+    /// The difference: the sum with the negation of `o`, and Overflow as there.
+    #[tactic(auto, using(crate::proofs::Numbers::plain), unfolding(crate::specs::Arithmetic::difference_of))]
+    pub fn sub(&self, o: &Rat) -> Result<Self, Overflow>
+        ensures value { result_ok result ≡ difference_of self.now o.now }
+    {
+        self.add(&o.neg())
+    }
+
+    /// The product. With g = gcd(|n1|, d2) and h = gcd(|n2|, d1), Overflow exactly where one of
+    /// (n1/g)*(n2/h) and (d1/h)*(d2/g) lies outside -M..M.
+    #[tactic(auto, using(crate::proofs::Numbers::plain), unfolding(crate::specs::Arithmetic::product_of))]
+    pub fn mul(&self, o: &Rat) -> Result<Self, Overflow>
+        ensures value { result_ok result ≡ product_of self.now o.now }
+    {
+        let g = gcd(self.size(), o.parts());
+        let h = gcd(o.size(), self.parts());
+        let num = product(self.num_over(g), o.num_over(h))?;
+        let den = product(self.den_over(h), o.den_over(g))?;
+        Ok(Rat::from_parts(num, den))
+    }
+
+    /// The quotient by a number that is not 0: the product with it turned over, and Overflow as there.
+    #[tactic(auto, using(crate::proofs::Numbers::plain), unfolding(crate::specs::Arithmetic::quotient_of))]
+    pub fn div(&self, o: &Rat) -> Result<Self, Overflow>
+        requires { o.now.num ≢ pos 0 }
+        ensures value { result_ok result ≡ quotient_of self.now o.now }
+    {
+        let turned = Rat::new(o.den(), o.num())?;
+        self.mul(&turned)
+    }
+
+    /// The negation.
+    pub fn neg(&self) -> Self
+        ensures { result ≡ negation_of self.now }
+    {
+        Rat::from_parts(-self.num(), self.den())
+    }
+
     /// The numerator.
     pub fn num(&self) -> i128
-        ensures { result ≡ self.now.num }
+        ensures value { result ≡ self.now.num }
+        ensures range { InRange result }
     {
         self.num
     }
 
     /// The denominator.
     pub fn den(&self) -> i128
-        ensures { result ≡ self.now.den }
+        ensures value { result ≡ self.now.den }
+        ensures range { InRange result }
     {
         self.den
     }
