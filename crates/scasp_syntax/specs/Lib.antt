@@ -1,5 +1,7 @@
+pub mod Constraints
 pub mod Falls
 pub mod Programs
+pub mod RowTruth
 pub mod Same
 pub mod Tm
 pub mod TmCode
