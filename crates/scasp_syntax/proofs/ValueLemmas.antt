@@ -1,5 +1,5 @@
 -- Substitutions, one after another and with ground values.
-use Rattle.std.proofs.Common.{◌≡◌, ◌≢◌, ◌↔◌, Bool, true, false, ◌&&◌, not, IsTrue, refl, ap}
+use Rattle.std.proofs.Common.{◌≡◌, ◌≢◌, ◌↔◌, Bool, true, false, not, IsTrue, refl, ap}
 use Rattle.scasp_syntax.specs.Same.{same_tm}
 use Rattle.scasp_syntax.specs.Tm.{Tm, Tms, var, num, app, nil, cons}
 use Rattle.scasp_syntax.specs.Values.{Sub, Valuation, under, all_under, is_ground, are_ground}

@@ -1,4 +1,5 @@
 pub mod Constraints
+pub mod Examples
 pub mod Falls
 pub mod Programs
 pub mod RowTruth

@@ -1,5 +1,5 @@
 -- Whether a linear comparison holds under a valuation.
-use Rattle.std.specs.Prelude.{ℕ, zero, suc, Bool, true, false, ◌||◌, not, ℤ, pos, negsuc, ◌+ℤ◌, ◌*ℤ◌, List, [], ◌∷◌}
+use Rattle.std.specs.Prelude.{zero, suc, Bool, true, false, ◌||◌, not, ℤ, pos, negsuc, ◌+ℤ◌, ◌*ℤ◌, List, [], ◌∷◌}
 use Rattle.scasp_num.specs.Linear.{Linear}
 use Rattle.scasp_num.specs.declared.linear.Coeff.{Coeff}
 use Rattle.scasp_num.specs.declared.linear.Op.{Op}
