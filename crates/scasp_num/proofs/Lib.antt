@@ -1,3 +1,4 @@
 pub mod Gcds
 pub mod Integers
 pub mod Numbers
+pub mod Exact

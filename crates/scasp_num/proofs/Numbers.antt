@@ -59,8 +59,11 @@ number-of q = number_if-of q (is_reduced q.num q.den) refl (is_reduced-of q.num 
 pub number-at : (q : Number) (a b : ℤ) → q.num ≡ a → q.den ≡ b → Some q ≡ number a b
 number-at q a b e f = number-of q ∙ (λ i. number (e i) (f i))
 
-ltb_lt : {m n : ℕ} → nat_lt m n ≡ true → m < n
+pub ltb_lt : {m n : ℕ} → nat_lt m n ≡ true → m < n
 ltb_lt {m} {n} e = omega (arith, ltb-true m n e)
+
+pub lt_ltb : {m n : ℕ} → m < n → nat_lt m n ≡ true
+lt_ltb {m} {n} h = grind (arith, nat_tests)
 
 pub within-some : (x z : ℤ) → Some x ≡ within z → (x ≡ z) × InRange x
 within-some x z e = by (in_range z) refl e
@@ -173,7 +176,7 @@ IsLowest-number n d num den q l made =
     let p = number-parts q num den e in
     (e ∙ IsLowest-value n d num den l, ap (λ x. x *ℤ d) p.0 ∙ IsLowest-exact n d num den l ∙ ap (λ x. n *ℤ x) (sym p.1))
 
-unsigned_abs-over : (z : ℤ) (g : ℕ) → unsigned_abs (int_div z (pos g)) ≡ unsigned_abs z / g
+pub unsigned_abs-over : (z : ℤ) (g : ℕ) → unsigned_abs (int_div z (pos g)) ≡ unsigned_abs z / g
 unsigned_abs-over (pos n) g = refl
 unsigned_abs-over (negsuc n) g = unsigned_abs-signed true (suc n / g)
 
