@@ -1,17 +1,17 @@
 -- What the bounded operations compute is the exact fraction, and they have a result exactly where their integers lie in range.
-use Rattle.std.proofs.Common.{Result, Ok, Err, ◌≡◌, ℕ, zero, suc, ◌+◌, ◌*◌, ◌/◌, ◌^◌, ◌<◌, ◌≤◌, ◌≢◌, Bool, true, false, ◌&&◌, nat_lt, ℤ, pos, negsuc, ◌+ℤ◌, ◌-ℤ◌, ◌*ℤ◌, neg_ℤ, ◌<ℤ◌, unsigned_abs, int_div, Option, Some, None, is_some, is_ok, List, [], ◌∷◌, refl, sym, ap, subst, ◌∙◌, arith}
+use Rattle.std.proofs.Common.{Result, Ok, Err, ◌≡◌, ℕ, suc, ◌*◌, ◌/◌, ◌^◌, ◌<◌, ◌≤◌, ◌≢◌, Bool, true, false, ◌&&◌, nat_lt, ℤ, pos, negsuc, ◌+ℤ◌, ◌-ℤ◌, ◌*ℤ◌, neg_ℤ, unsigned_abs, int_div, Option, Some, None, is_some, is_ok, refl, sym, ap, subst, ◌∙◌, arith}
 use Rattle.std.specs.Prelude.{if◌then◌else◌, IfOk}
 use Rattle.std.specs.Result.{result_ok}
 use Rattle.std.specs.List.{list_all}
 use Rattle.std.specs.Int.{◌∣◌}
 use Rattle.std.proofs.Math.Nat.{div-mul_cancel, div-le_self, div-one}
 use Rattle.std.proofs.Math.IntN.{*ℤ_comm}
-use Rattle.std.proofs.lemmas.Int.{ints, unsigned_abs-mul}
+use Rattle.std.proofs.lemmas.Int.{unsigned_abs-mul}
 use Rattle.scasp_num.specs.Gcd.{gcd}
 use Rattle.scasp_num.specs.Number.{Number, IsReduced, IsFraction, InRange}
-use Rattle.scasp_num.specs.Arithmetic.{◌>>=◌, in_range, within, number, number_if, is_reduced, signed, signs_differ, lowest, sum_of, product_of, quotient_of, difference_of, negation_of, lowest_integers, sum_integers, product_integers, quotient_integers}
+use Rattle.scasp_num.specs.Arithmetic.{◌>>=◌, in_range, within, number, signed, signs_differ, lowest, sum_of, product_of, quotient_of, difference_of, negation_of, lowest_integers, sum_integers, product_integers, quotient_integers}
 use Rattle.scasp_num.proofs.Gcds.{gcd-is, gcd_comm}
-use Rattle.scasp_num.proofs.Integers.{*ℤ_assoc, *ℤ-+ℤ, +ℤ-*ℤ, *ℤ_right_comm, *ℤ_shuffle, *ℤ-cancel, neg-*ℤ}
+use Rattle.scasp_num.proofs.Integers.{*ℤ_assoc, +ℤ-*ℤ, *ℤ_right_comm, *ℤ_shuffle, *ℤ-cancel, neg-*ℤ}
 use Rattle.scasp_num.proofs.Numbers.{IsLowest, IsLowest-exact, within-some, number-parts, number-of, lowest-IsReduced, unsigned_abs-signed, unsigned_abs-over, ltb_lt, lt_ltb, ne_from-pos, sum-den_pos, product-IsReduced}
 
 -- what a step that gave a value was
@@ -188,9 +188,10 @@ turned-sizes q t e =
     let f = λ (num den : ℤ). number num den in
     let a = bind-some (within (signed (signs_differ n d) (unsigned_abs n / g))) (λ num. within (pos (unsigned_abs d / g)) >>= f num) t e in
     let b = bind-some (within (pos (unsigned_abs d / g))) (f a.0) t a.2 in
-    let p = number-parts t a.0 b.0 b.2 in
-    (ap unsigned_abs (p.0 ∙ (within-some a.0 (signed (signs_differ n d) (unsigned_abs n / g)) a.1).0) ∙ unsigned_abs-signed (signs_differ n d) (unsigned_abs n / g) ∙ ap (λ x. unsigned_abs n / x) one ∙ div-one (unsigned_abs n),
-      ap unsigned_abs (p.1 ∙ (within-some b.0 (pos (unsigned_abs d / g)) b.1).0) ∙ ap (λ x. unsigned_abs d / x) one ∙ div-one (unsigned_abs d))
+    let p = number-parts t a.0 b.0 b.2 in (
+      ap unsigned_abs (p.0 ∙ (within-some a.0 (signed (signs_differ n d) (unsigned_abs n / g)) a.1).0) ∙ unsigned_abs-signed (signs_differ n d) (unsigned_abs n / g) ∙ ap (λ x. unsigned_abs n / x) one ∙ div-one (unsigned_abs n),
+      ap unsigned_abs (p.1 ∙ (within-some b.0 (pos (unsigned_abs d / g)) b.1).0) ∙ ap (λ x. unsigned_abs d / x) one ∙ div-one (unsigned_abs d),
+    )
 
 pub quotient_of-fits : (p q t : Number) → Some t ≡ lowest q.den q.num → is_some (quotient_of p q) ≡ list_all in_range (quotient_integers p q)
 unfolding quotient_of
@@ -203,9 +204,9 @@ quotient_of-fits p q t e =
     let qn = unsigned_abs q.num in
     let qd = unsigned_abs q.den in
     let num : unsigned_abs (int_div p.num (pos (gcd pn td)) *ℤ int_div t.num (pos (gcd tn pd))) ≡ unsigned_abs (int_div p.num (pos (gcd pn qn)) *ℤ int_div q.den (pos (gcd qd pd))) =
-      abs-entry p.num t.num (gcd pn td) (gcd tn pd) ∙ (λ i. pn / gcd pn (s.1 i) * (s.0 i / gcd (s.0 i) pd)) ∙ sym (abs-entry p.num q.den (gcd pn qn) (gcd qd pd)) in
+    abs-entry p.num t.num (gcd pn td) (gcd tn pd) ∙ (λ i. pn / gcd pn (s.1 i) * (s.0 i / gcd (s.0 i) pd)) ∙ sym (abs-entry p.num q.den (gcd pn qn) (gcd qd pd)) in
     let den : unsigned_abs (int_div p.den (pos (gcd tn pd)) *ℤ int_div t.den (pos (gcd pn td))) ≡ unsigned_abs (int_div p.den (pos (gcd qd pd)) *ℤ int_div q.num (pos (gcd pn qn))) =
-      abs-entry p.den t.den (gcd tn pd) (gcd pn td) ∙ (λ i. pd / gcd (s.0 i) pd * (s.1 i / gcd pn (s.1 i))) ∙ sym (abs-entry p.den q.num (gcd qd pd) (gcd pn qn)) in
+    abs-entry p.den t.den (gcd tn pd) (gcd pn td) ∙ (λ i. pd / gcd (s.0 i) pd * (s.1 i / gcd pn (s.1 i))) ∙ sym (abs-entry p.den q.num (gcd qd pd) (gcd pn qn)) in
     ap (λ o. is_some (o >>= product_of p)) (sym e) ∙ product_of-fits p t ∙ (λ i. nat_lt (num i) (2 ^ 127) && (nat_lt (den i) (2 ^ 127) && true))
 
 pub turned-some : (q : Number) → InRange q.num → InRange q.den → q.num ≢ pos 0 → None ≡ lowest q.den q.num → ⊥

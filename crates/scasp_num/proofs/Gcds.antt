@@ -79,7 +79,7 @@ gcd-divided a b h =
     let left : g * (a / g) ≡ a = mul-div_cancel' g (gcd-is a b).0 in
     let right : g * (b / g) ≡ b = mul-div_cancel' g (gcd-is a b).1 in
     let all : g * gcd (a / g) (b / g) ≡ g * 1 =
-      sym (gcd-mul g (a / g) (b / g) h) ∙ ap (λ x. gcd x (g * (b / g))) left ∙ ap (gcd a) right ∙ sym (mul-one g) in
+    sym (gcd-mul g (a / g) (b / g) h) ∙ ap (λ x. gcd x (g * (b / g))) left ∙ ap (gcd a) right ∙ sym (mul-one g) in
     eq_of_mul-eq-mul_left g h (gcd (a / g) (b / g)) 1 all
 
 -- Euclid's lemma

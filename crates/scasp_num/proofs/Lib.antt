@@ -2,3 +2,4 @@ pub mod Gcds
 pub mod Integers
 pub mod Numbers
 pub mod Exact
+pub mod Ratios

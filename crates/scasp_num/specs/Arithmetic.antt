@@ -1,5 +1,5 @@
 -- Bounded arithmetic on numbers. Each operation forms stated integers, and has no result where one of them lies outside -M..M, where M is 2^127 - 1.
-use Rattle.std.specs.Prelude.{◌≡◌, ℕ, ◌<◌, ◌^◌, ◌/◌, Bool, true, false, ◌&&◌, ◌==◌, nat_lt, if◌then◌else◌, ℤ, pos, negsuc, ◌+ℤ◌, ◌*ℤ◌, neg_ℤ, ◌<ℤ◌, unsigned_abs, int_lt, int_div, Option, Some, None, option_and_then, List, [], ◌∷◌}
+use Rattle.std.specs.Prelude.{◌≡◌, ℕ, ◌^◌, ◌/◌, Bool, true, false, ◌&&◌, ◌==◌, nat_lt, if◌then◌else◌, ℤ, pos, negsuc, ◌+ℤ◌, ◌*ℤ◌, neg_ℤ, ◌<ℤ◌, unsigned_abs, int_lt, int_div, Option, Some, None, option_and_then, List, [], ◌∷◌}
 use Rattle.std.proofs.Common.{arith, zero, suc, refl, ap, ◌∙◌}
 use Rattle.std.proofs.lemmas.Bool.{and_parts, eqb-true}
 use Rattle.std.proofs.lemmas.Int.{ints}
@@ -86,9 +86,9 @@ unsigned_abs-neg (negsuc n) = refl
 
 pub IsReduced-neg : (q : Number) → IsReduced (neg_ℤ q.num) q.den
 IsReduced-neg q = record {
-    positive = q.reduced.positive;
-    lowest = ap (λ x. gcd x (unsigned_abs q.den)) (unsigned_abs-neg q.num) ∙ q.reduced.lowest
-  }
+  positive = q.reduced.positive;
+  lowest = ap (λ x. gcd x (unsigned_abs q.den)) (unsigned_abs-neg q.num) ∙ q.reduced.lowest;
+}
 
 abbrev pub negation_of : Number → Number
 negation_of q = record { num = neg_ℤ q.num; den = q.den; reduced = IsReduced-neg q }

@@ -8,11 +8,10 @@ ghost use Rattle.std.specs.Result.{result_ok};
 ghost use Rattle.scasp_num.specs.Arithmetic.{in_range, lowest, number, lowest_integers, sum_integers, product_integers, quotient_integers, sum_of, difference_of, product_of, quotient_of, negation_of};
 ghost use Rattle.scasp_num.specs.Number.{IsReduced, IsReduced-prop, IsFraction, InRange};
 
+use crate::bounded::{product, quotient, signed, sum};
 use std::cmp::Ordering;
 use std::marker::Model;
 use thiserror::Error;
-
-use crate::bounded::{product, quotient, signed, sum};
 
 /// An integer of a stated formula lies outside -M..M.
 #[derive(Clone, Copy, Debug, PartialEq, Eq, Error)]

@@ -1,7 +1,6 @@
-use Rattle.std.proofs.Common.{◌≡◌, ◌<◌, ap, sym, subst, ◌∙◌, unsigned_abs, to_z, of_z}
+use Rattle.std.proofs.Common.{◌≡◌, ap, ◌∙◌, unsigned_abs}
 use Rattle.std.specs.Int.{w128}
 use Rattle.std.proofs.lemmas.Int.{to_z-of_z}
-use Rattle.scasp_num.specs.Gcd.{gcd}
 use Rattle.scasp_num.specs.Arithmetic.{signs_differ}
 use Rattle.scasp_num.proofs.Gcds.{gcd_pos}
 use Rattle.scasp_num.proofs.Numbers.{unsigned_abs-pos, signs_differ-test, IsReduced-plain, IsLowest, IsLowest-from, IsLowest-IsReduced, IsLowest-InRange, IsLowest-number}

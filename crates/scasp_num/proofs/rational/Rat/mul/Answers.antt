@@ -1,5 +1,5 @@
-use Rattle.scasp_num.specs.Arithmetic.{lowest, sum_of, difference_of, product_of, quotient_of}
-use Rattle.scasp_num.proofs.Exact.{ok_from-computed, ok_as_computed, lowest-exact, lowest-fits, sum_of-exact, sum_of-fits, difference_of-exact, product_of-exact, product_of-fits, quotient_of-exact, quotient_of-fits}
+use Rattle.scasp_num.specs.Arithmetic.{product_of}
+use Rattle.scasp_num.proofs.Exact.{ok_from-computed, ok_as_computed, product_of-exact, product_of-fits}
 use Rattle.scasp_num.proofs.rational.Rat.mul.Goals as goal
 
 pub returns-clause-exact : goal.returns-clause-exact
