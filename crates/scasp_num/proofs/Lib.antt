@@ -3,3 +3,4 @@ pub mod Integers
 pub mod Numbers
 pub mod Exact
 pub mod Ratios
+pub mod NormalForms

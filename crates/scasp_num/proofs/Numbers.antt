@@ -93,7 +93,7 @@ cross x y g p q =
     regroup : (a b c : ℕ) → a * (b * c) ≡ b * a * c
     regroup a b c = omega arith
 
-below-zero : (a : ℕ) → int_lt (pos a) (pos 0) ≡ false
+pub below-zero : (a : ℕ) → int_lt (pos a) (pos 0) ≡ false
 below-zero a = ltb-none a
   where
     ltb-none : (a : ℕ) → nat_lt a 0 ≡ false

@@ -160,6 +160,17 @@ impl Model for Row {
 impl Row {
     ghost use Rattle.scasp_num.specs.Linear.{IsNormal};
 
+    pub(crate) fn from_normal(coeffs: Coeffs, constant: i128, op: Op) -> Self
+        requires { IsNormal (record { coeffs = coeffs; constant = constant; op = op }) }
+        ensures { result ≡ record { coeffs = coeffs; constant = constant; op = op } }
+    {
+        Row {
+            coeffs,
+            constant,
+            op,
+        }
+    }
+
     pub fn coeffs(&self) -> &Coeffs
         ensures value { result.now ≡ self.now.coeffs }
         ensures normal { IsNormal self.now }
