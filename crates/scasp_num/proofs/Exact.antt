@@ -31,7 +31,7 @@ lowest-exact q n d e =
     ap (λ x. x *ℤ d) p.0 ∙ IsLowest-exact n d a.0 b.0 l ∙ ap (λ x. n *ℤ x) (sym p.1)
 
 -- an exact quotient times its divisor
-over-times : (z : ℤ) (g : ℕ) → g ∣ unsigned_abs z → int_div z (pos g) *ℤ pos g ≡ z
+pub over-times : (z : ℤ) (g : ℕ) → g ∣ unsigned_abs z → int_div z (pos g) *ℤ pos g ≡ z
 over-times (pos n) g h = ap pos (div-mul_cancel g h)
 over-times (negsuc n) g h = neg-*ℤ (pos (suc n / g)) (pos g) ∙ ap (λ x. neg_ℤ (pos x)) (div-mul_cancel g h)
 

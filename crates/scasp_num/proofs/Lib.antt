@@ -4,3 +4,4 @@ pub mod Numbers
 pub mod Exact
 pub mod Ratios
 pub mod NormalForms
+pub mod Meaning

@@ -57,7 +57,7 @@ above-zero (negsuc n) h = omega arith
 ne-zero : (z : ℤ) → 0 < unsigned_abs z → z ≢ pos 0
 ne-zero z h e = let same : unsigned_abs z ≡ 0 = ap unsigned_abs e in omega arith
 
-zero_is : (z : ℤ) → is_zero z ≡ true → z ≡ pos 0
+pub zero_is : (z : ℤ) → is_zero z ≡ true → z ≡ pos 0
 zero_is (pos zero) h = refl
 zero_is (pos (suc n)) h = cc
 zero_is (negsuc n) h = cc

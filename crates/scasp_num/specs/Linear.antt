@@ -1,8 +1,10 @@
 -- Linear comparisons with whole coefficients, as plain values: what they mean, and their normal form.
-use Rattle.std.specs.Prelude.{◌≡◌, ◌≢◌, ◌↔◌, ℕ, zero, suc, ◌<◌, ◌≤◌, Bool, true, false, ◌&&◌, not, ◌==◌, nat_lt, if◌then◌else◌, ℤ, pos, negsuc, ◌+ℤ◌, ◌*ℤ◌, neg_ℤ, ◌<ℤ◌, ◌≤ℤ◌, unsigned_abs, int_div, int_lt, max, List, [], ◌∷◌, ◌++◌, map, Option, Some, None, IsFalse, ⊤}
+use Rattle.std.specs.Prelude.{◌≡◌, ◌≢◌, ◌↔◌, ℕ, zero, suc, ◌<◌, ◌≤◌, Bool, true, false, ◌&&◌, not, ◌==◌, nat_lt, if◌then◌else◌, ℤ, pos, negsuc, ◌+ℤ◌, ◌*ℤ◌, neg_ℤ, ◌<ℤ◌, ◌≤ℤ◌, unsigned_abs, int_div, int_lt, max, List, [], ◌∷◌, ◌++◌, map, Option, Some, None, Result, Ok, Err, IsFalse, ⊤}
 use Rattle.scasp_num.specs.declared.linear.Coeff.{Coeff}
 use Rattle.scasp_num.specs.declared.linear.Op.{Op}
 use Rattle.scasp_num.specs.declared.linear.Op.TheVariants as op
+use Rattle.scasp_num.specs.declared.linear.RowErr.{RowErr}
+use Rattle.scasp_num.specs.declared.linear.RowErr.TheVariants as err
 use Rattle.scasp_num.specs.Gcd.{gcd}
 use Rattle.scasp_num.specs.Number.{Number, InRange}
 use Rattle.scasp_num.specs.Arithmetic.{◌>>=◌, within}
@@ -122,3 +124,35 @@ negation r =
       constant = negated_if negate r.constant;
       op = opposite r.op
     }
+
+-- ---- a variable replaced by a number
+
+-- the coefficient of x
+abbrev pub coefficient : ℕ → List Coeff → ℤ
+coefficient x [] = pos 0
+coefficient x (k ∷ ks) = if k.x == x then k.c else coefficient x ks
+
+-- the terms without x, times d, where all products lie in range
+abbrev pub others_times : ℤ → ℕ → List Coeff → Option (List Coeff)
+others_times d x [] = Some []
+others_times d x (k ∷ ks) =
+    if k.x == x then others_times d x ks else (within (d *ℤ k.c) >>= (λ c. others_times d x ks >>= (λ rest. Some (record { x = k.x; c = c } ∷ rest))))
+
+-- the row times the number's denominator, with the variable replaced
+unfoldable pub put_of : Linear → ℕ → Number → Option Linear
+put_of r x q = do
+  others ← others_times q.den x r.coeffs
+  left ← within (q.den *ℤ r.constant)
+  right ← within (coefficient x r.coeffs *ℤ q.num)
+  constant ← within (left +ℤ right)
+  Some (normal_form (record { coeffs = others; constant = constant; op = r.op }))
+
+-- the values m with z for x
+abbrev pub replaced : (ℕ → ℤ) → ℕ → ℤ → ℕ → ℤ
+replaced m x z y = if y == x then z else m y
+
+-- what is made where there is memory
+abbrev pub Gives : {A : Type 0} → Result A RowErr → Option A → Type 0
+Gives (Ok row) o = Some row ≡ o
+Gives (Err err.Overflow) o = None ≡ o
+Gives (Err err.Memory) o = ⊤

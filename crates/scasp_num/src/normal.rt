@@ -1,8 +1,8 @@
 //! The normal form of a row.
 ghost use Rattle.std.specs.Prelude.{◌≡◌, ◌<◌, pos, int_div, max, length, IfOk};
 ghost use Rattle.scasp_num.specs.Number.{InRange};
-ghost use Rattle.scasp_num.specs.Linear.{Each, common_divisor, integers, leads_below, is_negated, negated_if, shares, is_symmetric, Ascends, normal_form};
-ghost use Rattle.std.specs.Prelude.{List, ◌∷◌, map, unsigned_abs};
+ghost use Rattle.scasp_num.specs.Linear.{Each, common_divisor, integers, leads_below, is_negated, negated_if, shares, is_symmetric, Ascends, normal_form, Meets};
+ghost use Rattle.std.specs.Prelude.{List, ◌∷◌, map, unsigned_abs, ℕ, ℤ, ◌↔◌};
 
 use crate::Memory;
 use crate::bounded::quotient;
@@ -85,7 +85,8 @@ pub(crate) fn normal_form(alloc: Global, coeffs: &[Coeff], constant: i128, op: O
     requires ascending { Ascends coeffs.now }
     requires constant_range { InRange constant }
     requires range { Each (λ k. InRange k.c) coeffs.now }
-    ensures { IfOk result (λ row. row ≡ normal_form (record { coeffs = coeffs.now; constant = constant; op = op })) }
+    ensures value { IfOk result (λ row. row ≡ normal_form (record { coeffs = coeffs.now; constant = constant; op = op })) }
+    ensures meets { IfOk result (λ row. (m : ℕ → ℤ) (d : ℤ) → Meets m d row ↔ Meets m d (record { coeffs = coeffs.now; constant = constant; op = op })) }
 {
     let g = common_divisor(coeffs, constant).max(1);
     let negate = is_negated(coeffs, constant, op);
