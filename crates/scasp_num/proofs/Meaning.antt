@@ -1,14 +1,14 @@
 -- What rows mean: their sums, and that the normal form and the negation keep it.
-use Rattle.std.proofs.Common.{◌≡◌, ◌≢◌, ◌↔◌, ℕ, zero, suc, ◌+◌, ◌*◌, ◌<◌, ◌≤◌, Bool, true, false, ◌&&◌, ℤ, pos, negsuc, ◌+ℤ◌, ◌-ℤ◌, ◌*ℤ◌, neg_ℤ, ◌<ℤ◌, ◌≤ℤ◌, unsigned_abs, int_div, List, [], ◌∷◌, map, refl, sym, ap, subst, ◌∙◌, arith}
+use Rattle.std.proofs.Common.{◌≡◌, ◌≢◌, ◌↔◌, ℕ, zero, suc, ◌+◌, ◌*◌, ◌<◌, ◌≤◌, Bool, true, false, not, ◌&&◌, ℤ, pos, negsuc, ◌+ℤ◌, ◌-ℤ◌, ◌*ℤ◌, neg_ℤ, ◌<ℤ◌, ◌≤ℤ◌, unsigned_abs, int_div, List, [], ◌∷◌, map, refl, sym, ap, subst, ◌∙◌, arith}
 use Rattle.std.specs.Prelude.{if◌then◌else◌}
 use Rattle.std.specs.Int.{◌∣◌}
 use Rattle.std.proofs.Math.Nat.{mul-pos}
-use Rattle.std.proofs.Math.IntN.{neg_ℤ-neg_ℤ, *ℤ_comm, +ℤ_idl, zero-*ℤ, ℤ_discrete}
+use Rattle.std.proofs.Math.IntN.{neg_ℤ-neg_ℤ, *ℤ_comm, +ℤ_idl, zero-*ℤ, neg_ℤ-+ℤ}
 use Rattle.std.proofs.lemmas.Int.{ints, unsigned_abs-mul}
 use Rattle.scasp_num.specs.declared.linear.Coeff.{Coeff}
 use Rattle.scasp_num.specs.declared.linear.Op.{Op}
 use Rattle.scasp_num.specs.declared.linear.Op.TheVariants as op
-use Rattle.scasp_num.specs.Linear.{Linear, Each, divisor, is_zero, is_symmetric, is_negated, negated_if, shares, normal_form, weighted, Compares, Meets, negation, opposite}
+use Rattle.scasp_num.specs.Linear.{Linear, Each, divisor, is_zero, is_symmetric, is_negated, negated_if, shares, normal_form, weighted, Compares, Meets, negation, negated, opposite}
 use Rattle.scasp_num.proofs.Integers.{*ℤ_assoc, *ℤ_right_comm, +ℤ-*ℤ, neg-*ℤ, *ℤ-cancel}
 use Rattle.scasp_num.proofs.Exact.{over-times}
 use Rattle.scasp_num.proofs.NormalForms.{share, divisor-dvd, divisor-above, zero_is}
@@ -78,3 +78,39 @@ normal_form-meets r m d =
 
 pub normal_form-meets_of : (r row : Linear) → row ≡ normal_form r → (m : ℕ → ℤ) (d : ℤ) → Meets m d row ↔ Meets m d r
 normal_form-meets_of r row e m d = subst (λ (x : Linear). Meets m d x ↔ Meets m d r) (sym e) (normal_form-meets r m d)
+
+-- ---- the negation is met exactly where the row is not
+
+negated-weighted : (n : Bool) (m : ℕ → ℤ) (ks : List Coeff) → weighted m (negated n ks) ≡ negated_if n (weighted m ks)
+negated-weighted false m [] = refl
+negated-weighted true m [] = refl
+negated-weighted false m (k ∷ ks) = ap (λ x. k.c *ℤ m k.x +ℤ x) (negated-weighted false m ks)
+negated-weighted true m (k ∷ ks) = (λ i. neg-*ℤ k.c (m k.x) i +ℤ negated-weighted true m ks i) ∙ sym (neg_ℤ-+ℤ (k.c *ℤ m k.x) (weighted m ks))
+
+negation-sum : (n : Bool) (m : ℕ → ℤ) (d c : ℤ) (ks : List Coeff) → weighted m (negated n ks) +ℤ negated_if n c *ℤ d ≡ negated_if n (weighted m ks +ℤ c *ℤ d)
+negation-sum false m d c ks = ap (λ x. x +ℤ c *ℤ d) (negated-weighted false m ks)
+negation-sum true m d c ks = (λ i. negated-weighted true m ks i +ℤ neg-*ℤ c d i) ∙ sym (neg_ℤ-+ℤ (weighted m ks) (c *ℤ d))
+
+twice : (z : ℤ) → ¬ ¬ (z ≡ pos 0) → z ≡ pos 0
+twice (pos zero) h = refl
+twice (pos (suc n)) h = absurd (h (λ e. cc))
+twice (negsuc n) h = absurd (h (λ e. cc))
+
+not-below : (z w : ℤ) → w ≡ neg_ℤ z → (w ≤ℤ pos 0) ↔ (¬ (z <ℤ pos 0))
+not-below (pos n) w e = (λ p q. absurd (omega (arith, ints)), λ p. omega (arith, ints))
+not-below (negsuc n) w e = (λ p q. absurd (omega (arith, ints)), λ p. absurd (p (omega (arith, ints))))
+
+not-most : (z w : ℤ) → w ≡ neg_ℤ z → (w <ℤ pos 0) ↔ (¬ (z ≤ℤ pos 0))
+not-most (pos zero) w e = (λ p q. absurd (omega (arith, ints)), λ p. absurd (p (omega (arith, ints))))
+not-most (pos (suc n)) w e = (λ p q. absurd (omega (arith, ints)), λ p. omega (arith, ints))
+not-most (negsuc n) w e = (λ p q. absurd (omega (arith, ints)), λ p. absurd (p (omega (arith, ints))))
+
+negation-compares : (o : Op) (z w : ℤ) → w ≡ negated_if (not (is_symmetric o)) z → Compares (opposite o) w ↔ (¬ Compares o z)
+negation-compares op.Eq z w e = (λ p q. p (e ∙ q), λ p q. p (sym e ∙ q))
+negation-compares op.Ne z w e = (λ p q. q (sym e ∙ p), λ p. e ∙ twice z p)
+negation-compares op.Lt z w e = not-below z w e
+negation-compares op.Le z w e = not-most z w e
+
+pub negation-meets : (r row : Linear) → row ≡ negation r → (m : ℕ → ℤ) (d : ℤ) → Meets m d row ↔ (¬ Meets m d r)
+negation-meets r row e m d =
+    subst (λ (x : Linear). Meets m d x ↔ (¬ Meets m d r)) (sym e) (negation-compares r.op (weighted m r.coeffs +ℤ r.constant *ℤ d) _ (negation-sum (not (is_symmetric r.op)) m d r.constant r.coeffs))

@@ -1,5 +1,5 @@
 -- The normal form of a row is in normal form, and is met by the same values.
-use Rattle.std.proofs.Common.{◌≡◌, ◌≢◌, ◌↔◌, ℕ, zero, suc, ◌+◌, ◌*◌, ◌/◌, ◌^◌, ◌<◌, ◌≤◌, max, Bool, true, false, ◌&&◌, nat_lt, ℤ, pos, negsuc, ◌+ℤ◌, ◌*ℤ◌, neg_ℤ, ◌<ℤ◌, ◌≤ℤ◌, unsigned_abs, int_div, List, [], ◌∷◌, map, refl, sym, ap, subst, ◌∙◌, arith}
+use Rattle.std.proofs.Common.{◌≡◌, ◌≢◌, ◌↔◌, ℕ, zero, suc, ◌+◌, ◌*◌, ◌/◌, ◌^◌, ◌<◌, ◌≤◌, max, Bool, true, false, not, ◌&&◌, nat_lt, ℤ, pos, negsuc, ◌+ℤ◌, ◌*ℤ◌, neg_ℤ, ◌<ℤ◌, ◌≤ℤ◌, unsigned_abs, int_div, List, [], ◌∷◌, map, refl, sym, ap, subst, ◌∙◌, arith}
 use Rattle.std.specs.Prelude.{if◌then◌else◌, int_lt}
 use Rattle.std.specs.Int.{◌∣◌}
 use Rattle.std.proofs.Math.Nat.{mul-div_cancel', div-le_self, one-dvd, dvd-zero, dvd_refl, dvd_trans, eq_of_mul-eq-mul_left, mul-one, mul-zero}
@@ -10,7 +10,7 @@ use Rattle.scasp_num.specs.declared.linear.Op.{Op}
 use Rattle.scasp_num.specs.declared.linear.Op.TheVariants as op
 use Rattle.scasp_num.specs.Gcd.{gcd}
 use Rattle.scasp_num.specs.Number.{InRange}
-use Rattle.scasp_num.specs.Linear.{Linear, Each, Ascends, integers, common_divisor, divisor, is_zero, leads_below, is_symmetric, is_negated, negated_if, shares, normal_form, IsNormal}
+use Rattle.scasp_num.specs.Linear.{Linear, Each, Ascends, integers, common_divisor, divisor, is_zero, leads_below, is_symmetric, is_negated, negated_if, shares, normal_form, negated, negation, opposite, IsNormal}
 use Rattle.scasp_num.proofs.Gcds.{gcd-is, gcd-mul, gcd-zero, gcd_comm}
 use Rattle.scasp_num.proofs.Numbers.{div-pos, unsigned_abs-over, unsigned_abs-signed, below-zero}
 
@@ -158,3 +158,48 @@ normal_form-IsNormal r a z h =
 pub normal_form-parts : (r : Linear) (coeffs : List Coeff) (constant : ℤ) → coeffs ≡ shares (is_negated r) (divisor r) r.coeffs → constant ≡ share (is_negated r) (divisor r) r.constant → ◌≡◌ {A = Linear} (record { coeffs = coeffs; constant = constant; op = r.op }) (normal_form r)
 unfolding normal_form
 normal_form-parts r coeffs constant e f = λ i. record { coeffs = e i; constant = f i; op = r.op }
+
+-- ---- the negation of a row is in normal form
+
+Each-negated : (P Q : Coeff → Type 0) (n : Bool) → ((k : Coeff) → P k → Q (record { x = k.x; c = negated_if n k.c })) → (ks : List Coeff) → Each P ks → Each Q (negated n ks)
+Each-negated P Q n f [] e = tt
+Each-negated P Q n f (k ∷ ks) e = (f k e.0, Each-negated P Q n f ks e.1)
+
+negated-Ascends : (n : Bool) (ks : List Coeff) → Ascends ks → Ascends (negated n ks)
+negated-Ascends n [] a = tt
+negated-Ascends n (k ∷ ks) a = (Each-negated (λ j. k.x < j.x) (λ j. k.x < j.x) n (λ j h. h) ks a.0, negated-Ascends n ks a.1)
+
+negated-divisor : (n : Bool) (ks : List Coeff) → common_divisor (map (λ k. k.c) (negated n ks)) ≡ common_divisor (map (λ k. k.c) ks)
+negated-divisor n [] = refl
+negated-divisor n (k ∷ ks) = λ i. gcd (unsigned_abs-negated_if n k.c i) (negated-divisor n ks i)
+
+negated-none : (ks : List Coeff) → negated false ks ≡ ks
+negated-none [] = refl
+negated-none (k ∷ ks) = λ i. k ∷ negated-none ks i
+
+negation-sign : (r : Linear) → is_negated r ≡ false → is_negated (negation r) ≡ false
+negation-sign r h = by r.op h
+  where
+    by : (o : Op) → (is_symmetric o && leads_below r.coeffs r.constant) ≡ false → (is_symmetric (opposite o) && leads_below (negated (not (is_symmetric o)) r.coeffs) (negated_if (not (is_symmetric o)) r.constant)) ≡ false
+    by op.Eq h = ap (λ ks. leads_below ks r.constant) (negated-none r.coeffs) ∙ h
+    by op.Lt h = refl
+    by op.Le h = refl
+    by op.Ne h = ap (λ ks. leads_below ks r.constant) (negated-none r.coeffs) ∙ h
+
+negated_if-zero : (n : Bool) (z : ℤ) → z ≢ pos 0 → negated_if n z ≢ pos 0
+negated_if-zero false z h = h
+negated_if-zero true (pos zero) h = h
+negated_if-zero true (pos (suc m)) h = λ e. cc
+negated_if-zero true (negsuc m) h = λ e. cc
+
+pub negation-IsNormal : (r : Linear) → IsNormal r → IsNormal (negation r)
+negation-IsNormal r h =
+    let n = not (is_symmetric r.op) in
+    record {
+      ascending = negated-Ascends n r.coeffs h.ascending;
+      nonzero = Each-negated (λ k. k.c ≢ pos 0) (λ k. k.c ≢ pos 0) n (λ k. negated_if-zero n k.c) r.coeffs h.nonzero;
+      constant_range = subst (λ x. x < 2 ^ 127) (sym (unsigned_abs-negated_if n r.constant)) h.constant_range;
+      range = Each-negated (λ k. InRange k.c) (λ k. InRange k.c) n (λ k. subst (λ x. x < 2 ^ 127) (sym (unsigned_abs-negated_if n k.c))) r.coeffs h.range;
+      primitive = subst (λ x. x ≤ 1) (sym (λ i. gcd (unsigned_abs-negated_if n r.constant i) (negated-divisor n r.coeffs i))) h.primitive;
+      sign = negation-sign r h.sign
+    }

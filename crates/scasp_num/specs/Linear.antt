@@ -115,12 +115,16 @@ opposite op.Lt = op.Le
 opposite op.Le = op.Lt
 opposite op.Ne = op.Eq
 
+abbrev pub negated : Bool → List Coeff → List Coeff
+negated negate [] = []
+negated negate (k ∷ ks) = record { x = k.x; c = negated_if negate k.c } ∷ negated negate ks
+
 -- not e < 0 is -e =< 0, and not e =< 0 is -e < 0
 abbrev pub negation : Linear → Linear
 negation r =
     let negate = not (is_symmetric r.op) in
     record {
-      coeffs = map (λ k. record { x = k.x; c = negated_if negate k.c }) r.coeffs;
+      coeffs = negated negate r.coeffs;
       constant = negated_if negate r.constant;
       op = opposite r.op
     }

@@ -1,7 +1,7 @@
 //! The normal form of a row.
 ghost use Rattle.std.specs.Prelude.{◌≡◌, ◌<◌, pos, int_div, max, length, IfOk};
 ghost use Rattle.scasp_num.specs.Number.{InRange};
-ghost use Rattle.scasp_num.specs.Linear.{Each, common_divisor, integers, leads_below, is_negated, negated_if, shares, is_symmetric, Ascends, normal_form, Meets};
+ghost use Rattle.scasp_num.specs.Linear.{Each, common_divisor, integers, leads_below, is_negated, negated_if, shares, is_symmetric, Ascends, normal_form, Meets, opposite, negated};
 ghost use Rattle.std.specs.Prelude.{List, ◌∷◌, map, unsigned_abs, ℕ, ℤ, ◌↔◌};
 
 use crate::Memory;
@@ -18,6 +18,18 @@ impl Op {
         match self {
             Op::Eq | Op::Ne => true,
             Op::Lt | Op::Le => false,
+        }
+    }
+
+    /// How a sum compares where it does not compare by `self`, after its sign is turned for `<` and `=<`.
+    pub(crate) fn opposite(self) -> Op
+        ensures { result ≡ opposite self }
+    {
+        match self {
+            Op::Eq => Op::Ne,
+            Op::Lt => Op::Le,
+            Op::Le => Op::Lt,
+            Op::Ne => Op::Eq,
         }
     }
 }
@@ -78,6 +90,28 @@ fn shares(alloc: Global, negate: bool, g: u128, coeffs: &[Coeff]) -> Result<Coef
         }
     }
     Ok(kept)
+}
+
+/// An integer, negated where told.
+pub(crate) fn negated_if(negate: bool, c: i128) -> i128
+    requires range { InRange c }
+    ensures value { result ≡ negated_if negate c }
+    ensures range { InRange result }
+{
+    if negate { -c } else { c }
+}
+
+/// The terms, negated where told.
+pub(crate) fn negated(alloc: Global, negate: bool, coeffs: &[Coeff]) -> Result<Coeffs, Memory>
+    requires range { Each (λ k. InRange k.c) coeffs.now }
+    ensures { IfOk result (λ terms. terms ≡ negated negate coeffs.now) }
+{
+    let mut terms = Coeffs::new(alloc);
+    for k in coeffs {
+        let c = negated_if(negate, k.c);
+        terms.push(Coeff { x: k.x, c })?;
+    }
+    Ok(terms)
 }
 
 /// The normal form of a row whose variables ascend.
