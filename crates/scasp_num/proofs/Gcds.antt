@@ -1,6 +1,7 @@
 -- Laws of the greatest common divisor.
 use Rattle.std.proofs.Common.{◌≡◌, ℕ, zero, suc, ◌+◌, ◌*◌, ◌/◌, ◌%◌, ◌<◌, ◌≤◌, refl, sym, ap, subst, ◌∙◌, arith}
 use Rattle.std.specs.Int.{IsGcd, ◌∣◌}
+use Rattle.std.proofs.lemmas.Int.{to_z-of_z}
 use Rattle.std.proofs.lemmas.Nat.Gcd.{IsGcd-from_zero, IsGcd-from_mod, IsGcd-swap, same_from_IsGcd}
 use Rattle.std.proofs.Math.Nat.{div-add-mod, mod-lt, mod-eq_of_lt, mul-add-mod_self_left, mul-lt-mul_of_pos_left, mul-pos, mul-zero, mul-one, mul_comm, mul-div_cancel', eq_of_mul-eq-mul_left, dvd-mul_left, dvd-zero, dvd_trans, pos_of_dvd_of_pos, eq-one_of_dvd-one}
 use Rattle.scasp_num.specs.Gcd.{gcd, gcd_within}
@@ -79,7 +80,7 @@ gcd-divided a b h =
     let left : g * (a / g) ≡ a = mul-div_cancel' g (gcd-is a b).0 in
     let right : g * (b / g) ≡ b = mul-div_cancel' g (gcd-is a b).1 in
     let all : g * gcd (a / g) (b / g) ≡ g * 1 =
-      sym (gcd-mul g (a / g) (b / g) h) ∙ ap (λ x. gcd x (g * (b / g))) left ∙ ap (gcd a) right ∙ sym (mul-one g) in
+    sym (gcd-mul g (a / g) (b / g) h) ∙ ap (λ x. gcd x (g * (b / g))) left ∙ ap (gcd a) right ∙ sym (mul-one g) in
     eq_of_mul-eq-mul_left g h (gcd (a / g) (b / g)) 1 all
 
 -- Euclid's lemma
@@ -107,3 +108,12 @@ coprime-mul a b c e f = gcd-one (a * b) c
 
 pub gcd_pos : (a b g : ℕ) → g ≡ gcd a b → {m : ℕ} → 0 < m → b ≡ m → 0 < g
 gcd_pos a b g e {m} h same = subst (λ x. 0 < x) (sym e) (gcd-pos_right a b (subst (λ x. 0 < x) (sym same) h))
+
+pub gcd_assoc : (a b c : ℕ) → gcd (gcd a b) c ≡ gcd a (gcd b c)
+gcd_assoc a b c =
+    let l = gcd-is a b in
+    let r = gcd-is b c in
+    let all = gcd-is a (gcd b c) in
+    gcd-same (gcd a b) c (gcd a (gcd b c)) (l.2 _ all.0 (dvd_trans _ all.1 r.0), dvd_trans _ all.1 r.1, λ d p q. all.2 d (dvd_trans d p l.0) (r.2 d (dvd_trans d p l.1) q))
+
+pub ruleset divisors = (gcd_assoc, gcd-zero, to_z-of_z)

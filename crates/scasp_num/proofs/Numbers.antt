@@ -1,5 +1,5 @@
 -- Laws of bounded arithmetic on numbers.
-use Rattle.std.proofs.Common.{Result, Ok, Err, to_z, of_z, T, eq-eqb, ◌≡◌, ℕ, zero, suc, ◌+◌, ◌*◌, ◌/◌, ◌^◌, ◌<◌, ◌≤◌, ◌≢◌, Bool, true, false, ◌&&◌, nat_eq, nat_lt, ℤ, pos, negsuc, ◌+ℤ◌, ◌-ℤ◌, ◌*ℤ◌, neg_ℤ, ◌<ℤ◌, unsigned_abs, int_div, Option, Some, None, refl, sym, ap, subst, ◌∙◌, arith}
+use Rattle.std.proofs.Common.{Result, Ok, Err, to_z, of_z, T, eq-eqb, ◌≡◌, ℕ, zero, suc, ◌*◌, ◌/◌, ◌^◌, ◌<◌, ◌≢◌, Bool, true, false, ◌&&◌, nat_lt, ℤ, pos, negsuc, ◌+ℤ◌, ◌-ℤ◌, ◌*ℤ◌, neg_ℤ, ◌<ℤ◌, unsigned_abs, int_div, Some, None, refl, sym, ap, subst, ◌∙◌, arith}
 use Rattle.std.specs.Int.{◌∣◌, w128}
 use borrow.Author.Tests.{ltb-true}
 use Rattle.std.proofs.Math.Nat.{mul-div_cancel', mul-pos, dvd-mul_left}
@@ -14,7 +14,7 @@ use Rattle.scasp_num.specs.Number.{Number, IsReduced, IsReduced-prop, IsFraction
 use Rattle.scasp_num.specs.Arithmetic.{in_range, within, is_reduced, number, number_if, IsReduced-from_test, signed, signs_differ, lowest, sum_of, product_of, unsigned_abs-neg, negation_of}
 use Rattle.std.proofs.Math.IntN.{neg_ℤ-neg_ℤ, +ℤ_idl}
 use Rattle.scasp_num.proofs.Integers.{neg-*ℤ}
-use Rattle.scasp_num.proofs.Gcds.{gcd_comm, coprime-dvd, coprime-mul, gcd-is, gcd-divided, gcd-pos_right, gcd-pos_left}
+use Rattle.scasp_num.proofs.Gcds.{gcd_comm, coprime-dvd, coprime-mul, gcd-is, gcd-divided, gcd-pos_right}
 
 pub unsigned_abs-pos : (z : ℤ) → z ≢ pos 0 → 0 < unsigned_abs z
 unsigned_abs-pos (pos zero) h = absurd (h refl)
@@ -59,8 +59,11 @@ number-of q = number_if-of q (is_reduced q.num q.den) refl (is_reduced-of q.num 
 pub number-at : (q : Number) (a b : ℤ) → q.num ≡ a → q.den ≡ b → Some q ≡ number a b
 number-at q a b e f = number-of q ∙ (λ i. number (e i) (f i))
 
-ltb_lt : {m n : ℕ} → nat_lt m n ≡ true → m < n
+pub ltb_lt : {m n : ℕ} → nat_lt m n ≡ true → m < n
 ltb_lt {m} {n} e = omega (arith, ltb-true m n e)
+
+pub lt_ltb : {m n : ℕ} → m < n → nat_lt m n ≡ true
+lt_ltb {m} {n} h = grind (arith, nat_tests)
 
 pub within-some : (x z : ℤ) → Some x ≡ within z → (x ≡ z) × InRange x
 within-some x z e = by (in_range z) refl e
@@ -79,9 +82,8 @@ lowest-IsReduced n d h =
     let quotient : 0 < k / gcd m k = div-pos k (gcd m k) (gcd-is m k).1 above in
     record {
       positive = omega (arith, ints);
-      lowest = ap (λ x. gcd x (k / gcd m k)) (unsigned_abs-signed (signs_differ n d) (m / gcd m k)) ∙ gcd-divided m k g
+      lowest = ap (λ x. gcd x (k / gcd m k)) (unsigned_abs-signed (signs_differ n d) (m / gcd m k)) ∙ gcd-divided m k g;
     }
-
 
 -- two numbers, each times the other's quotient by a common divisor
 pub cross : (x y g : ℕ) → g ∣ x → g ∣ y → x / g * y ≡ x * (y / g)
@@ -91,7 +93,7 @@ cross x y g p q =
     regroup : (a b c : ℕ) → a * (b * c) ≡ b * a * c
     regroup a b c = omega arith
 
-below-zero : (a : ℕ) → int_lt (pos a) (pos 0) ≡ false
+pub below-zero : (a : ℕ) → int_lt (pos a) (pos 0) ≡ false
 below-zero a = ltb-none a
   where
     ltb-none : (a : ℕ) → nat_lt a 0 ≡ false
@@ -114,7 +116,7 @@ IsLowest-from n d num den flag size parts g f s p e a b =
     let e' : g ≡ gcd (unsigned_abs n) (unsigned_abs d) = e ∙ (λ i. gcd (s i) (p i)) in
     record {
       num_is = a ∙ (λ i. within (signed (f i) (s i / e' i)));
-      den_is = b ∙ (λ i. within (pos (p i / e' i)))
+      den_is = b ∙ (λ i. within (pos (p i / e' i)));
     }
 
 pub IsLowest-IsReduced : (n d num den : ℤ) → d ≢ pos 0 → IsLowest n d num den → IsReduced num den
@@ -173,7 +175,7 @@ IsLowest-number n d num den q l made =
     let p = number-parts q num den e in
     (e ∙ IsLowest-value n d num den l, ap (λ x. x *ℤ d) p.0 ∙ IsLowest-exact n d num den l ∙ ap (λ x. n *ℤ x) (sym p.1))
 
-unsigned_abs-over : (z : ℤ) (g : ℕ) → unsigned_abs (int_div z (pos g)) ≡ unsigned_abs z / g
+pub unsigned_abs-over : (z : ℤ) (g : ℕ) → unsigned_abs (int_div z (pos g)) ≡ unsigned_abs z / g
 unsigned_abs-over (pos n) g = refl
 unsigned_abs-over (negsuc n) g = unsigned_abs-signed true (suc n / g)
 
@@ -232,7 +234,7 @@ product-IsReduced p q num den e f =
     let m : unsigned_abs den ≡ b / h * (d / g) = ap unsigned_abs f ∙ unsigned_abs-mul (int_div p.den (pos h)) (int_div q.den (pos g)) ∙ (λ i. unsigned_abs-over p.den h i * unsigned_abs-over q.den g i) in
     record {
       positive = subst (λ x. pos 0 <ℤ x) (sym f) (times-pos (int_div p.den (pos h)) (int_div q.den (pos g)) (over-pos p.den h p.reduced.positive (gcd-is c b).1) (over-pos q.den g q.reduced.positive (gcd-is a d).1));
-      lowest = (λ i. gcd (n i) (m i)) ∙ coprime_across a b c d p.reduced.lowest q.reduced.lowest (above p.den p.reduced.positive) (above q.den q.reduced.positive)
+      lowest = (λ i. gcd (n i) (m i)) ∙ coprime_across a b c d p.reduced.lowest q.reduced.lowest (above p.den p.reduced.positive) (above q.den q.reduced.positive);
     }
   where
     above : (z : ℤ) → pos 0 <ℤ z → 0 < unsigned_abs z

@@ -1,5 +1,5 @@
 -- Bounded arithmetic on numbers. Each operation forms stated integers, and has no result where one of them lies outside -M..M, where M is 2^127 - 1.
-use Rattle.std.specs.Prelude.{◌≡◌, ℕ, ◌<◌, ◌^◌, ◌/◌, Bool, true, false, ◌&&◌, ◌==◌, nat_lt, if◌then◌else◌, ℤ, pos, negsuc, ◌+ℤ◌, ◌*ℤ◌, neg_ℤ, ◌<ℤ◌, unsigned_abs, int_lt, int_div, Option, Some, None, option_and_then}
+use Rattle.std.specs.Prelude.{◌≡◌, ℕ, ◌^◌, ◌/◌, Bool, true, false, ◌&&◌, ◌==◌, nat_lt, if◌then◌else◌, ℤ, pos, negsuc, ◌+ℤ◌, ◌*ℤ◌, neg_ℤ, ◌<ℤ◌, unsigned_abs, int_lt, int_div, Option, Some, None, option_and_then, List, [], ◌∷◌}
 use Rattle.std.proofs.Common.{arith, zero, suc, refl, ap, ◌∙◌}
 use Rattle.std.proofs.lemmas.Bool.{and_parts, eqb-true}
 use Rattle.std.proofs.lemmas.Int.{ints}
@@ -86,12 +86,39 @@ unsigned_abs-neg (negsuc n) = refl
 
 pub IsReduced-neg : (q : Number) → IsReduced (neg_ℤ q.num) q.den
 IsReduced-neg q = record {
-    positive = q.reduced.positive;
-    lowest = ap (λ x. gcd x (unsigned_abs q.den)) (unsigned_abs-neg q.num) ∙ q.reduced.lowest
-  }
+  positive = q.reduced.positive;
+  lowest = ap (λ x. gcd x (unsigned_abs q.den)) (unsigned_abs-neg q.num) ∙ q.reduced.lowest;
+}
 
 abbrev pub negation_of : Number → Number
 negation_of q = record { num = neg_ℤ q.num; den = q.den; reduced = IsReduced-neg q }
 
 unfoldable pub difference_of : Number → Number → Option Number
 difference_of p q = sum_of p (negation_of q)
+
+-- ---- the integers that each operation forms: it has a result where all of them lie in range
+
+abbrev pub lowest_integers : ℤ → ℤ → List ℤ
+lowest_integers n d =
+    let g = pos (gcd (unsigned_abs n) (unsigned_abs d)) in
+    int_div n g ∷ int_div d g ∷ []
+
+abbrev pub sum_integers : Number → Number → List ℤ
+sum_integers p q =
+    let g = pos (gcd (unsigned_abs p.den) (unsigned_abs q.den)) in
+    let left = p.num *ℤ int_div q.den g in
+    let right = q.num *ℤ int_div p.den g in
+    left ∷ right ∷ (left +ℤ right) ∷ (p.den *ℤ int_div q.den g) ∷ []
+
+abbrev pub product_integers : Number → Number → List ℤ
+product_integers p q =
+    let g = pos (gcd (unsigned_abs p.num) (unsigned_abs q.den)) in
+    let h = pos (gcd (unsigned_abs q.num) (unsigned_abs p.den)) in
+    (int_div p.num g *ℤ int_div q.num h) ∷ (int_div p.den h *ℤ int_div q.den g) ∷ []
+
+-- of the product with q turned over, its sign aside
+abbrev pub quotient_integers : Number → Number → List ℤ
+quotient_integers p q =
+    let g = pos (gcd (unsigned_abs p.num) (unsigned_abs q.num)) in
+    let h = pos (gcd (unsigned_abs q.den) (unsigned_abs p.den)) in
+    (int_div p.num g *ℤ int_div q.den h) ∷ (int_div p.den h *ℤ int_div q.num g) ∷ []

@@ -4,6 +4,7 @@
 mod bounded;
 pub mod hints;
 pub mod linear;
+mod normal;
 pub mod rational;
 
 pub use hints::{Step, StepLists, Steps};

@@ -1,7 +1,6 @@
 use Rattle.std.proofs.Common.{◌≡◌, ◌<◌, sym, ap, subst, ◌∙◌, arith}
 use Rattle.std.specs.Int.{IsGcd}
 use Rattle.scasp_num.specs.Gcd.{gcd}
-use Rattle.scasp_num.proofs.Integers.{*ℤ_assoc}
 use Rattle.scasp_num.proofs.Gcds.{gcd-is, gcd-zero, gcd-mod, gcd-pos_left, gcd-pos_right}
 use Rattle.scasp_num.proofs.rational.gcd.Goals as goal
 
