@@ -1,14 +1,12 @@
 -- Small cases of the definitions, computed.
-use Rattle.std.specs.Prelude.{◌≡◌, ℕ, Bool, true, false, ℤ, pos, negsuc, List, [], ◌∷◌, Option, Some, None}
+use Rattle.std.specs.Prelude.{◌≡◌, ℕ, Bool, true, false, pos, negsuc, [], ◌∷◌, Some, None}
 use Rattle.std.proofs.Common.{refl}
-use Rattle.scasp_num.specs.Number.{Number}
 use Rattle.scasp_num.specs.declared.linear.Op.TheVariants as op
 use Rattle.scasp_syntax.specs.Constraints.{holds}
 use Rattle.scasp_syntax.specs.Programs.{predicates, rules_of, pred_of}
-use Rattle.scasp_syntax.specs.Tm.{Tm, Tms, var, num, app, nil, cons, weight}
+use Rattle.scasp_syntax.specs.Tm.{Tms, var, app, nil, cons, weight}
 use Rattle.scasp_syntax.specs.Values.{Sub, under, raised}
 use Rattle.scasp_syntax.specs.declared.atom.Atom.{Atom}
-use Rattle.scasp_syntax.specs.declared.atom.Lit.{Lit}
 use Rattle.scasp_syntax.specs.declared.clause.Clause.{Clause}
 use Rattle.scasp_syntax.specs.declared.clause.Item.{Item}
 use Rattle.scasp_syntax.specs.declared.clause.Item.TheVariants.{Call}
