@@ -1,3 +1,4 @@
 pub mod Gcd
 pub mod Number
+pub mod Arithmetic
 pub mod Linear

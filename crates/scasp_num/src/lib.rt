@@ -1,8 +1,10 @@
 //! Exact rational numbers of 128 bits, and linear comparisons over them in normal form.
 #![tactic(auto)]
 
+mod bounded;
 pub mod hints;
 pub mod linear;
+mod normal;
 pub mod rational;
 
 pub use hints::{Step, StepLists, Steps};

@@ -3,6 +3,7 @@ ghost use Rattle.std.specs.Prelude.{◌≡◌, [], ◌∷◌, ◌++◌, length, 
 ghost use Rattle.std.specs.Option.{option_copied};
 
 use crate::Memory;
+use crate::normal::{negated, negated_if};
 use crate::rational::Rat;
 use std::alloc::Global;
 use std::marker::Model;
@@ -47,6 +48,11 @@ impl Model for Coeffs {
 }
 
 impl Coeffs {
+    /// The allocator that the list was made with.
+    pub(crate) fn allocator(&self) -> Global {
+        *self.list.allocator()
+    }
+
     /// The empty list; it takes no memory.
     pub fn new(alloc: Global) -> Self
         ensures { result ≡ [] }
@@ -158,7 +164,35 @@ impl Model for Row {
 }
 
 impl Row {
-    ghost use Rattle.scasp_num.specs.Linear.{IsNormal};
+    ghost use Rattle.std.specs.Prelude.{◌↔◌, ℕ, ℤ, IfOk, Option, pos, ◌<ℤ◌, ◌*ℤ◌};
+    ghost use Rattle.scasp_num.specs.Linear.{IsNormal, Meets, negation, put_of, Gives, replaced};
+
+    /// The row that is met exactly where this one is not.
+    pub fn negate(&self) -> Result<Row, Memory>
+        ensures value { IfOk result (λ row. row ≡ negation self.now) }
+        ensures meets { IfOk result
+            (λ row. (m : ℕ → ℤ) (d : ℤ) → Meets m d row ↔ (¬ Meets m d self.now)) }
+        ensures normal { IfOk result IsNormal }
+    {
+        let op = self.op();
+        let negate = !op.is_symmetric();
+        let alloc = self.coeffs.allocator();
+        let terms = self.coeffs().as_slice();
+        let coeffs = negated(alloc, negate, terms)?;
+        let constant = negated_if(negate, self.constant());
+        Ok(Row::from_normal(coeffs, constant, op.opposite()))
+    }
+
+    pub(crate) fn from_normal(coeffs: Coeffs, constant: i128, op: Op) -> Self
+        requires { IsNormal (record { coeffs = coeffs; constant = constant; op = op }) }
+        ensures { result ≡ record { coeffs = coeffs; constant = constant; op = op } }
+    {
+        Row {
+            coeffs,
+            constant,
+            op,
+        }
+    }
 
     pub fn coeffs(&self) -> &Coeffs
         ensures value { result.now ≡ self.now.coeffs }
