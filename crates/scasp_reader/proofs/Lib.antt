@@ -4,3 +4,4 @@ pub mod Refusals
 pub mod Lexing
 pub mod Parsing
 pub mod Ruling
+pub mod Whole

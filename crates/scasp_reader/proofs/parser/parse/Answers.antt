@@ -44,8 +44,7 @@ pub returns-in-Dot : goal.returns-in-Dot
 returns-in-Dot c =
     let ts = c.args.tokens.now in
     let l = c.loop-first in
-    let is = c.in-Dot.is in
-    record { ok = tt; refused = (lists-none ts (rules-sign ts l.place l.clauses _ l.invariant.1 c.in-Some.first (sym c.in-Some.ensures) ?), refl, refl) }
+    record { ok = tt; refused = (lists-none ts (rules-sign ts l.place l.clauses _ l.invariant.1 c.in-Some.first (sym c.in-Some.ensures) c.in-Dot.is), refl, refl) }
 
 pub returns-clause-refused : goal.returns-clause-refused
 returns-clause-refused c =
