@@ -5,3 +5,4 @@ pub mod Lexing
 pub mod Parsing
 pub mod Ruling
 pub mod Whole
+pub mod Spelled
