@@ -31,7 +31,7 @@ pub front-out : (b : ℕ) (bs : List ℕ) → is_name_byte b ≡ false → front
 front-out b bs e = take_while-cons is_name_byte b bs ∙ cond-false _ _ _ e
 
 module _ (names : List (List ℕ)) (text : List ℕ) (rest : Place → List (List ℕ) → Option Lexed) where
-  goes_on : (c : Class) → is_name_class c ≡ true → lexed_at in_name c names text rest ≡ rest in_name names
+  pub goes_on : (c : Class) → is_name_class c ≡ true → lexed_at in_name c names text rest ≡ rest in_name names
   goes_on Lower e = refl
   goes_on Inner e = refl
   goes_on Blank e = cc
@@ -42,7 +42,7 @@ module _ (names : List (List ℕ)) (text : List ℕ) (rest : Place → List (Lis
   goes_on Dash e = cc
   goes_on Other e = cc
 
-  stops : (c : Class) → is_name_class c ≡ false → lexed_at in_name c names text rest ≡ lexed_at between c names text rest
+  pub stops : (c : Class) → is_name_class c ≡ false → lexed_at in_name c names text rest ≡ lexed_at between c names text rest
   stops Lower e = cc
   stops Inner e = cc
   stops Blank e = refl

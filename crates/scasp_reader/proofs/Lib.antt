@@ -6,3 +6,6 @@ pub mod Parsing
 pub mod Ruling
 pub mod Whole
 pub mod Spelled
+pub mod Fronts
+pub mod Lexical
+pub mod Readings
