@@ -9,12 +9,12 @@ use Rattle.scasp_reader.specs.declared.byte_class.Class.{Class}
 use Rattle.scasp_reader.specs.declared.byte_class.Class.TheVariants as bytes
 use Rattle.scasp_reader.specs.declared.token.Token.{Token}
 use Rattle.scasp_reader.specs.declared.token.Token.TheVariants.{Word, Dot, Comma, If, Query}
-use Rattle.scasp_reader.specs.Bytes.{is_blank, is_lower, is_name, is_name_byte, ends_name, class_of}
+use Rattle.scasp_reader.specs.Bytes.{is_blank, is_lower, is_name, is_name_byte, name_at, ends_name, class_of}
 use Rattle.scasp_reader.specs.Lexis.{place_of, Lexes}
-use Rattle.scasp_reader.specs.Reading.{Lexed, with_tokens, Place, between, in_name, behind_colon, behind_question, lexed_at, lexed_from, lexed_in}
+use Rattle.scasp_reader.specs.Lexed.{Lexed, with_tokens, Place, between, in_name, behind_colon, behind_question, lexed_at, lexed_from, lexed_in}
 use Rattle.scasp_reader.proofs.Classes.{ClassMeans, class_means, Blank-from_test, Lower-from_test, is_name_class, is_name_class-class_of}
-use Rattle.scasp_reader.proofs.Fronts.{front-append, both, not-true}
-use Rattle.scasp_reader.proofs.Lexing.{front, goes_on, stops, lexed-word}
+use Rattle.scasp_reader.proofs.Fronts.{name_at-append, both, not-true}
+use Rattle.scasp_reader.proofs.Lexing.{goes_on, stops, lexed-word}
 use Rattle.scasp_reader.proofs.Spelled.{of_map}
 
 -- a blank more in front
@@ -40,7 +40,7 @@ FollowsAs place names bs lexed = Follows place names bs lexed.tokens lexed.names
 -- one byte, where the bytes behind it follow
 module _ (b : ℕ) (bs : List ℕ) (names : List (List ℕ)) (follows : (next : Place) (known : List (List ℕ)) (lexed : Lexed) → lexed_from next known bs ≡ Some lexed → FollowsAs next known bs lexed) where
   abbrev at : Place → Class → Option Lexed
-  at place c = lexed_at place c names (b ∷ front bs) (λ next known. lexed_from next known bs)
+  at place c = lexed_at place c names (b ∷ name_at bs) (λ next known. lexed_from next known bs)
 
   sign : (code : ℕ) (token : Token) (lexed : Lexed) → b ≡ code → option_map (with_tokens (token ∷ [])) (lexed_from between names bs) ≡ Some lexed
       → (P : List Token → List (List ℕ) → Type 0) → ((l : Lexed) → Lexes names bs l.tokens l.names → P (token ∷ l.tokens) l.names) → P lexed.tokens lexed.names
@@ -49,18 +49,18 @@ module _ (b : ℕ) (bs : List ℕ) (names : List (List ℕ)) (follows : (next : 
       let Q : Lexed → Type 0 = λ l. P l.tokens l.names in
       subst Q x.2 (f x.0 (follows between names x.0 x.1))
 
-  name : (lexed : Lexed) → is_lower b ≡ true → (t : Bool) → bytes_eq (b ∷ front bs) (codes "not") ≡ t
-      → (if t then None else option_map (with_tokens (Word (place_of names (b ∷ front bs)) ∷ [])) (lexed_from in_name (with_text names (b ∷ front bs)) bs)) ≡ Some lexed
+  name : (lexed : Lexed) → is_lower b ≡ true → (t : Bool) → bytes_eq (b ∷ name_at bs) (codes "not") ≡ t
+      → (if t then None else option_map (with_tokens (Word (place_of names (b ∷ name_at bs)) ∷ [])) (lexed_from in_name (with_text names (b ∷ name_at bs)) bs)) ≡ Some lexed
       → FollowsAs between names (b ∷ bs) lexed
   name lexed m true q e = cc
   name lexed m false q e =
-      let text = b ∷ front bs in
+      let text = b ∷ name_at bs in
       let x = of_map (with_tokens (Word (place_of names text) ∷ [])) (lexed_from in_name (with_text names text) bs) lexed e in
       let f = follows in_name (with_text names text) x.0 x.1 in
       let run = f.0 in
       let rest = f.1 in
-      let is_run : front bs ≡ run = ap front f.4 ∙ front-append run rest f.2 f.3 in
-      let all : list_all is_name_byte (front bs) ≡ true = ap (list_all is_name_byte) is_run ∙ f.2 in
+      let is_run : name_at bs ≡ run = ap name_at f.4 ∙ name_at-append run rest f.2 f.3 in
+      let all : list_all is_name_byte (name_at bs) ≡ true = ap (list_all is_name_byte) is_run ∙ f.2 in
       let split : (b ∷ bs) ≡ text ++ rest = ap (λ r. b ∷ r) (f.4 ∙ ap (λ r. r ++ rest) (sym is_run)) in
       let is_text : is_name text ≡ true = rw (m, all, q) refl in
       let Q : Lexed → Type 0 = λ l. Lexes names (b ∷ bs) l.tokens l.names in
@@ -78,7 +78,7 @@ module _ (b : ℕ) (bs : List ℕ) (names : List (List ℕ)) (follows : (next : 
       let f = follows behind_question names lexed e in
       let Q : List Token → Type 0 = λ ts. Lexes names (b ∷ bs) ts lexed.names in
       subst Q (sym f.3) ([], f.0, refl, ap (λ x. x ∷ bs) m ∙ ap (λ r. 63 ∷ r) f.2, f.4)
-  follows-between lexed bytes.Lower m e = name lexed m (bytes_eq (b ∷ front bs) (codes "not")) refl e
+  follows-between lexed bytes.Lower m e = name lexed m (bytes_eq (b ∷ name_at bs) (codes "not")) refl e
   follows-between lexed bytes.Inner m e = cc
   follows-between lexed bytes.Dash m e = cc
   follows-between lexed bytes.Other m e = cc
@@ -130,7 +130,7 @@ lexed_in-blanks : (names : List (List ℕ)) (blanks rest : List ℕ) → list_al
 lexed_in-blanks names [] rest h = refl
 lexed_in-blanks names (b ∷ blanks) rest h =
     let p = and_parts (is_blank b) (list_all is_blank blanks) h in
-    ap (λ c. lexed_at between c names (b ∷ front (blanks ++ rest)) (λ next known. lexed_from next known (blanks ++ rest))) (Blank-from_test b p.0) ∙ lexed_in-blanks names blanks rest p.1
+    ap (λ c. lexed_at between c names (b ∷ name_at (blanks ++ rest)) (λ next known. lexed_from next known (blanks ++ rest))) (Blank-from_test b p.0) ∙ lexed_in-blanks names blanks rest p.1
 
 lexed_in-name : (names : List (List ℕ)) (text rest : List ℕ) → is_name text ≡ true → ends_name rest ≡ true
     → lexed_in names (text ++ rest) ≡ option_map (with_tokens (Word (place_of names text) ∷ [])) (lexed_in (with_text names text) rest)
@@ -139,8 +139,8 @@ lexed_in-name names (b ∷ bs) rest n e =
     let p = and_parts (is_lower b && list_all is_name_byte bs) (not (bytes_eq (b ∷ bs) (codes "not"))) n in
     let q = and_parts (is_lower b) (list_all is_name_byte bs) p.0 in
     let all : list_all is_name_byte (b ∷ bs) ≡ true = both (is_name_byte b) (list_all is_name_byte bs) (rw q.0 refl) q.1 in
-    let is_front : front (b ∷ bs ++ rest) ≡ b ∷ bs = front-append (b ∷ bs) rest all e in
-    let no_not : bytes_eq (front (b ∷ bs ++ rest)) (codes "not") ≡ false = ap (λ x. bytes_eq x (codes "not")) is_front ∙ not-true _ p.1 in
+    let is_front : name_at (b ∷ bs ++ rest) ≡ b ∷ bs = name_at-append (b ∷ bs) rest all e in
+    let no_not : bytes_eq (name_at (b ∷ bs ++ rest)) (codes "not") ≡ false = ap (λ x. bytes_eq x (codes "not")) is_front ∙ not-true _ p.1 in
     let Q : List ℕ → Type 0 = λ x. lexed_in names (b ∷ bs ++ rest) ≡ option_map (with_tokens (Word (place_of names x) ∷ [])) (lexed_in (with_text names x) (drop (length x) (b ∷ bs ++ rest))) in
     let at_text = subst Q is_front (lexed-word names (b ∷ bs ++ rest) (omega arith) (Lower-from_test b q.0) no_not) in
     at_text ∙ ap (λ r. option_map (with_tokens (Word (place_of names (b ∷ bs)) ∷ [])) (lexed_in (with_text names (b ∷ bs)) r)) (drop_at (b ∷ bs) rest (length (b ∷ bs)) refl)

@@ -5,7 +5,8 @@ use Rattle.scasp_reader.specs.declared.token.Token.{Token}
 use Rattle.scasp_reader.specs.Spelling.{tokens_of}
 use Rattle.scasp_reader.specs.Lexis.{Lexes}
 use Rattle.scasp_reader.specs.Parse.{source_in}
-use Rattle.scasp_reader.specs.Reading.{Reading, Reads, Lexed, lexed_in, reading_of, program_in}
+use Rattle.scasp_reader.specs.Reading.{Reading, Reads, reading_of, program_in}
+use Rattle.scasp_reader.specs.Lexed.{Lexed, lexed_in}
 use Rattle.scasp_reader.proofs.Spelled.{of_map, source_in-spells, source_in-tokens_of}
 use Rattle.scasp_reader.proofs.Lexical.{lexed_in-Lexes, Lexes-lexed_in}
 use Rattle.scasp_reader.proofs.Whole.{program_in-unlexed, program_in-lexed}

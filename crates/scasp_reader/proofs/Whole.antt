@@ -7,7 +7,9 @@ use Rattle.scasp_syntax.specs.declared.clause.Query.{Query}
 use Rattle.scasp_reader.specs.declared.token.Token.{Token}
 use Rattle.scasp_reader.specs.Source.{Source}
 use Rattle.scasp_reader.specs.Parse.{source_in}
-use Rattle.scasp_reader.specs.Reading.{Reading, Lexed, lexed_in, lists_of, reading_of, program_in}
+use Rattle.scasp_reader.specs.Reading.{Reading, reading_of, program_in}
+use Rattle.scasp_reader.specs.Lexed.{Lexed, lexed_in}
+use Rattle.scasp_reader.specs.Meaning.{lists_of}
 
 -- the reading of lexed bytes
 abbrev read_lexed : Lexed → Option Reading

@@ -20,10 +20,11 @@ loop-first-preserved c =
     let ts = c.args.tokens.now in
     let l = c.loop-first in
     let found = c.in_ok-body-in-Word in
-    let pushed : c.push.new.self ≡ l.clauses ++ clause_from c.in-Word.head found.body ∷ [] = c.in_ok-push-in-Word.ensures.ok ∙ ap (λ x. l.clauses ++ x ∷ []) c.clause.ensures in
-    ( found.ensures.within,
+    let pushed : c.push.new.self ≡ l.clauses ++ clause_from c.in-Word.head found.body ∷ [] = c.in_ok-push-in-Word.ensures.ok ∙ ap (λ x. l.clauses ++ x ∷ []) c.clause.ensures in (
+      found.ensures.within,
       rw pushed (rules-more ts l.place l.clauses _ l.invariant.1 c.in-Word.head found.body found.behind (sym c.in-Some.ensures ∙ ap Some c.in-Word.is) found.ensures.ok),
-      rw pushed (list_all-push is_clause_well_formed l.clauses (clause_from c.in-Word.head found.body) l.invariant.2 found.ensures.plain) )
+      rw pushed (list_all-push is_clause_well_formed l.clauses (clause_from c.in-Word.head found.body) l.invariant.2 found.ensures.plain),
+    )
 
 pub query-requires-clause-start : goal.query-requires-clause-start
 query-requires-clause-start c = omega (arith, slice_get_within c.args.tokens.now c.loop-first.place _ (sym c.in-Some.ensures))

@@ -1,6 +1,6 @@
 use Rattle.std.proofs.Common.{◌≡◌, Some, sym, ap, ◌∙◌}
 use Rattle.std.proofs.lemmas.Result.{err_from_is_err_and, IfOk-weaker, IfErr-weaker}
-use Rattle.scasp_reader.specs.Reading.{Lexed, lexed_in}
+use Rattle.scasp_reader.specs.Lexed.{Lexed, lexed_in}
 use Rattle.scasp_reader.proofs.Refusals.{IsUnsupported-weaker, IsCause-outside}
 use Rattle.scasp_reader.proofs.Whole.{program_in-unlexed, program_in-unparsed, program_in-parsed}
 use Rattle.scasp_reader.proofs.program.read_program.Goals as goal
