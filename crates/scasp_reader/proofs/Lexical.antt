@@ -1,5 +1,5 @@
 -- What is lexed from bytes is what they spell, and back.
-use Rattle.std.proofs.Common.{◌≡◌, ℕ, ◌<◌, Bool, true, false, ◌&&◌, not, List, [], ◌∷◌, ◌++◌, length, drop, get_or, codes, Option, None, Some, option_map, refl, sym, ap, ◌∙◌, subst, arith, append-nil, if◌then◌else◌}
+use Rattle.std.proofs.Common.{◌≡◌, ℕ, Bool, true, false, ◌&&◌, not, List, [], ◌∷◌, ◌++◌, length, drop, codes, Option, None, Some, option_map, refl, sym, ap, ◌∙◌, subst, arith, append-nil, if◌then◌else◌}
 use Rattle.std.specs.List.{list_all}
 use Rattle.std.specs.Str.{bytes_eq}
 use Rattle.std.proofs.lemmas.Bool.{and_parts}
@@ -12,7 +12,7 @@ use Rattle.scasp_reader.specs.declared.token.Token.TheVariants.{Word, Dot, Comma
 use Rattle.scasp_reader.specs.Bytes.{is_blank, is_lower, is_name, is_name_byte, name_at, ends_name, class_of}
 use Rattle.scasp_reader.specs.Lexis.{place_of, Lexes}
 use Rattle.scasp_reader.specs.Lexed.{Lexed, with_tokens, Place, between, in_name, behind_colon, behind_question, lexed_at, lexed_from, lexed_in}
-use Rattle.scasp_reader.proofs.Classes.{ClassMeans, class_means, Blank-from_test, Lower-from_test, is_name_class, is_name_class-class_of}
+use Rattle.scasp_reader.proofs.Classes.{ClassMeans, class_means, Blank-from_test, Lower-from_test, is_name_class-class_of}
 use Rattle.scasp_reader.proofs.Fronts.{name_at-append, both, not-true}
 use Rattle.scasp_reader.proofs.Lexing.{goes_on, stops, lexed-word}
 use Rattle.scasp_reader.proofs.Spelled.{of_map}

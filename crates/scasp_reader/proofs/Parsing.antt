@@ -1,5 +1,5 @@
 -- Goals at the front of tokens that are still to be read.
-use Rattle.std.proofs.Common.{◌≡◌, ◌≢◌, ℕ, zero, suc, ◌+◌, List, [], ◌∷◌, ◌++◌, drop, get_or, slice_get, Option, None, Some, refl, sym, ap, ◌∙◌, append_assoc, arith, Bool, true, ◌&&◌, IsTrue}
+use Rattle.std.proofs.Common.{◌≡◌, ◌≢◌, ℕ, zero, suc, ◌+◌, List, [], ◌∷◌, ◌++◌, drop, get_or, slice_get, Option, None, Some, refl, sym, ap, ◌∙◌, append_assoc, arith, Bool, IsTrue}
 use Rattle.std.specs.List.{list_all}
 use Rattle.std.proofs.lemmas.List.Folds.{list_all-append}
 use Rattle.std.specs.Option.{option_map, option_and_then}

@@ -9,9 +9,9 @@ use Rattle.scasp_syntax.specs.declared.program.Program.{Program}
 use Rattle.scasp_reader.specs.declared.error.ReadError.{ReadError}
 use Rattle.scasp_reader.specs.declared.token.Token.{Token}
 use Rattle.scasp_reader.specs.declared.token.Token.TheVariants as tokens
-use Rattle.scasp_reader.specs.Meaning.{call_of, items_of, clause_from, clause_of, query_of, query_from, lists_of}
+use Rattle.scasp_reader.specs.Meaning.{items_of, clause_from, clause_of, query_of, query_from, lists_of}
 use Rattle.scasp_reader.specs.Source.{Goals, Source, fact, rule}
-use Rattle.scasp_reader.specs.Parse.{InBody, GoalsAt, one_goal, with_goal, with_goal_at, with_rule, goals_at, goals_in, source_in, body_in, items_at, rule_body_at}
+use Rattle.scasp_reader.specs.Parse.{InBody, GoalsAt, with_goal, with_goal_at, with_rule, goals_at, goals_in, source_in, body_in, items_at, rule_body_at}
 use Rattle.scasp_reader.proofs.Parsing.{drop-at, drop-none}
 
 -- the source behind a body, with the body
