@@ -4,7 +4,7 @@ use Rattle.std.proofs.lemmas.Bool.{eqb-true}
 use Rattle.std.proofs.lemmas.Bool.Decides.{nat_tests}
 use Rattle.scasp_reader.specs.declared.byte_class.Class.{Class}
 use Rattle.scasp_reader.specs.declared.byte_class.Class.TheVariants.{Blank, Stop, Comma, Colon, Question, Dash, Lower, Inner, Other}
-use Rattle.scasp_reader.specs.Bytes.{is_blank, is_lower, is_upper, is_digit, is_name_byte, class_of}
+use Rattle.scasp_reader.specs.Bytes.{is_blank, is_lower, is_name_byte, class_of}
 
 abbrev pub ClassMeans : Class → ℕ → Type 0
 ClassMeans Blank b = is_blank b ≡ true

@@ -1,7 +1,6 @@
 -- The tokens of bytes, by what stands at their front.
 use Rattle.std.proofs.Common.{◌≡◌, ℕ, ◌<◌, Bool, true, false, List, [], ◌∷◌, ◌++◌, append_assoc, length, get_or, drop, codes, Option, None, Some, Result, Ok, Err, IfOk, IfErr, OnOk, option_to_list, refl, sym, ap, ◌∙◌, subst, arith}
 use Rattle.std.specs.Option.{option_map}
-use Rattle.std.specs.List.{take_while}
 use Rattle.std.specs.Str.{bytes_eq}
 use Rattle.std.proofs.lemmas.List.Sums.{take_while-cons}
 use Rattle.std.proofs.lemmas.Bool.{cond-true, cond-false}
@@ -13,25 +12,21 @@ use Rattle.scasp_reader.specs.declared.byte_class.Class.TheVariants.{Blank, Stop
 use Rattle.scasp_reader.specs.declared.error.ReadError.{ReadError}
 use Rattle.scasp_reader.specs.declared.token.Token.{Token}
 use Rattle.scasp_reader.specs.declared.token.Token.TheVariants as tokens
-use Rattle.scasp_reader.specs.Bytes.{is_name_byte, class_of}
+use Rattle.scasp_reader.specs.Bytes.{is_name_byte, name_at, class_of}
 use Rattle.scasp_reader.specs.Lexis.{place_of}
-use Rattle.scasp_reader.specs.Reading.{Lexed, with_tokens, Place, between, in_name, lexed_at, lexed_from, lexed_in}
+use Rattle.scasp_reader.specs.Lexed.{Lexed, with_tokens, Place, between, in_name, lexed_at, lexed_from, lexed_in}
 use Rattle.scasp_reader.specs.Refusal.{IsUnsupported}
 use Rattle.scasp_reader.proofs.Classes.{is_name_class, is_name_class-class_of, name_byte-below}
 use Rattle.scasp_reader.proofs.Refusals.{IsUnsupported-weaker}
 
--- the bytes of a name at the front
-abbrev pub front : List ℕ → List ℕ
-front bytes = take_while is_name_byte bytes
+pub name_at-in : (b : ℕ) (bs : List ℕ) → is_name_byte b ≡ true → name_at (b ∷ bs) ≡ b ∷ name_at bs
+name_at-in b bs e = take_while-cons is_name_byte b bs ∙ cond-true _ _ _ e
 
-pub front-in : (b : ℕ) (bs : List ℕ) → is_name_byte b ≡ true → front (b ∷ bs) ≡ b ∷ front bs
-front-in b bs e = take_while-cons is_name_byte b bs ∙ cond-true _ _ _ e
-
-pub front-out : (b : ℕ) (bs : List ℕ) → is_name_byte b ≡ false → front (b ∷ bs) ≡ []
-front-out b bs e = take_while-cons is_name_byte b bs ∙ cond-false _ _ _ e
+pub name_at-out : (b : ℕ) (bs : List ℕ) → is_name_byte b ≡ false → name_at (b ∷ bs) ≡ []
+name_at-out b bs e = take_while-cons is_name_byte b bs ∙ cond-false _ _ _ e
 
 module _ (names : List (List ℕ)) (text : List ℕ) (rest : Place → List (List ℕ) → Option Lexed) where
-  goes_on : (c : Class) → is_name_class c ≡ true → lexed_at in_name c names text rest ≡ rest in_name names
+  pub goes_on : (c : Class) → is_name_class c ≡ true → lexed_at in_name c names text rest ≡ rest in_name names
   goes_on Lower e = refl
   goes_on Inner e = refl
   goes_on Blank e = cc
@@ -42,7 +37,7 @@ module _ (names : List (List ℕ)) (text : List ℕ) (rest : Place → List (Lis
   goes_on Dash e = cc
   goes_on Other e = cc
 
-  stops : (c : Class) → is_name_class c ≡ false → lexed_at in_name c names text rest ≡ lexed_at between c names text rest
+  pub stops : (c : Class) → is_name_class c ≡ false → lexed_at in_name c names text rest ≡ lexed_at between c names text rest
   stops Lower e = cc
   stops Inner e = cc
   stops Blank e = refl
@@ -76,39 +71,39 @@ module _ (names : List (List ℕ)) (text : List ℕ) (rest : Place → List (Lis
   at_not Other q e = cc
 
 -- the rest of a name is passed over
-pub lexed_from-in_name : (names : List (List ℕ)) (bs : List ℕ) → lexed_from in_name names bs ≡ lexed_in names (drop (length (front bs)) bs)
+pub lexed_from-in_name : (names : List (List ℕ)) (bs : List ℕ) → lexed_from in_name names bs ≡ lexed_in names (drop (length (name_at bs)) bs)
 lexed_from-in_name names [] = refl
 lexed_from-in_name names (b ∷ bs) = by (is_name_byte b) refl (lexed_from-in_name names bs)
   where
-    by : (t : Bool) → is_name_byte b ≡ t → lexed_from in_name names bs ≡ lexed_in names (drop (length (front bs)) bs)
-        → lexed_from in_name names (b ∷ bs) ≡ lexed_in names (drop (length (front (b ∷ bs))) (b ∷ bs))
+    by : (t : Bool) → is_name_byte b ≡ t → lexed_from in_name names bs ≡ lexed_in names (drop (length (name_at bs)) bs)
+        → lexed_from in_name names (b ∷ bs) ≡ lexed_in names (drop (length (name_at (b ∷ bs))) (b ∷ bs))
     by true e h =
-        goes_on names _ _ (class_of b) (is_name_class-class_of b ∙ e) ∙ h ∙ sym (ap (λ x. lexed_in names (drop (length x) (b ∷ bs))) (front-in b bs e))
+        goes_on names _ _ (class_of b) (is_name_class-class_of b ∙ e) ∙ h ∙ sym (ap (λ x. lexed_in names (drop (length x) (b ∷ bs))) (name_at-in b bs e))
     by false e h =
-        stops names _ _ (class_of b) (is_name_class-class_of b ∙ e) ∙ sym (ap (λ x. lexed_in names (drop (length x) (b ∷ bs))) (front-out b bs e))
+        stops names _ _ (class_of b) (is_name_class-class_of b ∙ e) ∙ sym (ap (λ x. lexed_in names (drop (length x) (b ∷ bs))) (name_at-out b bs e))
 
 Lower-in : (b : ℕ) → class_of b ≡ Lower → is_name_byte b ≡ true
 Lower-in b q = sym (is_name_class-class_of b) ∙ ap is_name_class q
 
-pub lexed-word : (names : List (List ℕ)) (bytes : List ℕ) → 0 < length bytes → class_of (get_or bytes 0 0) ≡ Lower → bytes_eq (front bytes) (codes "not") ≡ false
-    → lexed_in names bytes ≡ option_map (with_tokens (tokens.Word (place_of names (front bytes)) ∷ [])) (lexed_in (with_text names (front bytes)) (drop (length (front bytes)) bytes))
+pub lexed-word : (names : List (List ℕ)) (bytes : List ℕ) → 0 < length bytes → class_of (get_or bytes 0 0) ≡ Lower → bytes_eq (name_at bytes) (codes "not") ≡ false
+    → lexed_in names bytes ≡ option_map (with_tokens (tokens.Word (place_of names (name_at bytes)) ∷ [])) (lexed_in (with_text names (name_at bytes)) (drop (length (name_at bytes)) bytes))
 lexed-word names [] h q e = absurd (omega arith)
 lexed-word names (b ∷ bs) h q e =
-    let is_front = front-in b bs (Lower-in b q) in
-    let no_sign : bytes_eq (b ∷ front bs) (codes "not") ≡ false = sym (ap (λ x. bytes_eq x (codes "not")) is_front) ∙ e in
-    let put : Option Lexed → Option Lexed = option_map (with_tokens (tokens.Word (place_of names (b ∷ front bs)) ∷ [])) in
+    let is_front = name_at-in b bs (Lower-in b q) in
+    let no_sign : bytes_eq (b ∷ name_at bs) (codes "not") ≡ false = sym (ap (λ x. bytes_eq x (codes "not")) is_front) ∙ e in
+    let put : Option Lexed → Option Lexed = option_map (with_tokens (tokens.Word (place_of names (b ∷ name_at bs)) ∷ [])) in
     let P : List ℕ → Type 0 = λ x. lexed_in names (b ∷ bs) ≡ option_map (with_tokens (tokens.Word (place_of names x) ∷ [])) (lexed_in (with_text names x) (drop (length x) (b ∷ bs))) in
-    subst P (sym is_front) (at_name names _ _ (class_of b) q no_sign ∙ ap put (lexed_from-in_name (with_text names (b ∷ front bs)) bs))
+    subst P (sym is_front) (at_name names _ _ (class_of b) q no_sign ∙ ap put (lexed_from-in_name (with_text names (b ∷ name_at bs)) bs))
 
-pub lexed-not : (names : List (List ℕ)) (bytes : List ℕ) → 0 < length bytes → class_of (get_or bytes 0 0) ≡ Lower → bytes_eq (front bytes) (codes "not") ≡ true → lexed_in names bytes ≡ None
+pub lexed-not : (names : List (List ℕ)) (bytes : List ℕ) → 0 < length bytes → class_of (get_or bytes 0 0) ≡ Lower → bytes_eq (name_at bytes) (codes "not") ≡ true → lexed_in names bytes ≡ None
 lexed-not names [] h q e = absurd (omega arith)
 lexed-not names (b ∷ bs) h q e =
-    let is_front = front-in b bs (Lower-in b q) in
+    let is_front = name_at-in b bs (Lower-in b q) in
     at_not names _ _ (class_of b) q (sym (ap (λ x. bytes_eq x (codes "not")) is_front) ∙ e)
 
 -- a name in front is a token
 pub found-name : (names new : List (List ℕ)) (bytes : List ℕ) (r : Result (Option Token × ℕ) ReadError)
-    → IfOk r (λ x. x.0 ≡ Some (tokens.Word (place_of names (front bytes)))) → IfOk r (λ x. x.1 ≡ length (front bytes)) → OnOk r (new ≡ with_text names (front bytes)) → OnOk r (bytes_eq (front bytes) (codes "not") ≡ false)
+    → IfOk r (λ x. x.0 ≡ Some (tokens.Word (place_of names (name_at bytes)))) → IfOk r (λ x. x.1 ≡ length (name_at bytes)) → OnOk r (new ≡ with_text names (name_at bytes)) → OnOk r (bytes_eq (name_at bytes) (codes "not") ≡ false)
     → 0 < length bytes → class_of (get_or bytes 0 0) ≡ Lower
     → IfOk r (λ x. lexed_in names bytes ≡ option_map (with_tokens (option_to_list x.0)) (lexed_in new (drop x.1 bytes)))
 found-name names new bytes (Err e) token len gained no_sign h q = tt
@@ -116,20 +111,20 @@ found-name names new bytes (Ok x) token len gained no_sign h q = rw (token, len,
 
 -- `not` in front is none
 pub refused-name : (names : List (List ℕ)) (bytes : List ℕ) (r : Result (Option Token × ℕ) ReadError)
-    → IfErr r (IsUnsupported (bytes_eq (front bytes) (codes "not") ≡ true))
+    → IfErr r (IsUnsupported (bytes_eq (name_at bytes) (codes "not") ≡ true))
     → 0 < length bytes → class_of (get_or bytes 0 0) ≡ Lower
     → IfErr r (IsUnsupported (lexed_in names bytes ≡ None))
 refused-name names bytes (Ok x) refused h q = tt
 refused-name names bytes (Err e) refused h q = IsUnsupported-weaker e (lexed-not names bytes h q) refused
 
 -- a name is ASCII
-pub front-ascii : (bytes : List ℕ) → IsAscii (front bytes)
-front-ascii [] = IsAscii-nil
-front-ascii (b ∷ bs) = by (is_name_byte b) refl (front-ascii bs)
+pub name_at-ascii : (bytes : List ℕ) → IsAscii (name_at bytes)
+name_at-ascii [] = IsAscii-nil
+name_at-ascii (b ∷ bs) = by (is_name_byte b) refl (name_at-ascii bs)
   where
-    by : (t : Bool) → is_name_byte b ≡ t → IsAscii (front bs) → IsAscii (front (b ∷ bs))
-    by true e h = let P : List ℕ → Type 0 = λ x. IsAscii x in subst P (sym (front-in b bs e)) (IsAscii-cons b (front bs) (name_byte-below b e) h)
-    by false e h = let P : List ℕ → Type 0 = λ x. IsAscii x in subst P (sym (front-out b bs e)) IsAscii-nil
+    by : (t : Bool) → is_name_byte b ≡ t → IsAscii (name_at bs) → IsAscii (name_at (b ∷ bs))
+    by true e h = let P : List ℕ → Type 0 = λ x. IsAscii x in subst P (sym (name_at-in b bs e)) (IsAscii-cons b (name_at bs) (name_byte-below b e) h)
+    by false e h = let P : List ℕ → Type 0 = λ x. IsAscii x in subst P (sym (name_at-out b bs e)) IsAscii-nil
 
 -- one more token, or none, in front of those that are left
 pub lexed-more : (tokens : List Token) (token : Option Token) (before after whole : Option Lexed) → before ≡ option_map (with_tokens (option_to_list token)) after → option_map (with_tokens tokens) before ≡ whole

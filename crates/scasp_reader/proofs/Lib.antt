@@ -4,3 +4,8 @@ pub mod Refusals
 pub mod Lexing
 pub mod Parsing
 pub mod Ruling
+pub mod Whole
+pub mod Spelled
+pub mod Fronts
+pub mod Lexical
+pub mod Readings

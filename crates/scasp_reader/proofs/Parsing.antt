@@ -1,5 +1,5 @@
 -- Goals at the front of tokens that are still to be read.
-use Rattle.std.proofs.Common.{◌≡◌, ◌≢◌, ℕ, zero, suc, ◌+◌, List, [], ◌∷◌, ◌++◌, drop, get_or, slice_get, Option, None, Some, refl, sym, ap, ◌∙◌, append_assoc, arith, Bool, true, ◌&&◌, IsTrue}
+use Rattle.std.proofs.Common.{◌≡◌, ◌≢◌, ℕ, zero, suc, ◌+◌, List, [], ◌∷◌, ◌++◌, drop, get_or, slice_get, Option, None, Some, refl, sym, ap, ◌∙◌, append_assoc, arith, Bool, IsTrue}
 use Rattle.std.specs.List.{list_all}
 use Rattle.std.proofs.lemmas.List.Folds.{list_all-append}
 use Rattle.std.specs.Option.{option_map, option_and_then}
@@ -9,8 +9,7 @@ use Rattle.scasp_syntax.specs.declared.clause.Item.{Item}
 use Rattle.scasp_reader.specs.declared.token.Token.{Token}
 use Rattle.scasp_reader.specs.declared.token.Token.TheVariants.{Word, Dot, Comma, If, Query}
 use Rattle.scasp_reader.specs.Meaning.{call_of, items_of}
-use Rattle.scasp_reader.specs.Parse.{GoalsAt, goals_at, with_goal_at, word_of}
-use Rattle.scasp_reader.specs.Reading.{items_at}
+use Rattle.scasp_reader.specs.Parse.{GoalsAt, goals_at, with_goal_at, word_of, items_at}
 
 -- items that stand before those at the front of tokens
 abbrev pub behind_items : List Item → List Item × List Token → List Item × List Token

@@ -1,5 +1,5 @@
 -- Rules in front of tokens that are still to be read.
-use Rattle.std.proofs.Common.{◌≡◌, ◌≢◌, ℕ, ◌+◌, List, [], ◌∷◌, ◌++◌, map, drop, slice_get, Option, None, Some, refl, sym, ap, ◌∙◌, append_assoc, append-nil, Result, Ok, Err, IfOk, ◌⊎◌}
+use Rattle.std.proofs.Common.{◌≡◌, ◌≢◌, ℕ, ◌+◌, List, [], ◌∷◌, ◌++◌, map, drop, slice_get, Option, None, Some, refl, sym, ap, ◌∙◌, append_assoc, append-nil, Result, Ok, Err, IfOk, ◌⊎◌, inl, inr}
 use Rattle.std.specs.Option.{option_map, option_and_then}
 use Rattle.std.proofs.lemmas.Option.{some_pair_parts}
 use Rattle.scasp_syntax.specs.declared.clause.Clause.{Clause}
@@ -9,10 +9,9 @@ use Rattle.scasp_syntax.specs.declared.program.Program.{Program}
 use Rattle.scasp_reader.specs.declared.error.ReadError.{ReadError}
 use Rattle.scasp_reader.specs.declared.token.Token.{Token}
 use Rattle.scasp_reader.specs.declared.token.Token.TheVariants as tokens
-use Rattle.scasp_reader.specs.Meaning.{call_of, items_of, clause_from, clause_of, query_of, query_from}
+use Rattle.scasp_reader.specs.Meaning.{items_of, clause_from, clause_of, query_of, query_from, lists_of}
 use Rattle.scasp_reader.specs.Source.{Goals, Source, fact, rule}
-use Rattle.scasp_reader.specs.Parse.{InBody, GoalsAt, one_goal, with_goal, with_goal_at, with_rule, goals_at, goals_in, source_in, body_in}
-use Rattle.scasp_reader.specs.Reading.{items_at, lists_of, rule_body_at}
+use Rattle.scasp_reader.specs.Parse.{InBody, GoalsAt, with_goal, with_goal_at, with_rule, goals_at, goals_in, source_in, body_in, items_at, rule_body_at}
 use Rattle.scasp_reader.proofs.Parsing.{drop-at, drop-none}
 
 -- the source behind a body, with the body
@@ -148,6 +147,17 @@ query-at clauses queries (Some goals) e =
     let same : (query_of goals ∷ []) ≡ queries = cc in
     ap (λ c. Some (c, query_of goals ∷ [])) (append-nil clauses) ∙ ap (λ q. Some (clauses, q)) same
 
+first_sign : (clauses : List Clause) (t : Token) (rest : List Token) → ((t ≡ tokens.Dot) ⊎ (t ≡ tokens.Comma) ⊎ (t ≡ tokens.If)) → more_clauses clauses (t ∷ rest) ≡ None
+first_sign clauses tokens.Dot rest h = refl
+first_sign clauses tokens.Comma rest h = refl
+first_sign clauses tokens.If rest h = refl
+first_sign clauses (tokens.Word x) rest (inl e) = cc
+first_sign clauses (tokens.Word x) rest (inr (inl e)) = cc
+first_sign clauses (tokens.Word x) rest (inr (inr e)) = cc
+first_sign clauses tokens.Query rest (inl e) = cc
+first_sign clauses tokens.Query rest (inr (inl e)) = cc
+first_sign clauses tokens.Query rest (inr (inr e)) = cc
+
 module _ (ts : List Token) (place : ℕ) (clauses : List Clause) (all : Option (List Clause × List Query)) (known : more_clauses clauses (drop place ts) ≡ all) where
   at_front : (t : Token) → slice_get ts place ≡ Some t → more_clauses clauses (t ∷ drop (place + 1) ts) ≡ all
   at_front t e = sym (ap (more_clauses clauses) (drop-at ts place t e)) ∙ known
@@ -167,7 +177,7 @@ module _ (ts : List Token) (place : ℕ) (clauses : List Clause) (all : Option (
       sym (at_front tokens.Query e) ∙ ap (λ o. option_map (behind_clauses clauses) (option_map lists_of (option_map (λ goals. record { rules = []; query = goals }) o))) h
 
   pub rules-sign : (t : Token) → slice_get ts place ≡ Some t → ((t ≡ tokens.Dot) ⊎ (t ≡ tokens.Comma) ⊎ (t ≡ tokens.If)) → all ≡ None
-  rules-sign t e h = ?
+  rules-sign t e h = sym (at_front t e) ∙ first_sign clauses t (drop (place + 1) ts) h
 
   pub rules-end : slice_get ts place ≡ None → all ≡ None
   rules-end e = sym known ∙ ap (more_clauses clauses) (drop-none ts place e)

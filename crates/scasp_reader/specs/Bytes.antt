@@ -1,6 +1,6 @@
 -- The classes of bytes of a text, and names.
 use Rattle.std.specs.Prelude.{ℕ, Bool, true, false, ◌&&◌, ◌||◌, ◌==◌, not, nat_le, List, [], ◌∷◌, codes, if◌then◌else◌}
-use Rattle.std.specs.List.{list_all}
+use Rattle.std.specs.List.{list_all, take_while}
 use Rattle.std.specs.Str.{bytes_eq}
 use Rattle.scasp_reader.specs.declared.byte_class.Class.{Class}
 use Rattle.scasp_reader.specs.declared.byte_class.Class.TheVariants.{Blank, Stop, Comma, Colon, Question, Dash, Lower, Inner, Other}
@@ -26,6 +26,10 @@ is_name_byte b = is_lower b || is_upper b || is_digit b || b == 95
 abbrev pub is_name : List ℕ → Bool
 is_name [] = false
 is_name (b ∷ bs) = is_lower b && list_all is_name_byte bs && not (bytes_eq (b ∷ bs) (codes "not"))
+
+-- the bytes at the front that may stand in a name
+abbrev pub name_at : List ℕ → List ℕ
+name_at bytes = take_while is_name_byte bytes
 
 -- no name that ends before these bytes could be longer
 abbrev pub ends_name : List ℕ → Bool

@@ -30,3 +30,7 @@ query_from body = record { body = body; names = [] }
 
 abbrev pub query_of : Goals → Query
 query_of goals = query_from (items_of goals)
+
+-- the clauses and queries of a source
+abbrev pub lists_of : Source → List Clause × List Query
+lists_of source = (map clause_of source.rules, query_of source.query ∷ [])

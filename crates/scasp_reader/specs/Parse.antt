@@ -1,7 +1,9 @@
 -- The source that tokens spell, by computation.
 use Rattle.std.specs.Prelude.{ℕ, List, [], ◌∷◌, Option, None, Some, option_map}
+use Rattle.scasp_syntax.specs.declared.clause.Item.{Item}
 use Rattle.scasp_reader.specs.declared.token.Token.{Token}
 use Rattle.scasp_reader.specs.declared.token.Token.TheVariants.{Word, Dot, Comma, If, Query}
+use Rattle.scasp_reader.specs.Meaning.{items_of}
 use Rattle.scasp_reader.specs.Source.{Goals, Rule, fact, rule, Source}
 
 abbrev pub one_goal : ℕ → Goals
@@ -53,3 +55,13 @@ goals_at _ = None
 abbrev pub word_of : Token → Option ℕ
 word_of (Word name) = Some name
 word_of _ = None
+
+-- the items of the goals at the front of tokens, and the tokens behind them
+abbrev pub items_at : GoalsAt → List Item × List Token
+items_at at = (items_of at.goals, at.rest)
+
+-- the items of what stands behind the head of a rule, and the tokens behind that
+abbrev pub rule_body_at : List Token → Option (List Item × List Token)
+rule_body_at (Dot ∷ rest) = Some ([], rest)
+rule_body_at (If ∷ rest) = option_map items_at (goals_at rest)
+rule_body_at _ = None

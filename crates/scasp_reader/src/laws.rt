@@ -6,12 +6,10 @@ ghost use Rattle.scasp_reader.specs.Reading.{Reading, Reads, program_in};
 pub fn reads_what_is_spelled()
     ensures { (names : List (List ℕ)) (bytes : List ℕ) (reading : Reading)
         → (program_in names bytes ≡ Some reading) ↔ Reads names bytes reading }
-{
-}
+{}
 
 /// Bytes spell one program at most, and give its names one table.
 pub fn spells_one_program()
     ensures { (names : List (List ℕ)) (bytes : List ℕ) (one other : Reading)
         → Reads names bytes one → Reads names bytes other → one ≡ other }
-{
-}
+{}

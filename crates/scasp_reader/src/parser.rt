@@ -3,20 +3,22 @@ ghost use Rattle.std.specs.Prelude.{◌≡◌, ◌≤◌, [], ◌∷◌, length,
 ghost use Rattle.std.specs.List.{list_all};
 ghost use Rattle.std.specs.Option.{option_and_then};
 ghost use Rattle.scasp_syntax.specs.WellFormed.{is_clause_well_formed, is_item_below};
-ghost use Rattle.scasp_reader.specs.Meaning.{atom_of, call_of, clause_from, query_from, query_of};
-ghost use Rattle.scasp_reader.specs.Parse.{goals_at, goals_in, source_in, word_of};
-ghost use Rattle.scasp_reader.specs.Reading.{items_at, lists_of, rule_body_at};
+ghost use Rattle.scasp_reader.specs.Meaning.{atom_of, call_of, clause_from, query_from, query_of, lists_of};
+ghost use Rattle.scasp_reader.specs.Parse.{goals_at, goals_in, source_in, word_of, items_at, rule_body_at};
 ghost use Rattle.scasp_reader.specs.Refusal.{IsUnsupported};
 
 use crate::error::{ReadError, UNSUPPORTED};
 use crate::token::Token;
 use scasp_name::{Memory, NameId};
-use scasp_syntax::{Atom, Clause, Clauses, Item, Items, Lit, Program, Queries, Query, Terms, VarNames};
+use scasp_syntax::{
+    Atom, Clause, Clauses, Item, Items, Lit, Program, Queries, Query, Terms, VarNames,
+};
 use std::alloc::Global;
 
 /// The program that the tokens spell.
 pub fn parse(alloc: Global, tokens: &[Token]) -> Result<Program, ReadError>
-    ensures ok { IfOk result (λ program. option_map lists_of (source_in tokens.now) ≡ Some (program.clauses, program.queries)) }
+    ensures ok { IfOk result (λ program. option_map lists_of (source_in tokens.now)
+        ≡ Some (program.clauses, program.queries)) }
     ensures refused { IfErr result (IsUnsupported (source_in tokens.now ≡ None)) }
 {
     let mut clauses = Clauses::new(alloc);
@@ -45,7 +47,8 @@ fn token(tokens: &[Token], place: usize) -> Option<Token>
 /// What stands behind the head of a rule: its stop, or `:-` and goals; and the place behind that.
 fn rule_body(alloc: Global, tokens: &[Token], place: usize) -> Result<(Items, usize), ReadError>
     requires { place ≤ length tokens.now }
-    ensures ok { IfOk result (λ x. rule_body_at (drop place tokens.now) ≡ Some (x.0, drop x.1 tokens.now)) }
+    ensures ok { IfOk result (λ x. rule_body_at (drop place tokens.now)
+        ≡ Some (x.0, drop x.1 tokens.now)) }
     ensures behind { IfOk result (λ x. place ≤ x.1) }
     ensures within { IfOk result (λ x. x.1 ≤ length tokens.now) }
     ensures plain { IfOk result (λ x. IsTrue (list_all (is_item_below 0) x.0)) }
@@ -64,11 +67,13 @@ fn rule_body(alloc: Global, tokens: &[Token], place: usize) -> Result<(Items, us
 /// The goals `name, .., name.`, and the place behind their stop.
 fn goals(alloc: Global, tokens: &[Token], start: usize) -> Result<(Items, usize), ReadError>
     requires { start ≤ length tokens.now }
-    ensures ok { IfOk result (λ x. option_map items_at (goals_at (drop start tokens.now)) ≡ Some (x.0, drop x.1 tokens.now)) }
+    ensures ok { IfOk result (λ x. option_map items_at (goals_at (drop start tokens.now))
+        ≡ Some (x.0, drop x.1 tokens.now)) }
     ensures behind { IfOk result (λ x. start ≤ x.1) }
     ensures within { IfOk result (λ x. x.1 ≤ length tokens.now) }
     ensures plain { IfOk result (λ x. IsTrue (list_all (is_item_below 0) x.0)) }
-    ensures refused { IfErr result (IsUnsupported (option_map items_at (goals_at (drop start tokens.now)) ≡ None)) }
+    ensures refused { IfErr result (IsUnsupported
+        (option_map items_at (goals_at (drop start tokens.now)) ≡ None)) }
 {
     let mut items = Items::new(alloc);
     let mut place = start;
@@ -98,11 +103,18 @@ fn word(tokens: &[Token], place: usize) -> Option<NameId>
 }
 
 /// The program of the clauses, with the query of the goals that are the rest of the tokens.
-fn query(alloc: Global, clauses: Clauses, tokens: &[Token], place: usize) -> Result<Program, ReadError>
+fn query(
+    alloc: Global,
+    clauses: Clauses,
+    tokens: &[Token],
+    place: usize,
+) -> Result<Program, ReadError>
     requires start { place ≤ length tokens.now }
     requires rules { IsTrue (list_all is_clause_well_formed clauses) }
     ensures clauses { IfOk result (λ program. program.clauses ≡ clauses) }
-    ensures queries { IfOk result (λ program. option_map (λ goals. query_of goals ∷ []) (goals_in (drop place tokens.now)) ≡ Some program.queries) }
+    ensures queries { IfOk result (λ program.
+        option_map (λ goals. query_of goals ∷ []) (goals_in (drop place tokens.now))
+        ≡ Some program.queries) }
     ensures refused { IfErr result (IsUnsupported (goals_in (drop place tokens.now) ≡ None)) }
 {
     let (items, behind) = goals(alloc, tokens, place)?;

@@ -1,7 +1,7 @@
 use Rattle.std.proofs.Common.{◌≡◌, length}
 use Rattle.std.specs.Option.{option_map}
 use Rattle.scasp_reader.specs.Lexis.{KeepsPlaces}
-use Rattle.scasp_reader.specs.Reading.{lexed_in, with_tokens}
+use Rattle.scasp_reader.specs.Lexed.{lexed_in, with_tokens}
 use Rattle.scasp_reader.proofs.lexer.lex.Given as goal
 
 abbrev pub invariant-loop-rest : goal.invariant-loop-rest

@@ -1,4 +1,4 @@
-use Rattle.std.proofs.Common.{◌≡◌, ℕ, ◌+◌, ◌-◌, ◌≤◌, length, drop}
+use Rattle.std.proofs.Common.{◌≡◌, ◌+◌, ◌-◌, ◌≤◌, length, drop}
 use Rattle.std.specs.List.{prefix_len}
 use Rattle.scasp_reader.specs.Bytes.{is_name_byte}
 use Rattle.scasp_reader.proofs.lexer.name_len.Given as goal

@@ -2,8 +2,7 @@ use Rattle.std.proofs.Common.{◌≡◌, ◌-◌, ◌≤◌, length, drop, IsTru
 use Rattle.std.specs.Option.{option_map}
 use Rattle.std.specs.List.{list_all}
 use Rattle.scasp_syntax.specs.WellFormed.{is_item_below}
-use Rattle.scasp_reader.specs.Parse.{goals_at}
-use Rattle.scasp_reader.specs.Reading.{items_at}
+use Rattle.scasp_reader.specs.Parse.{goals_at, items_at}
 use Rattle.scasp_reader.proofs.Parsing.{more_items}
 use Rattle.scasp_reader.proofs.parser.goals.Given as goal
 

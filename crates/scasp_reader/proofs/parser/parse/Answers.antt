@@ -1,4 +1,4 @@
-use Rattle.std.proofs.Common.{◌≡◌, ◌∷◌, ◌++◌, [], Some, drop, refl, sym, ap, ◌∙◌, arith}
+use Rattle.std.proofs.Common.{◌≡◌, ◌∷◌, ◌++◌, [], Some, refl, sym, ap, ◌∙◌, arith}
 use Rattle.std.proofs.lemmas.Option.{slice_get_within}
 use Rattle.std.proofs.lemmas.Result.{err_from_is_err_and, IfErr-weaker}
 use Rattle.scasp_syntax.specs.WellFormed.{is_clause_well_formed}
@@ -20,10 +20,11 @@ loop-first-preserved c =
     let ts = c.args.tokens.now in
     let l = c.loop-first in
     let found = c.in_ok-body-in-Word in
-    let pushed : c.push.new.self ≡ l.clauses ++ clause_from c.in-Word.head found.body ∷ [] = c.in_ok-push-in-Word.ensures.ok ∙ ap (λ x. l.clauses ++ x ∷ []) c.clause.ensures in
-    ( found.ensures.within,
+    let pushed : c.push.new.self ≡ l.clauses ++ clause_from c.in-Word.head found.body ∷ [] = c.in_ok-push-in-Word.ensures.ok ∙ ap (λ x. l.clauses ++ x ∷ []) c.clause.ensures in (
+      found.ensures.within,
       rw pushed (rules-more ts l.place l.clauses _ l.invariant.1 c.in-Word.head found.body found.behind (sym c.in-Some.ensures ∙ ap Some c.in-Word.is) found.ensures.ok),
-      rw pushed (list_all-push is_clause_well_formed l.clauses (clause_from c.in-Word.head found.body) l.invariant.2 found.ensures.plain) )
+      rw pushed (list_all-push is_clause_well_formed l.clauses (clause_from c.in-Word.head found.body) l.invariant.2 found.ensures.plain),
+    )
 
 pub query-requires-clause-start : goal.query-requires-clause-start
 query-requires-clause-start c = omega (arith, slice_get_within c.args.tokens.now c.loop-first.place _ (sym c.in-Some.ensures))
@@ -44,8 +45,7 @@ pub returns-in-Dot : goal.returns-in-Dot
 returns-in-Dot c =
     let ts = c.args.tokens.now in
     let l = c.loop-first in
-    let is = c.in-Dot.is in
-    record { ok = tt; refused = (lists-none ts (rules-sign ts l.place l.clauses _ l.invariant.1 c.in-Some.first (sym c.in-Some.ensures) ?), refl, refl) }
+    record { ok = tt; refused = (lists-none ts (rules-sign ts l.place l.clauses _ l.invariant.1 c.in-Some.first (sym c.in-Some.ensures) c.in-Dot.is), refl, refl) }
 
 pub returns-clause-refused : goal.returns-clause-refused
 returns-clause-refused c =

@@ -3,7 +3,7 @@ use Rattle.std.specs.Option.{option_map}
 use Rattle.std.specs.List.{list_all}
 use Rattle.scasp_syntax.specs.WellFormed.{is_clause_well_formed}
 use Rattle.scasp_reader.specs.Parse.{source_in}
-use Rattle.scasp_reader.specs.Reading.{lists_of}
+use Rattle.scasp_reader.specs.Meaning.{lists_of}
 use Rattle.scasp_reader.proofs.Ruling.{more_clauses}
 use Rattle.scasp_reader.proofs.parser.parse.Given as goal
 

@@ -1,4 +1,4 @@
-use Rattle.std.proofs.Common.{Some, drop, get_or, refl, sym, ap, ◌∙◌}
+use Rattle.std.proofs.Common.{Some, drop, refl, sym, ap, ◌∙◌}
 use Rattle.std.proofs.lemmas.List.{drop_more, drop_all}
 use Rattle.std.proofs.lemmas.Result.{err_from_is_err_and}
 use Rattle.scasp_reader.specs.declared.token.Token.TheVariants.{Dot}

@@ -1,7 +1,6 @@
 use Rattle.std.proofs.Common.{◌≡◌, ◌+◌, ◌∷◌, drop, option_map, refl, sym, ap, ◌∙◌, arith}
 use Rattle.std.proofs.lemmas.Option.{slice_get_within}
-use Rattle.scasp_reader.specs.Parse.{goals_at}
-use Rattle.scasp_reader.specs.Reading.{items_at, rule_body_at}
+use Rattle.scasp_reader.specs.Parse.{goals_at, items_at, rule_body_at}
 use Rattle.scasp_reader.proofs.Parsing.{drop-at, drop-none}
 use Rattle.scasp_reader.proofs.Ruling.{rule_body-none}
 use Rattle.scasp_reader.proofs.parser.rule_body.Goals as goal
@@ -26,7 +25,7 @@ returns-in-If-clause-ok c =
     let ts = c.args.tokens.now in
     let rest = drop (c.args.place + 1) ts in
     let front : rule_body_at (drop c.args.place ts) ≡ option_map items_at (goals_at rest) =
-        ap rule_body_at (drop-at ts c.args.place c.in-Some.sign (sym c.in-Some.ensures)) ∙ ap (λ t. rule_body_at (t ∷ rest)) c.in-If.is in
+    ap rule_body_at (drop-at ts c.args.place c.in-Some.sign (sym c.in-Some.ensures)) ∙ ap (λ t. rule_body_at (t ∷ rest)) c.in-If.is in
     rw front c.goals.ensures.ok
 
 pub returns-in-If-clause-refused : goal.returns-in-If-clause-refused
@@ -34,7 +33,7 @@ returns-in-If-clause-refused c =
     let ts = c.args.tokens.now in
     let rest = drop (c.args.place + 1) ts in
     let front : rule_body_at (drop c.args.place ts) ≡ option_map items_at (goals_at rest) =
-        ap rule_body_at (drop-at ts c.args.place c.in-Some.sign (sym c.in-Some.ensures)) ∙ ap (λ t. rule_body_at (t ∷ rest)) c.in-If.is in
+    ap rule_body_at (drop-at ts c.args.place c.in-Some.sign (sym c.in-Some.ensures)) ∙ ap (λ t. rule_body_at (t ∷ rest)) c.in-If.is in
     rw front c.goals.ensures.refused
 
 pub returns-in_default-sign : goal.returns-in_default-sign
