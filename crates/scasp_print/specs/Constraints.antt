@@ -1,5 +1,5 @@
 -- How constraints are written.
-use Rattle.std.specs.Prelude.{ℕ, Bool, true, false, ◌&&◌, ◌==◌, List, [], ◌∷◌, ◌++◌, length, if◌then◌else◌, ℤ, pos, negsuc, codes, decimal}
+use Rattle.std.specs.Prelude.{ℕ, Bool, true, false, ◌&&◌, ◌==◌, List, [], ◌∷◌, ◌++◌, length, if◌then◌else◌, ℤ, pos, negsuc, int_lt, codes, decimal}
 use Rattle.std.specs.Fmt.{signed_decimal}
 use Rattle.std.specs.Ordering.{int_eq}
 use Rattle.scasp_num.specs.Linear.{Linear}
@@ -14,19 +14,21 @@ use Rattle.scasp_print.specs.Terms.{var_text, term_text}
 
 -- the sign between a sum and what follows; a negative number brings its own
 abbrev pub plus_text : ℤ → List ℕ
-plus_text (pos n) = codes "+"
-plus_text (negsuc n) = []
+plus_text c = if int_lt c (pos 0) then [] else codes "+"
 
 -- a coefficient in front of its variable; 1 and -1 are written by sign alone
 abbrev pub factor_text : ℤ → List ℕ
 factor_text c =
     if int_eq c (pos 1) then [] else if int_eq c (negsuc 0) then codes "-" else signed_decimal c ++ codes "*"
 
--- `2*V0-V1`; behind an earlier summand with a sign in front
+-- a coefficient and its variable; behind an earlier summand with a sign in front
+abbrev pub summand_text : Bool → Coeff → List ℕ
+summand_text is_first k = (if is_first then [] else plus_text k.c) ++ factor_text k.c ++ var_text k.x
+
+-- `2*V0-V1`
 abbrev pub summands_text : Bool → List Coeff → List ℕ
 summands_text is_first [] = []
-summands_text is_first (k ∷ ks) =
-    (if is_first then [] else plus_text k.c) ++ factor_text k.c ++ var_text k.x ++ summands_text false ks
+summands_text is_first (k ∷ ks) = summand_text is_first k ++ summands_text false ks
 
 -- the constant: alone where there is no variable, else behind them, and left out where it is 0
 abbrev pub constant_part : List Coeff → ℤ → List ℕ

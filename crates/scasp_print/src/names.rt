@@ -1,5 +1,6 @@
 //! Names, in quotes where they need them.
 ghost use Rattle.std.specs.Prelude.{◌≡◌, ◌++◌, OnOk};
+ghost use Rattle.std.specs.List.{list_all};
 ghost use Rattle.scasp_print.specs.Names as spec;
 
 use crate::text::put;
@@ -14,14 +15,23 @@ fn is_word_byte(byte: u8) -> bool
         || byte == b'_'
 }
 
+fn are_word_bytes(text: &[u8]) -> bool
+    ensures { result ≡ list_all spec.is_word_byte text.now }
+{
+    for byte in text {
+        if !is_word_byte(*byte) {
+            return false;
+        }
+    }
+    true
+}
+
 fn is_word(text: &[u8]) -> bool
     ensures { result ≡ spec.is_word text.now }
 {
     match text.split_first() {
         None => false,
-        Some((first, rest)) => {
-            first.is_ascii_lowercase() && rest.iter().all(|byte| is_word_byte(*byte))
-        }
+        Some((first, rest)) => first.is_ascii_lowercase() && are_word_bytes(rest),
     }
 }
 
