@@ -13,29 +13,29 @@ use Rattle.scasp_print.specs.Hints.{hint_text}
 use Rattle.scasp_print.specs.Trees.{trees_text, branch_text}
 
 -- `answer Q.N TERMS`, the first line of answer N to query Q
-abbrev pub answer_line : List (List ℕ) → Certificate → ℕ → List ℕ
+unfoldable pub answer_line : List (List ℕ) → Certificate → ℕ → List ℕ
 answer_line names c answer =
     codes "answer " ++ decimal c.query ++ codes "." ++ decimal answer ++ codes " " ++ list_text names c.terms ++ codes "\n"
 
 -- `given CON`
-abbrev pub given_line : List (List ℕ) → Con → List ℕ
+unfoldable pub given_line : List (List ℕ) → Con → List ℕ
 given_line names con = codes "given " ++ con_text names con ++ codes "\n"
 
 -- `check K`, and the case of clause K below it
-abbrev pub check_text : List (List ℕ) → ℕ × Branch → List ℕ
+unfoldable pub check_text : List (List ℕ) → ℕ × Branch → List ℕ
 check_text names c = codes "check " ++ decimal c.0 ++ codes "\n" ++ branch_text names 1 c.1
 
 -- `clash N N HINT`
-abbrev pub clash_line : Clash → List ℕ
+unfoldable pub clash_line : Clash → List ℕ
 clash_line c =
     codes "clash " ++ decimal c.first ++ codes " " ++ decimal c.second ++ codes " " ++ hint_text c.hint ++ codes "\n"
 
 -- `p/1`, `-p/1`
-abbrev pub pred_text : List (List ℕ) → Pred → List ℕ
+unfoldable pub pred_text : List (List ℕ) → Pred → List ℕ
 pred_text names p = minus_text p.minus ++ name_text names p.name ++ codes "/" ++ decimal p.arity
 
 -- `map P/A LEVEL SIGN`
-abbrev pub map_line : List (List ℕ) → PredMap → List ℕ
+unfoldable pub map_line : List (List ℕ) → PredMap → List ℕ
 map_line names m =
     codes "map " ++ pred_text names m.pred ++ codes " " ++ decimal m.level ++ (if m.plus then codes " +\n" else codes " -\n")
 

@@ -1,3 +1,4 @@
+pub mod Separators
 pub mod Names
 pub mod Terms
 pub mod Constraints

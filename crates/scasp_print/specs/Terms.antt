@@ -6,6 +6,7 @@ use Rattle.scasp_num.specs.Number.{Number}
 use Rattle.scasp_syntax.specs.Tm.{Tm, Tms, var, num, app, nil, cons, items}
 use Rattle.scasp_syntax.specs.declared.atom.Atom.{Atom}
 use Rattle.scasp_syntax.specs.declared.atom.Lit.{Lit}
+use Rattle.scasp_print.specs.Separators.{separator_text}
 use Rattle.scasp_print.specs.Names.{name_text, constant_text}
 
 -- `V0`
@@ -42,18 +43,19 @@ abbrev mutual
   pub term_text : List (List ℕ) → Tm → List ℕ
   term_text names (var x) = var_text x
   term_text names (num q) = number_text q
-  term_text names (app f ts) = app_text names f ts (terms_text names [] ts) (pair_text names true ts)
+  term_text names (app f ts) = app_text names f ts (terms_text names true ts) (pair_text names true ts)
 
   -- a term as the rest of a list
   pub tail_text : List (List ℕ) → Tm → List ℕ
   tail_text names (var x) = codes "|" ++ var_text x
   tail_text names (num q) = codes "|" ++ number_text q
-  tail_text names (app f ts) = rest_text names f ts (terms_text names [] ts) (pair_text names true ts)
+  tail_text names (app f ts) = rest_text names f ts (terms_text names true ts) (pair_text names true ts)
 
-  -- terms, the first behind the text given, each later one behind a comma
-  pub terms_text : List (List ℕ) → List ℕ → Tms → List ℕ
-  terms_text names before nil = []
-  terms_text names before (cons t ts) = before ++ term_text names t ++ terms_text names (codes ",") ts
+  -- terms with commas between them
+  pub terms_text : List (List ℕ) → Bool → Tms → List ℕ
+  terms_text names is_first nil = []
+  terms_text names is_first (cons t ts) =
+      separator_text is_first (codes ",") ++ term_text names t ++ terms_text names false ts
 
   -- the two arguments of a pair: its first element, and then the rest
   pub pair_text : List (List ℕ) → Bool → Tms → List ℕ
@@ -62,17 +64,17 @@ abbrev mutual
       (if is_first then term_text names t else tail_text names t) ++ pair_text names false ts
 
 -- `[t1,..,tn]`
-abbrev pub list_text : List (List ℕ) → Tms → List ℕ
-list_text names ts = codes "[" ++ terms_text names [] ts ++ codes "]"
+unfoldable pub list_text : List (List ℕ) → Tms → List ℕ
+list_text names ts = codes "[" ++ terms_text names true ts ++ codes "]"
 
 -- the minus sign of a predicate
 abbrev pub minus_text : Bool → List ℕ
 minus_text minus = if minus then codes "-" else []
 
 -- `p(a,V0)`, `-p`
-abbrev pub atom_text : List (List ℕ) → Atom → List ℕ
-atom_text names a = minus_text a.minus ++ called_text names a.name a.args (terms_text names [] a.args)
+unfoldable pub atom_text : List (List ℕ) → Atom → List ℕ
+atom_text names a = minus_text a.minus ++ called_text names a.name a.args (terms_text names true a.args)
 
 -- an atom, or `not` and an atom
-abbrev pub lit_text : List (List ℕ) → Lit → List ℕ
+unfoldable pub lit_text : List (List ℕ) → Lit → List ℕ
 lit_text names l = (if l.positive then [] else codes "not ") ++ atom_text names l.atom

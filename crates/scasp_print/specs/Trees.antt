@@ -8,7 +8,7 @@ use Rattle.scasp_print.specs.Constraints.{con_text}
 use Rattle.scasp_print.specs.Hints.{hint_text}
 
 -- the text as a line behind so many blanks
-abbrev pub line_text : ℕ → List ℕ → List ℕ
+unfoldable pub line_text : ℕ → List ℕ → List ℕ
 line_text depth text = replicate depth 32 ++ text ++ codes "\n"
 
 abbrev mutual

@@ -1,12 +1,13 @@
 //! Hints and their steps.
-ghost use Rattle.std.specs.Prelude.{◌≡◌, ◌++◌, [], OnOk};
+ghost use Rattle.std.specs.Prelude.{◌≡◌, ◌++◌, true, OnOk};
 ghost use Rattle.scasp_print.specs.Hints as spec;
 
-use crate::text::{put, put_integer, put_number};
+use crate::text::{put, put_integer, put_number, put_separator};
 use scasp_name::Memory;
 use scasp_num::{Step, StepLists, Steps};
 use scasp_syntax::Hint;
 
+#[tactic(auto, unfolding(crate::specs::Hints::step_text))]
 fn put_step(out: &mut Vec<u8>, step: &Step) -> Result<(), Memory>
     ensures { OnOk result (out.new.items ≡ out.old.items ++ spec.step_text step.now) }
 {
@@ -20,25 +21,25 @@ fn put_step(out: &mut Vec<u8>, step: &Step) -> Result<(), Memory>
 }
 
 fn put_steps(out: &mut Vec<u8>, steps: &Steps) -> Result<(), Memory>
-    ensures { OnOk result (out.new.items ≡ out.old.items ++ spec.steps_text [] steps.now) }
+    ensures { OnOk result (out.new.items ≡ out.old.items ++ spec.steps_text true steps.now) }
 {
-    let mut before = "";
+    let mut is_first = true;
     for step in steps.as_slice() {
-        put(out, before)?;
+        put_separator(out, is_first, ",")?;
         put_step(out, step)?;
-        before = ",";
+        is_first = false;
     }
     Ok(())
 }
 
 fn put_step_lists(out: &mut Vec<u8>, lists: &StepLists) -> Result<(), Memory>
-    ensures { OnOk result (out.new.items ≡ out.old.items ++ spec.step_lists_text [] lists.now) }
+    ensures { OnOk result (out.new.items ≡ out.old.items ++ spec.step_lists_text true lists.now) }
 {
-    let mut before = "";
+    let mut is_first = true;
     for steps in lists.as_slice() {
-        put(out, before)?;
+        put_separator(out, is_first, ";")?;
         put_steps(out, steps)?;
-        before = ";";
+        is_first = false;
     }
     Ok(())
 }

@@ -1,10 +1,10 @@
 //! Terms, lists of terms, atoms and literals.
-ghost use Rattle.std.specs.Prelude.{◌≡◌, ◌++◌, [], true, OnOk, if◌then◌else◌};
+ghost use Rattle.std.specs.Prelude.{◌≡◌, ◌++◌, true, OnOk, if◌then◌else◌};
 ghost use Rattle.scasp_syntax.specs.View.{tm_of};
 ghost use Rattle.scasp_print.specs.Terms as spec;
 
 use crate::names::{put_constant, put_name};
-use crate::text::{put, put_integer, put_number};
+use crate::text::{put, put_integer, put_number, put_separator};
 use scasp_name::{Memory, NIL, NameId, Names, PAIR};
 use scasp_num::Rat;
 use scasp_syntax::{Atom, Lit, Term, Terms};
@@ -72,7 +72,7 @@ fn put_app(
     name: NameId,
     args: &Terms,
 ) -> Result<(), Memory>
-    ensures { OnOk result (out.new.items ≡ out.old.items ++ spec.app_text names.now name args.now (spec.terms_text names.now [] args.now) (spec.pair_text names.now true args.now)) }
+    ensures { OnOk result (out.new.items ≡ out.old.items ++ spec.app_text names.now name args.now (spec.terms_text names.now true args.now) (spec.pair_text names.now true args.now)) }
 {
     if args.len() == 0 {
         put_constant(out, names, name)
@@ -92,7 +92,7 @@ fn put_rest(
     name: NameId,
     args: &Terms,
 ) -> Result<(), Memory>
-    ensures { OnOk result (out.new.items ≡ out.old.items ++ spec.rest_text names.now name args.now (spec.terms_text names.now [] args.now) (spec.pair_text names.now true args.now)) }
+    ensures { OnOk result (out.new.items ≡ out.old.items ++ spec.rest_text names.now name args.now (spec.terms_text names.now true args.now) (spec.pair_text names.now true args.now)) }
 {
     if args.len() == 0 && name == NIL {
         Ok(())
@@ -113,7 +113,7 @@ fn put_called(
     name: NameId,
     args: &Terms,
 ) -> Result<(), Memory>
-    ensures { OnOk result (out.new.items ≡ out.old.items ++ spec.called_text names.now name args.now (spec.terms_text names.now [] args.now)) }
+    ensures { OnOk result (out.new.items ≡ out.old.items ++ spec.called_text names.now name args.now (spec.terms_text names.now true args.now)) }
 {
     put_name(out, names, name)?;
     if args.len() == 0 {
@@ -127,13 +127,13 @@ fn put_called(
 /// Puts terms at the end, with commas between them.
 #[cycle(term)]
 fn put_terms(out: &mut Vec<u8>, names: &Names, terms: &Terms) -> Result<(), Memory>
-    ensures { OnOk result (out.new.items ≡ out.old.items ++ spec.terms_text names.now [] terms.now) }
+    ensures { OnOk result (out.new.items ≡ out.old.items ++ spec.terms_text names.now true terms.now) }
 {
-    let mut before = "";
+    let mut is_first = true;
     for term in terms.as_slice() {
-        put(out, before)?;
+        put_separator(out, is_first, ",")?;
         put_term(out, names, term)?;
-        before = ",";
+        is_first = false;
     }
     Ok(())
 }
@@ -168,6 +168,7 @@ fn put_part(
 }
 
 /// Puts a list of terms in square brackets at the end.
+#[tactic(auto, unfolding(crate::specs::Terms::list_text))]
 pub fn put_list(out: &mut Vec<u8>, names: &Names, terms: &Terms) -> Result<(), Memory>
     ensures { OnOk result (out.new.items ≡ out.old.items ++ spec.list_text names.now terms.now) }
 {
@@ -184,6 +185,7 @@ pub fn put_minus(out: &mut Vec<u8>, minus: bool) -> Result<(), Memory>
 }
 
 /// Puts an atom at the end.
+#[tactic(auto, unfolding(crate::specs::Terms::atom_text))]
 pub fn put_atom(out: &mut Vec<u8>, names: &Names, atom: &Atom) -> Result<(), Memory>
     ensures { OnOk result (out.new.items ≡ out.old.items ++ spec.atom_text names.now atom.now) }
 {
@@ -192,6 +194,7 @@ pub fn put_atom(out: &mut Vec<u8>, names: &Names, atom: &Atom) -> Result<(), Mem
 }
 
 /// Puts a literal at the end.
+#[tactic(auto, unfolding(crate::specs::Terms::lit_text))]
 pub fn put_lit(out: &mut Vec<u8>, names: &Names, lit: &Lit) -> Result<(), Memory>
     ensures { OnOk result (out.new.items ≡ out.old.items ++ spec.lit_text names.now lit.now) }
 {

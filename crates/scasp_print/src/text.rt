@@ -1,6 +1,7 @@
 //! Texts, numbers and blanks at the end of a list of bytes.
 ghost use Rattle.std.specs.Prelude.{◌≡◌, ◌+◌, ◌++◌, OnOk, IfOk, decimal, replicate};
 ghost use Rattle.std.specs.Fmt.{signed_decimal};
+ghost use Rattle.scasp_print.specs.Separators.{separator_text};
 
 use itoa::Buffer;
 use scasp_name::Memory;
@@ -11,6 +12,17 @@ pub fn put(out: &mut Vec<u8>, text: &str) -> Result<(), Memory>
 {
     out.extend_from_slice(text.as_bytes())?;
     Ok(())
+}
+
+/// Puts the separator at the end, unless what follows is the first item.
+pub fn put_separator(out: &mut Vec<u8>, is_first: bool, separator: &str) -> Result<(), Memory>
+    ensures { OnOk result (out.new.items ≡ out.old.items ++ separator_text is_first separator.now) }
+{
+    if is_first {
+        Ok(())
+    } else {
+        put(out, separator)
+    }
 }
 
 /// Puts the digits of a natural number at the end.

@@ -1,6 +1,4 @@
-use Rattle.std.proofs.Common.{◌≡◌, ◌++◌, [], true, drop}
-use denote.Text.{Utf8}
-use denote.Shadow.{shadow}
+use Rattle.std.proofs.Common.{◌≡◌, ◌++◌, true, drop}
 use Rattle.scasp_syntax.specs.View.{tms_of}
 use Rattle.scasp_print.specs.Terms.{terms_text, pair_text}
 use Rattle.scasp_print.proofs.terms.+term.Given as goal
@@ -12,6 +10,5 @@ invariant-put_pair-loop-term l =
 
 abbrev pub invariant-put_terms-loop-term : goal.invariant-put_terms-loop-term
 invariant-put_terms-loop-term l =
-    shadow (Utf8 l.before)
-    × (l.out.items ++ terms_text l.names l.before (tms_of (drop l.term-index l.term-items))
-    ≡ l.fn.out.items ++ terms_text l.names [] l.terms)
+    l.out.items ++ terms_text l.names l.is_first (tms_of (drop l.term-index l.term-items))
+    ≡ l.fn.out.items ++ terms_text l.names true l.terms
