@@ -16,12 +16,7 @@ use scasp_syntax::{Con, Cons, Pred, PredMap, PredMaps, Terms};
 use std::alloc::Global;
 
 #[tactic(auto, unfolding(crate::specs::Block::answer_line))]
-fn put_answer_line(
-    out: &mut Vec<u8>,
-    names: &Names,
-    cert: &Cert,
-    answer: u64,
-) -> Result<(), Memory>
+fn put_answer_line(out: &mut Vec<u8>, names: &Names, cert: &Cert, answer: u64) -> Result<(), Memory>
     ensures { OnOk result (out.new.items ≡ out.old.items ++ spec.answer_line names.now (certificate_of cert.now) answer) }
 {
     put(out, "answer ")?;
@@ -145,12 +140,7 @@ fn put_block(out: &mut Vec<u8>, names: &Names, cert: &Cert, answer: u64) -> Resu
 
 /// The certificate as text: the lines from `answer` to `end`, each with its line feed, as answer
 /// number `answer` to its query. A name that the table lacks is written as the empty text, `''`.
-pub fn print_cert(
-    alloc: Global,
-    names: &Names,
-    cert: &Cert,
-    answer: u64,
-) -> Result<Vec<u8>, Memory>
+pub fn print_cert(alloc: Global, names: &Names, cert: &Cert, answer: u64) -> Result<Vec<u8>, Memory>
     ensures { IfOk result (λ text. text.items ≡ spec.block_text names.now (certificate_of cert.now) answer) }
 {
     let mut out = Vec::new(alloc);

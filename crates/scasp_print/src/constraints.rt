@@ -14,11 +14,7 @@ use scasp_syntax::{Con, Term};
 fn put_plus(out: &mut Vec<u8>, number: i128) -> Result<(), Memory>
     ensures { OnOk result (out.new.items ≡ out.old.items ++ spec.plus_text number) }
 {
-    if number < 0 {
-        Ok(())
-    } else {
-        put(out, "+")
-    }
+    if number < 0 { Ok(()) } else { put(out, "+") }
 }
 
 fn put_factor(out: &mut Vec<u8>, number: i128) -> Result<(), Memory>

@@ -9,10 +9,7 @@ use scasp_name::{Memory, NIL, NameId, Names};
 fn is_word_byte(byte: u8) -> bool
     ensures { result ≡ spec.is_word_byte byte }
 {
-    byte.is_ascii_lowercase()
-        || byte.is_ascii_uppercase()
-        || byte.is_ascii_digit()
-        || byte == b'_'
+    byte.is_ascii_lowercase() || byte.is_ascii_uppercase() || byte.is_ascii_digit() || byte == b'_'
 }
 
 fn are_word_bytes(text: &[u8]) -> bool

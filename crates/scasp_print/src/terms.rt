@@ -66,12 +66,7 @@ fn put_tail(out: &mut Vec<u8>, names: &Names, term: &Term) -> Result<(), Memory>
 }
 
 #[cycle(term)]
-fn put_app(
-    out: &mut Vec<u8>,
-    names: &Names,
-    name: NameId,
-    args: &Terms,
-) -> Result<(), Memory>
+fn put_app(out: &mut Vec<u8>, names: &Names, name: NameId, args: &Terms) -> Result<(), Memory>
     ensures { OnOk result (out.new.items ≡ out.old.items ++ spec.app_text names.now name args.now (spec.terms_text names.now true args.now) (spec.pair_text names.now true args.now)) }
 {
     if args.len() == 0 {
@@ -86,12 +81,7 @@ fn put_app(
 }
 
 #[cycle(term)]
-fn put_rest(
-    out: &mut Vec<u8>,
-    names: &Names,
-    name: NameId,
-    args: &Terms,
-) -> Result<(), Memory>
+fn put_rest(out: &mut Vec<u8>, names: &Names, name: NameId, args: &Terms) -> Result<(), Memory>
     ensures { OnOk result (out.new.items ≡ out.old.items ++ spec.rest_text names.now name args.now (spec.terms_text names.now true args.now) (spec.pair_text names.now true args.now)) }
 {
     if args.len() == 0 && name == NIL {
@@ -107,12 +97,7 @@ fn put_rest(
 
 /// Puts a name with its arguments in brackets at the end.
 #[cycle(term)]
-fn put_called(
-    out: &mut Vec<u8>,
-    names: &Names,
-    name: NameId,
-    args: &Terms,
-) -> Result<(), Memory>
+fn put_called(out: &mut Vec<u8>, names: &Names, name: NameId, args: &Terms) -> Result<(), Memory>
     ensures { OnOk result (out.new.items ≡ out.old.items ++ spec.called_text names.now name args.now (spec.terms_text names.now true args.now)) }
 {
     put_name(out, names, name)?;
@@ -152,12 +137,7 @@ fn put_pair(out: &mut Vec<u8>, names: &Names, terms: &Terms) -> Result<(), Memor
 }
 
 #[cycle(term)]
-fn put_part(
-    out: &mut Vec<u8>,
-    names: &Names,
-    is_first: bool,
-    term: &Term,
-) -> Result<(), Memory>
+fn put_part(out: &mut Vec<u8>, names: &Names, is_first: bool, term: &Term) -> Result<(), Memory>
     ensures { OnOk result (out.new.items ≡ out.old.items ++ (if is_first then spec.term_text names.now (tm_of term.now) else spec.tail_text names.now (tm_of term.now))) }
 {
     if is_first {

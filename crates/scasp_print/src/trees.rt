@@ -186,12 +186,7 @@ fn put_node(out: &mut Vec<u8>, names: &Names, depth: u64, node: &Node) -> Result
 
 /// Puts nodes at the end, each behind so many blanks, with what stands below it.
 #[cycle(tree)]
-pub fn put_nodes(
-    out: &mut Vec<u8>,
-    names: &Names,
-    depth: u64,
-    nodes: &Nodes,
-) -> Result<(), Memory>
+pub fn put_nodes(out: &mut Vec<u8>, names: &Names, depth: u64, nodes: &Nodes) -> Result<(), Memory>
     ensures { OnOk result (out.new.items ≡ out.old.items ++ spec.trees_text names.now depth (listed (trees_of nodes.now))) }
 {
     for node in &nodes.list {
@@ -201,12 +196,7 @@ pub fn put_nodes(
 }
 
 #[cycle(tree)]
-fn put_covers(
-    out: &mut Vec<u8>,
-    names: &Names,
-    depth: u64,
-    covers: &Covers,
-) -> Result<(), Memory>
+fn put_covers(out: &mut Vec<u8>, names: &Names, depth: u64, covers: &Covers) -> Result<(), Memory>
     ensures { OnOk result (out.new.items ≡ out.old.items ++ spec.branches_text names.now depth (covering (covers_of covers.now))) }
 {
     let next = below(depth)?;
