@@ -1,0 +1,57 @@
+//! Texts, numbers and blanks at the end of a list of bytes.
+ghost use Rattle.std.specs.Prelude.{◌≡◌, ◌+◌, ◌++◌, OnOk, IfOk, decimal, replicate};
+ghost use Rattle.std.specs.Fmt.{signed_decimal};
+ghost use Rattle.scasp_print.specs.Separators.{separator_text};
+
+use itoa::Buffer;
+use scasp_name::Memory;
+
+/// Puts the text at the end.
+pub fn put(out: &mut Vec<u8>, text: &str) -> Result<(), Memory>
+    ensures { OnOk result (out.new.items ≡ out.old.items ++ text.now) }
+{
+    out.extend_from_slice(text.as_bytes())?;
+    Ok(())
+}
+
+/// Puts the separator at the end, unless what follows is the first item.
+pub fn put_separator(out: &mut Vec<u8>, is_first: bool, separator: &str) -> Result<(), Memory>
+    ensures { OnOk result (out.new.items ≡ out.old.items ++ separator_text is_first separator.now) }
+{
+    if is_first {
+        Ok(())
+    } else {
+        put(out, separator)
+    }
+}
+
+/// Puts the digits of a natural number at the end.
+pub fn put_number(out: &mut Vec<u8>, number: u64) -> Result<(), Memory>
+    ensures { OnOk result (out.new.items ≡ out.old.items ++ decimal number) }
+{
+    put(out, Buffer::new().format(number))
+}
+
+/// Puts the digits of an integer at the end, behind `-` where it is below 0.
+pub fn put_integer(out: &mut Vec<u8>, integer: i128) -> Result<(), Memory>
+    ensures { OnOk result (out.new.items ≡ out.old.items ++ signed_decimal integer) }
+{
+    put(out, Buffer::new().format(integer))
+}
+
+/// Puts so many blanks at the end.
+pub fn put_indent(out: &mut Vec<u8>, depth: u64) -> Result<(), Memory>
+    ensures { OnOk result (out.new.items ≡ out.old.items ++ replicate depth 32) }
+{
+    for _ in 0..depth {
+        out.push(b' ')?;
+    }
+    Ok(())
+}
+
+/// The depth one further in. There is no memory for a tree that is deeper than 2^64 - 1.
+pub fn below(depth: u64) -> Result<u64, Memory>
+    ensures { IfOk result (λ next. next ≡ depth + 1) }
+{
+    depth.checked_add(1).ok_or(Memory)
+}

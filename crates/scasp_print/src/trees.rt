@@ -1,0 +1,232 @@
+//! Justification trees, a line for each node, rule and case.
+ghost use Rattle.std.specs.Prelude.{◌≡◌, ◌++◌, OnOk, codes, decimal};
+ghost use Rattle.scasp_cert.specs.Trees.{listed, covering};
+ghost use Rattle.scasp_cert.specs.View.{tree_of, trees_of, branch_of, covers_of};
+ghost use Rattle.scasp_print.specs.Terms.{atom_text, lit_text, list_text};
+ghost use Rattle.scasp_print.specs.Constraints.{con_text};
+ghost use Rattle.scasp_print.specs.Hints.{hint_text};
+ghost use Rattle.scasp_print.specs.Trees as spec;
+
+use crate::constraints::put_con;
+use crate::hints::put_hint;
+use crate::terms::{put_atom, put_list, put_lit};
+use crate::text::{below, put, put_indent, put_number};
+use scasp_cert::{Case, Covers, Node, Nodes};
+use scasp_name::{Memory, Names};
+use scasp_syntax::{Atom, Con, Hint, Lit, Terms};
+
+fn put_pos(
+    out: &mut Vec<u8>,
+    names: &Names,
+    atom: &Atom,
+    rule: u64,
+    terms: &Terms,
+) -> Result<(), Memory>
+    ensures { OnOk result (out.new.items ≡ out.old.items ++ (codes "pos " ++ atom_text names.now atom.now ++ codes " rule " ++ decimal rule ++ codes " " ++ list_text names.now terms.now)) }
+{
+    put(out, "pos ")?;
+    put_atom(out, names, atom)?;
+    put(out, " rule ")?;
+    put_number(out, rule)?;
+    put(out, " ")?;
+    put_list(out, names, terms)
+}
+
+#[tactic(auto, unfolding(crate::specs::Trees::line_text))]
+fn put_pos_line(
+    out: &mut Vec<u8>,
+    names: &Names,
+    depth: u64,
+    atom: &Atom,
+    rule: u64,
+    terms: &Terms,
+) -> Result<(), Memory>
+    ensures { OnOk result (out.new.items ≡ out.old.items ++ spec.line_text depth (codes "pos " ++ atom_text names.now atom.now ++ codes " rule " ++ decimal rule ++ codes " " ++ list_text names.now terms.now)) }
+{
+    put_indent(out, depth)?;
+    put_pos(out, names, atom, rule, terms)?;
+    put(out, "\n")
+}
+
+#[tactic(auto, unfolding(crate::specs::Trees::line_text))]
+fn put_neg_line(out: &mut Vec<u8>, names: &Names, depth: u64, atom: &Atom) -> Result<(), Memory>
+    ensures { OnOk result (out.new.items ≡ out.old.items ++ spec.line_text depth (codes "neg " ++ atom_text names.now atom.now)) }
+{
+    put_indent(out, depth)?;
+    put(out, "neg ")?;
+    put_atom(out, names, atom)?;
+    put(out, "\n")
+}
+
+#[tactic(auto, unfolding(crate::specs::Trees::line_text))]
+fn put_loop_line(
+    out: &mut Vec<u8>,
+    names: &Names,
+    depth: u64,
+    lit: &Lit,
+    at: u64,
+) -> Result<(), Memory>
+    ensures { OnOk result (out.new.items ≡ out.old.items ++ spec.line_text depth (codes "loop " ++ lit_text names.now lit.now ++ codes " at " ++ decimal at)) }
+{
+    put_indent(out, depth)?;
+    put(out, "loop ")?;
+    put_lit(out, names, lit)?;
+    put(out, " at ")?;
+    put_number(out, at)?;
+    put(out, "\n")
+}
+
+#[tactic(auto, unfolding(crate::specs::Trees::line_text))]
+fn put_seen_line(
+    out: &mut Vec<u8>,
+    names: &Names,
+    depth: u64,
+    lit: &Lit,
+    at: u64,
+) -> Result<(), Memory>
+    ensures { OnOk result (out.new.items ≡ out.old.items ++ spec.line_text depth (codes "seen " ++ lit_text names.now lit.now ++ codes " at " ++ decimal at)) }
+{
+    put_indent(out, depth)?;
+    put(out, "seen ")?;
+    put_lit(out, names, lit)?;
+    put(out, " at ")?;
+    put_number(out, at)?;
+    put(out, "\n")
+}
+
+#[tactic(auto, unfolding(crate::specs::Trees::line_text))]
+fn put_test_line(
+    out: &mut Vec<u8>,
+    names: &Names,
+    depth: u64,
+    con: &Con,
+    hint: &Hint,
+) -> Result<(), Memory>
+    ensures { OnOk result (out.new.items ≡ out.old.items ++ spec.line_text depth (codes "test " ++ con_text names.now con.now ++ codes " " ++ hint_text hint.now)) }
+{
+    put_indent(out, depth)?;
+    put(out, "test ")?;
+    put_con(out, names, con)?;
+    put(out, " ")?;
+    put_hint(out, hint)?;
+    put(out, "\n")
+}
+
+#[tactic(auto, unfolding(crate::specs::Trees::line_text))]
+fn put_split_line(out: &mut Vec<u8>, names: &Names, depth: u64, con: &Con) -> Result<(), Memory>
+    ensures { OnOk result (out.new.items ≡ out.old.items ++ spec.line_text depth (codes "split " ++ con_text names.now con.now)) }
+{
+    put_indent(out, depth)?;
+    put(out, "split ")?;
+    put_con(out, names, con)?;
+    put(out, "\n")
+}
+
+#[tactic(auto, unfolding(crate::specs::Trees::line_text))]
+fn put_void_line(out: &mut Vec<u8>, depth: u64, hint: &Hint) -> Result<(), Memory>
+    ensures { OnOk result (out.new.items ≡ out.old.items ++ spec.line_text depth (codes "void " ++ hint_text hint.now)) }
+{
+    put_indent(out, depth)?;
+    put(out, "void ")?;
+    put_hint(out, hint)?;
+    put(out, "\n")
+}
+
+#[tactic(auto, unfolding(crate::specs::Trees::line_text))]
+fn put_leaf_line(out: &mut Vec<u8>, depth: u64, item: u64) -> Result<(), Memory>
+    ensures { OnOk result (out.new.items ≡ out.old.items ++ spec.line_text depth (codes "leaf " ++ decimal item)) }
+{
+    put_indent(out, depth)?;
+    put(out, "leaf ")?;
+    put_number(out, item)?;
+    put(out, "\n")
+}
+
+#[tactic(auto, unfolding(crate::specs::Trees::line_text))]
+fn put_head_line(out: &mut Vec<u8>, depth: u64) -> Result<(), Memory>
+    ensures { OnOk result (out.new.items ≡ out.old.items ++ spec.line_text depth (codes "head")) }
+{
+    put_indent(out, depth)?;
+    put(out, "head\n")
+}
+
+#[tactic(auto, unfolding(crate::specs::Trees::line_text))]
+fn put_rule_line(out: &mut Vec<u8>, depth: u64, rule: u64) -> Result<(), Memory>
+    ensures { OnOk result (out.new.items ≡ out.old.items ++ spec.line_text depth (codes "rule " ++ decimal rule)) }
+{
+    put_indent(out, depth)?;
+    put(out, "rule ")?;
+    put_number(out, rule)?;
+    put(out, "\n")
+}
+
+#[cycle(tree)]
+fn put_node(out: &mut Vec<u8>, names: &Names, depth: u64, node: &Node) -> Result<(), Memory>
+    ensures { OnOk result (out.new.items ≡ out.old.items ++ spec.tree_text names.now depth (tree_of node.now)) }
+{
+    match node {
+        Node::Pos {
+            atom,
+            rule,
+            terms,
+            children,
+        } => {
+            put_pos_line(out, names, depth, atom, *rule, terms)?;
+            put_nodes(out, names, below(depth)?, children)
+        }
+        Node::Neg { atom, covers } => {
+            put_neg_line(out, names, depth, atom)?;
+            put_covers(out, names, below(depth)?, covers)
+        }
+        Node::Loop { lit, at } => put_loop_line(out, names, depth, lit, *at),
+        Node::Seen { lit, at } => put_seen_line(out, names, depth, lit, *at),
+        Node::Test { con, hint } => put_test_line(out, names, depth, con, hint),
+    }
+}
+
+/// Puts nodes at the end, each behind so many blanks, with what stands below it.
+#[cycle(tree)]
+pub fn put_nodes(out: &mut Vec<u8>, names: &Names, depth: u64, nodes: &Nodes) -> Result<(), Memory>
+    ensures { OnOk result (out.new.items ≡ out.old.items ++ spec.trees_text names.now depth (listed (trees_of nodes.now))) }
+{
+    for node in &nodes.list {
+        put_node(out, names, depth, node)?;
+    }
+    Ok(())
+}
+
+#[cycle(tree)]
+fn put_covers(out: &mut Vec<u8>, names: &Names, depth: u64, covers: &Covers) -> Result<(), Memory>
+    ensures { OnOk result (out.new.items ≡ out.old.items ++ spec.branches_text names.now depth (covering (covers_of covers.now))) }
+{
+    let next = below(depth)?;
+    for cover in &covers.list {
+        put_rule_line(out, depth, cover.rule)?;
+        put_case(out, names, next, &cover.case)?;
+    }
+    Ok(())
+}
+
+/// Puts a case at the end, behind so many blanks, with what stands below it.
+#[cycle(tree)]
+pub fn put_case(out: &mut Vec<u8>, names: &Names, depth: u64, case: &Case) -> Result<(), Memory>
+    ensures { OnOk result (out.new.items ≡ out.old.items ++ spec.branch_text names.now depth (branch_of case.now)) }
+{
+    match case {
+        Case::Split { con, first, second } => {
+            put_split_line(out, names, depth, con)?;
+            let next = below(depth)?;
+            put_case(out, names, next, first)?;
+            put_case(out, names, next, second)
+        }
+        Case::Void { hint } => put_void_line(out, depth, hint),
+        Case::Leaf { item, children } => {
+            put_leaf_line(out, depth, *item)?;
+            put_nodes(out, names, below(depth)?, children)
+        }
+        Case::Head { children } => {
+            put_head_line(out, depth)?;
+            put_nodes(out, names, below(depth)?, children)
+        }
+    }
+}
