@@ -5,3 +5,4 @@ pub mod Exact
 pub mod Ratios
 pub mod NormalForms
 pub mod Meaning
+pub mod Puts

@@ -142,13 +142,18 @@ others_times d x [] = Some []
 others_times d x (k ∷ ks) =
     if k.x == x then others_times d x ks else (within (d *ℤ k.c) >>= (λ c. others_times d x ks >>= (λ rest. Some (record { x = k.x; c = c } ∷ rest))))
 
--- the row times the number's denominator, with the variable replaced
+-- the constant that is left, times d, with the variable's coefficient times n
+abbrev pub put_constant : Linear → ℕ → Number → Option ℤ
+put_constant r x q = do
+  left ← within (q.den *ℤ r.constant)
+  right ← within (coefficient x r.coeffs *ℤ q.num)
+  within (left +ℤ right)
+
+-- the row times the number's denominator, with x replaced by the number
 unfoldable pub put_of : Linear → ℕ → Number → Option Linear
 put_of r x q = do
   others ← others_times q.den x r.coeffs
-  left ← within (q.den *ℤ r.constant)
-  right ← within (coefficient x r.coeffs *ℤ q.num)
-  constant ← within (left +ℤ right)
+  constant ← put_constant r x q
   Some (normal_form (record { coeffs = others; constant = constant; op = r.op }))
 
 -- the values m with z for x

@@ -6,6 +6,7 @@ pub mod hints;
 pub mod linear;
 mod normal;
 pub mod rational;
+mod substitution;
 
 pub use hints::{Step, StepLists, Steps};
 pub use linear::{Coeff, Coeffs, Op, RatPair, RatPairs, Row, RowErr, Rows};

@@ -3,8 +3,9 @@ ghost use Rattle.std.specs.Prelude.{◌≡◌, [], ◌∷◌, ◌++◌, length, 
 ghost use Rattle.std.specs.Option.{option_copied};
 
 use crate::Memory;
-use crate::normal::{negated, negated_if};
-use crate::rational::Rat;
+use crate::normal::{negated, negated_if, normal_form};
+use crate::substitution::{others_times, put_constant};
+use crate::rational::{Overflow, Rat};
 use std::alloc::Global;
 use std::marker::Model;
 use thiserror::Error;
@@ -167,6 +168,24 @@ impl Row {
     ghost use Rattle.std.specs.Prelude.{◌↔◌, ℕ, ℤ, IfOk, Option, pos, ◌<ℤ◌, ◌*ℤ◌};
     ghost use Rattle.scasp_num.specs.Linear.{IsNormal, Meets, negation, put_of, Gives, replaced};
 
+    /// The row with `x` replaced by a number n/d, in normal form. Overflow exactly where one of d times each
+    /// other coefficient, d times the constant, the coefficient of `x` times n, and the sum of the last
+    /// two lies outside -M..M.
+    #[tactic(auto, using(crate::proofs::Numbers::plain), unfolding(crate::specs::Linear::put_of))]
+    pub fn put(&self, x: u64, value: &Rat) -> Result<Row, RowErr>
+        ensures exact { Gives result (put_of self.now x value.now) }
+        ensures meets { IfOk result (λ row. (m : ℕ → ℤ) (d : ℤ) → Meets m d row
+            ↔ Meets (replaced (λ y. m y *ℤ value.now.den) x (value.now.num *ℤ d)) (d *ℤ value.now.den) self.now) }
+        ensures normal { IfOk result IsNormal }
+    {
+        let alloc = self.coeffs.allocator();
+        let terms = self.coeffs().as_slice();
+        let others = others_times(alloc, value.den(), x, terms)?;
+        let constant = put_constant(self, x, value)?;
+        let row = normal_form(alloc, others.as_slice(), constant, self.op())?;
+        Ok(row)
+    }
+
     /// The row that is met exactly where this one is not.
     pub fn negate(&self) -> Result<Row, Memory>
         ensures value { IfOk result (λ row. row ≡ negation self.now) }
@@ -276,4 +295,24 @@ pub enum RowErr {
     Overflow,
     #[error("out of memory")]
     Memory,
+}
+
+impl From<Memory> for RowErr {
+    ghost use Rattle.scasp_num.specs.declared.linear.RowErr.TheVariants as errors;
+
+    ghost from_gives = { λ _ e. e ≡ errors.Memory };
+
+    fn from(_error: Memory) -> Self {
+        RowErr::Memory
+    }
+}
+
+impl From<Overflow> for RowErr {
+    ghost use Rattle.scasp_num.specs.declared.linear.RowErr.TheVariants as errors;
+
+    ghost from_gives = { λ _ e. e ≡ errors.Overflow };
+
+    fn from(_error: Overflow) -> Self {
+        RowErr::Overflow
+    }
 }
