@@ -6,3 +6,4 @@ pub mod Ratios
 pub mod NormalForms
 pub mod Meaning
 pub mod Puts
+pub mod Joins

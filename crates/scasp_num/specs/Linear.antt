@@ -165,3 +165,27 @@ abbrev pub Gives : {A : Type 0} → Result A RowErr → Option A → Type 0
 Gives (Ok row) o = Some row ≡ o
 Gives (Err err.Overflow) o = None ≡ o
 Gives (Err err.Memory) o = ⊤
+
+-- ---- a variable replaced by another
+
+-- c times y added to terms that ascend
+abbrev pub merged : ℕ → ℤ → List Coeff → Option (List Coeff)
+merged y c [] = Some (record { x = y; c = c } ∷ [])
+merged y c (k ∷ ks) =
+    if nat_lt k.x y
+    then (merged y c ks >>= (λ rest. Some (k ∷ rest)))
+    else (if k.x == y
+    then (within (k.c +ℤ c) >>= (λ sum. Some (record { x = y; c = sum } ∷ ks)))
+    else Some (record { x = y; c = c } ∷ k ∷ ks))
+
+-- the row with x replaced by y: the two coefficients are added
+unfoldable pub join_of : Linear → ℕ → ℕ → Option Linear
+join_of r x y = do
+  others ← others_times (pos 1) x r.coeffs
+  coeffs ← merged y (coefficient x r.coeffs) others
+  Some (normal_form (record { coeffs = coeffs; constant = r.constant; op = r.op }))
+
+-- the terms still to come, with c times y among them unless it was placed
+abbrev pub merged_unless : Bool → ℕ → ℤ → List Coeff → Option (List Coeff)
+merged_unless true y c ks = Some ks
+merged_unless false y c ks = merged y c ks

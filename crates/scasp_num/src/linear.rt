@@ -4,7 +4,7 @@ ghost use Rattle.std.specs.Option.{option_copied};
 
 use crate::Memory;
 use crate::normal::{negated, negated_if, normal_form};
-use crate::substitution::{others_times, put_constant};
+use crate::substitution::{coefficient, merged, others_times, put_constant};
 use crate::rational::{Overflow, Rat};
 use std::alloc::Global;
 use std::marker::Model;
@@ -165,8 +165,8 @@ impl Model for Row {
 }
 
 impl Row {
-    ghost use Rattle.std.specs.Prelude.{◌↔◌, ℕ, ℤ, IfOk, Option, pos, ◌<ℤ◌, ◌*ℤ◌};
-    ghost use Rattle.scasp_num.specs.Linear.{IsNormal, Meets, negation, put_of, Gives, replaced};
+    ghost use Rattle.std.specs.Prelude.{◌↔◌, ℕ, ℤ, IfOk, Option, pos, ◌<ℤ◌, ◌*ℤ◌, ◌≢◌};
+    ghost use Rattle.scasp_num.specs.Linear.{IsNormal, Meets, negation, put_of, join_of, Gives, replaced};
 
     /// The row with `x` replaced by a number n/d, in normal form. Overflow exactly where one of d times each
     /// other coefficient, d times the constant, the coefficient of `x` times n, and the sum of the last
@@ -183,6 +183,23 @@ impl Row {
         let others = others_times(alloc, value.den(), x, terms)?;
         let constant = put_constant(self, x, value)?;
         let row = normal_form(alloc, others.as_slice(), constant, self.op())?;
+        Ok(row)
+    }
+
+    /// The row with `x` replaced by another variable `y`, in normal form. Overflow exactly where the sum of
+    /// their two coefficients lies outside -M..M.
+    #[tactic(auto, using(crate::proofs::Numbers::plain), unfolding(crate::specs::Linear::join_of))]
+    pub fn join(&self, x: u64, y: u64) -> Result<Row, RowErr>
+        requires { x ≢ y }
+        ensures exact { Gives result (join_of self.now x y) }
+        ensures meets { IfOk result (λ row. (m : ℕ → ℤ) (d : ℤ) → Meets m d row ↔ Meets (replaced m x (m y)) d self.now) }
+        ensures normal { IfOk result IsNormal }
+    {
+        let alloc = self.coeffs.allocator();
+        let terms = self.coeffs().as_slice();
+        let others = others_times(alloc, 1, x, terms)?;
+        let coeffs = merged(alloc, others.as_slice(), y, coefficient(terms, x))?;
+        let row = normal_form(alloc, coeffs.as_slice(), self.constant(), self.op())?;
         Ok(row)
     }
 
