@@ -1,9 +1,9 @@
 -- A variable of a row replaced by another.
-use Rattle.std.proofs.Common.{◌≡◌, ◌≢◌, ◌↔◌, ℕ, ◌<◌, ◌≤◌, Bool, true, false, ◌==◌, nat_lt, ℤ, pos, ◌+ℤ◌, ◌*ℤ◌, Option, Some, None, List, [], ◌∷◌, refl, sym, ap, subst, ◌∙◌, arith}
+use Rattle.std.proofs.Common.{◌≡◌, ◌↔◌, ℕ, ◌<◌, Bool, true, false, ◌==◌, nat_lt, ℤ, pos, ◌+ℤ◌, ◌*ℤ◌, Some, List, [], ◌∷◌, refl, sym, ap, subst, ◌∙◌, arith}
 use Rattle.std.specs.Prelude.{if◌then◌else◌}
 use Rattle.std.proofs.lemmas.Bool.{eqb-true}
 use Rattle.std.proofs.lemmas.Bool.Decides.{nat_tests}
-use Rattle.std.proofs.Math.IntN.{*ℤ_comm, +ℤ_idr, +ℤ_idl, +ℤ_assoc, +ℤ_comm, *ℤ-one}
+use Rattle.std.proofs.Math.IntN.{+ℤ_assoc, +ℤ_comm}
 use Rattle.std.proofs.lemmas.Int.{ints}
 use Rattle.scasp_num.specs.declared.linear.Coeff.{Coeff}
 use Rattle.scasp_num.specs.Number.{InRange}
@@ -16,7 +16,7 @@ use Rattle.scasp_num.proofs.NormalForms.{Each-map}
 use Rattle.scasp_num.proofs.Meaning.{normal_form-meets_of}
 use Rattle.scasp_num.proofs.Puts.{replaced-weighted}
 
-later : (a b : ℕ) → nat_lt a b ≡ false → (a == b) ≡ false → b < a
+pub later : (a b : ℕ) → nat_lt a b ≡ false → (a == b) ≡ false → b < a
 later a b s f = grind (arith, nat_tests)
 
 -- what merging gives, case by case
@@ -31,17 +31,17 @@ merged-cases R y c none below at above (k ∷ ks) out e = by (nat_lt k.x y) refl
   where
     by : (s : Bool) → nat_lt k.x y ≡ s → (t : Bool) → (k.x == y) ≡ t → Some out ≡ (if s then (merged y c ks >>= (λ rest. Some (k ∷ rest))) else (if t then (within (k.c +ℤ c) >>= (λ sum. Some (record { x = y; c = sum } ∷ ks))) else Some (record { x = y; c = c } ∷ k ∷ ks))) → ((rest : List Coeff) → Some rest ≡ merged y c ks → R ks rest) → R (k ∷ ks) out
     by true s t f e rest =
-      let a = bind-some (merged y c ks) (λ rest. Some (k ∷ rest)) out e in
-      let same : out ≡ k ∷ a.0 = cc in
-      subst (λ (o : List Coeff). R (k ∷ ks) o) (sym same) (below k ks a.0 (ltb_lt s) (rest a.0 a.1))
+        let a = bind-some (merged y c ks) (λ rest. Some (k ∷ rest)) out e in
+        let same : out ≡ k ∷ a.0 = cc in
+        subst (λ (o : List Coeff). R (k ∷ ks) o) (sym same) (below k ks a.0 (ltb_lt s) (rest a.0 a.1))
     by false s true f e rest =
-      let a = bind-some (within (k.c +ℤ c)) (λ sum. Some (record { x = y; c = sum } ∷ ks)) out e in
-      let w = within-some a.0 (k.c +ℤ c) a.1 in
-      let same : out ≡ record { x = y; c = a.0 } ∷ ks = cc in
-      subst (λ (o : List Coeff). R (k ∷ ks) o) (sym same) (at k ks a.0 (eqb-true k.x y f) w.0 w.1)
+        let a = bind-some (within (k.c +ℤ c)) (λ sum. Some (record { x = y; c = sum } ∷ ks)) out e in
+        let w = within-some a.0 (k.c +ℤ c) a.1 in
+        let same : out ≡ record { x = y; c = a.0 } ∷ ks = cc in
+        subst (λ (o : List Coeff). R (k ∷ ks) o) (sym same) (at k ks a.0 (eqb-true k.x y f) w.0 w.1)
     by false s false f e rest =
-      let same : record { x = y; c = c } ∷ k ∷ ks ≡ out = cc in
-      subst (λ (o : List Coeff). R (k ∷ ks) o) same (above k ks (later k.x y s f))
+        let same : record { x = y; c = c } ∷ k ∷ ks ≡ out = cc in
+        subst (λ (o : List Coeff). R (k ∷ ks) o) same (above k ks (later k.x y s f))
 
 merged-each : (P : Coeff → Type 0) (y : ℕ) (c : ℤ) → ((s : ℤ) → InRange s → P (record { x = y; c = s })) → InRange c → (ks out : List Coeff) → Some out ≡ merged y c ks → Each P ks → Each P out
 merged-each P y c f r = merged-cases (λ ks out. Each P ks → Each P out) y c
@@ -59,18 +59,18 @@ merged-Ascends y c r (k ∷ ks) out e a = by (nat_lt k.x y) refl (k.x == y) refl
   where
     by : (s : Bool) → nat_lt k.x y ≡ s → (t : Bool) → (k.x == y) ≡ t → Some out ≡ (if s then (merged y c ks >>= (λ rest. Some (k ∷ rest))) else (if t then (within (k.c +ℤ c) >>= (λ sum. Some (record { x = y; c = sum } ∷ ks))) else Some (record { x = y; c = c } ∷ k ∷ ks))) → ((rest : List Coeff) → Some rest ≡ merged y c ks → Ascends rest) → Ascends out
     by true s t f e rest =
-      let b = bind-some (merged y c ks) (λ rest. Some (k ∷ rest)) out e in
-      let same : out ≡ k ∷ b.0 = cc in
-      let less : k.x < y = ltb_lt s in
-      subst (λ (o : List Coeff). Ascends o) (sym same) (merged-each (λ j. k.x < j.x) y c (λ _ _. less) r ks b.0 b.1 a.0, rest b.0 b.1)
+        let b = bind-some (merged y c ks) (λ rest. Some (k ∷ rest)) out e in
+        let same : out ≡ k ∷ b.0 = cc in
+        let less : k.x < y = ltb_lt s in
+        subst (λ (o : List Coeff). Ascends o) (sym same) (merged-each (λ j. k.x < j.x) y c (λ _ _. less) r ks b.0 b.1 a.0, rest b.0 b.1)
     by false s true f e rest =
-      let b = bind-some (within (k.c +ℤ c)) (λ sum. Some (record { x = y; c = sum } ∷ ks)) out e in
-      let same : out ≡ record { x = y; c = b.0 } ∷ ks = cc in
-      subst (λ (o : List Coeff). Ascends o) (sym same) (subst (λ z. Each (λ j. z < j.x) ks) (eqb-true k.x y f) a.0, a.1)
+        let b = bind-some (within (k.c +ℤ c)) (λ sum. Some (record { x = y; c = sum } ∷ ks)) out e in
+        let same : out ≡ record { x = y; c = b.0 } ∷ ks = cc in
+        subst (λ (o : List Coeff). Ascends o) (sym same) (subst (λ z. Each (λ j. z < j.x) ks) (eqb-true k.x y f) a.0, a.1)
     by false s false f e rest =
-      let same : record { x = y; c = c } ∷ k ∷ ks ≡ out = cc in
-      let more : y < k.x = later k.x y s f in
-      subst (λ (o : List Coeff). Ascends o) same ((more, Each-map (λ j. k.x < j.x) (λ j. y < j.x) (λ j h. omega arith) ks a.0), a)
+        let same : record { x = y; c = c } ∷ k ∷ ks ≡ out = cc in
+        let more : y < k.x = later k.x y s f in
+        subst (λ (o : List Coeff). Ascends o) same ((more, Each-map (λ j. k.x < j.x) (λ j. y < j.x) (λ j h. omega arith) ks a.0), a)
 
 merged-weighted : (m : ℕ → ℤ) (y : ℕ) (c : ℤ) (ks out : List Coeff) → Some out ≡ merged y c ks → weighted m out ≡ weighted m ks +ℤ c *ℤ m y
 merged-weighted m y c = merged-cases (λ ks out. weighted m out ≡ weighted m ks +ℤ c *ℤ m y) y c
@@ -104,5 +104,5 @@ join_of-meets r row x y asc e m d =
     let b = bind-some (merged y (coefficient x r.coeffs) a.0) (λ coeffs. Some (normal_form (record { coeffs = coeffs; constant = r.constant; op = r.op }))) row a.2 in
     let made : row ≡ normal_form (record { coeffs = b.0; constant = r.constant; op = r.op }) = cc in
     let sum : weighted m b.0 ≡ weighted (replaced m x (m y)) r.coeffs =
-      merged-weighted m y (coefficient x r.coeffs) a.0 b.0 b.1 ∙ sym (replaced-weighted m (pos 1) (m y) x r.coeffs a.0 asc a.1) ∙ weighted-same (replaced (λ y. m y *ℤ pos 1) x (m y)) (replaced m x (m y)) (replaced-one m x (m y)) r.coeffs in
+    merged-weighted m y (coefficient x r.coeffs) a.0 b.0 b.1 ∙ sym (replaced-weighted m (pos 1) (m y) x r.coeffs a.0 asc a.1) ∙ weighted-same (replaced (λ y. m y *ℤ pos 1) x (m y)) (replaced m x (m y)) (replaced-one m x (m y)) r.coeffs in
     subst (λ w. Meets m d row ↔ Compares r.op (w +ℤ r.constant *ℤ d)) sum (normal_form-meets_of (record { coeffs = b.0; constant = r.constant; op = r.op }) row made m d)

@@ -7,3 +7,4 @@ pub mod NormalForms
 pub mod Meaning
 pub mod Puts
 pub mod Joins
+pub mod Wholes

@@ -1,5 +1,5 @@
 -- Linear comparisons with whole coefficients, as plain values: what they mean, and their normal form.
-use Rattle.std.specs.Prelude.{◌≡◌, ◌≢◌, ◌↔◌, ℕ, zero, suc, ◌<◌, ◌≤◌, Bool, true, false, ◌&&◌, not, ◌==◌, nat_lt, if◌then◌else◌, ℤ, pos, negsuc, ◌+ℤ◌, ◌*ℤ◌, neg_ℤ, ◌<ℤ◌, ◌≤ℤ◌, unsigned_abs, int_div, int_lt, max, List, [], ◌∷◌, ◌++◌, map, Option, Some, None, Result, Ok, Err, IsFalse, ⊤}
+use Rattle.std.specs.Prelude.{◌≡◌, ◌≢◌, ℕ, zero, suc, ◌<◌, ◌≤◌, Bool, true, false, ◌&&◌, not, ◌==◌, nat_lt, if◌then◌else◌, ℤ, pos, negsuc, ◌+ℤ◌, ◌*ℤ◌, neg_ℤ, ◌<ℤ◌, ◌≤ℤ◌, unsigned_abs, int_div, int_lt, max, List, [], ◌∷◌, map, Option, Some, None, Result, Ok, Err, IsFalse, ⊤}
 use Rattle.scasp_num.specs.declared.linear.Coeff.{Coeff}
 use Rattle.scasp_num.specs.declared.linear.Op.{Op}
 use Rattle.scasp_num.specs.declared.linear.Op.TheVariants as op
@@ -104,7 +104,7 @@ normal_form r =
     record {
       coeffs = shares negate g r.coeffs;
       constant = negated_if negate (int_div r.constant (pos g));
-      op = r.op
+      op = r.op;
     }
 
 -- ---- the negation of a row
@@ -126,7 +126,7 @@ negation r =
     record {
       coeffs = negated negate r.coeffs;
       constant = negated_if negate r.constant;
-      op = opposite r.op
+      op = opposite r.op;
     }
 
 -- ---- a variable replaced by a number

@@ -1,5 +1,5 @@
 -- The normal form of a row that is given by pairs of a variable and a number.
-use Rattle.std.specs.Prelude.{◌≡◌, ℕ, Bool, true, false, ◌==◌, nat_lt, if◌then◌else◌, ℤ, pos, ◌*ℤ◌, unsigned_abs, int_div, Option, Some, None, List, [], ◌∷◌, ⊤}
+use Rattle.std.specs.Prelude.{◌≡◌, ℕ, Bool, true, false, ◌==◌, nat_lt, if◌then◌else◌, ℤ, pos, ◌*ℤ◌, unsigned_abs, int_div, Option, Some, List, [], ◌∷◌, ⊤}
 use Rattle.scasp_num.specs.declared.linear.Coeff.{Coeff}
 use Rattle.scasp_num.specs.declared.linear.RatPair.{RatPair}
 use Rattle.scasp_num.specs.declared.linear.Op.{Op}

@@ -4,8 +4,9 @@ ghost use Rattle.std.specs.Option.{option_copied};
 
 use crate::Memory;
 use crate::normal::{negated, negated_if, normal_form};
-use crate::substitution::{coefficient, merged, others_times, put_constant};
 use crate::rational::{Overflow, Rat};
+use crate::substitution::{coefficient, merged, others_times, put_constant};
+use crate::sums::{multiple, summed, whole, whole_number};
 use std::alloc::Global;
 use std::marker::Model;
 use thiserror::Error;
@@ -165,8 +166,32 @@ impl Model for Row {
 }
 
 impl Row {
-    ghost use Rattle.std.specs.Prelude.{◌↔◌, ℕ, ℤ, IfOk, Option, pos, ◌<ℤ◌, ◌*ℤ◌, ◌≢◌};
-    ghost use Rattle.scasp_num.specs.Linear.{IsNormal, Meets, negation, put_of, join_of, Gives, replaced};
+    ghost use Rattle.std.specs.Prelude.{◌↔◌, ℕ, ℤ, IfOk, Option, pos, ◌<ℤ◌, ◌+ℤ◌, ◌*ℤ◌, ◌≢◌, List};
+    ghost use Rattle.scasp_num.specs.Linear.{IsNormal, Meets, Compares, weighted, negation, put_of, join_of, Gives, replaced};
+    ghost use Rattle.scasp_num.specs.Sums.{normal_of, IsTimes, AreTimes};
+    ghost use Rattle.scasp_num.specs.declared.linear.Coeff.{Coeff};
+
+    /// The normal form of the sum of the pairs, each its number times its variable, and of the constant. The
+    /// numbers of each variable are added in order, then all are multiplied by the least common multiple of
+    /// the denominators. Overflow exactly where an addition overflows, or the multiple or an integer times
+    /// it lies outside -M..M.
+    #[tactic(auto, using(crate::proofs::Numbers::plain), unfolding(crate::specs::Sums::normal_of))]
+    pub fn normal(alloc: Global, pairs: &RatPairs, constant: &Rat, op: Op) -> Result<Row, RowErr>
+        ensures exact { Gives result (normal_of pairs.now constant.now op) }
+
+        // Met exactly where l times the sum compares so, for each l above 0 that makes the numbers whole.
+        ensures meets { IfOk result
+            (λ row. (m : ℕ → ℤ) (d l : ℤ) (ks : List Coeff) (z : ℤ) → (pos 0 <ℤ l) → AreTimes l pairs.now ks → IsTimes l constant.now z →
+            Meets m d row ↔ Compares op (weighted m ks +ℤ z *ℤ d)) }
+        ensures normal { IfOk result IsNormal }
+    {
+        let sums = summed(alloc, pairs.as_slice())?;
+        let l = multiple(constant, sums.as_slice())?;
+        let coeffs = whole(alloc, l, sums.as_slice())?;
+        let last = whole_number(l, constant)?;
+        let row = normal_form(alloc, coeffs.as_slice(), last, op)?;
+        Ok(row)
+    }
 
     /// The row with `x` replaced by a number n/d, in normal form. Overflow exactly where one of d times each
     /// other coefficient, d times the constant, the coefficient of `x` times n, and the sum of the last

@@ -22,7 +22,12 @@ pub(crate) fn coefficient(coeffs: &[Coeff], x: u64) -> i128
 }
 
 /// The terms without `x`, times `d`. Overflow exactly where one of them lies outside -M..M.
-pub(crate) fn others_times(alloc: Global, d: i128, x: u64, coeffs: &[Coeff]) -> Result<Coeffs, RowErr>
+pub(crate) fn others_times(
+    alloc: Global,
+    d: i128,
+    x: u64,
+    coeffs: &[Coeff],
+) -> Result<Coeffs, RowErr>
     ensures { Gives result (others_times d x coeffs.now) }
 {
     let mut kept = Coeffs::new(alloc);

@@ -1,7 +1,6 @@
-use Rattle.std.proofs.Common.{◌≡◌, drop, ◌++◌, Some, []}
+use Rattle.std.proofs.Common.{◌≡◌, drop, ◌++◌, Some}
 use Rattle.scasp_num.specs.Arithmetic.{◌>>=◌}
-use Rattle.scasp_num.specs.Number.{InRange}
-use Rattle.scasp_num.specs.Sums.{added, added_unless, summed, multiple, whole}
+use Rattle.scasp_num.specs.Sums.{added, added_unless}
 use Rattle.scasp_num.proofs.sums.added.Given as goal
 
 abbrev pub invariant-loop-k : goal.invariant-loop-k

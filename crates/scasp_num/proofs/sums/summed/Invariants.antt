@@ -1,7 +1,5 @@
-use Rattle.std.proofs.Common.{◌≡◌, drop, ◌++◌, Some, []}
-use Rattle.scasp_num.specs.Arithmetic.{◌>>=◌}
-use Rattle.scasp_num.specs.Number.{InRange}
-use Rattle.scasp_num.specs.Sums.{added, added_unless, summed, multiple, whole}
+use Rattle.std.proofs.Common.{◌≡◌, drop, []}
+use Rattle.scasp_num.specs.Sums.{summed}
 use Rattle.scasp_num.proofs.sums.summed.Given as goal
 
 abbrev pub invariant-loop-p : goal.invariant-loop-p
