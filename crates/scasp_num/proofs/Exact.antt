@@ -15,7 +15,7 @@ use Rattle.scasp_num.proofs.Integers.{*ℤ_assoc, +ℤ-*ℤ, *ℤ_right_comm, *�
 use Rattle.scasp_num.proofs.Numbers.{IsLowest, IsLowest-exact, within-some, number-parts, number-of, lowest-IsReduced, unsigned_abs-signed, unsigned_abs-over, ltb_lt, lt_ltb, ne_from-pos, sum-den_pos, product-IsReduced}
 
 -- what a step that gave a value was
-bind-some : {A B : Type 0} (o : Option A) (f : A → Option B) (y : B) → Some y ≡ (o >>= f) → (x : A) × (Some x ≡ o) × (Some y ≡ f x)
+pub bind-some : {A B : Type 0} (o : Option A) (f : A → Option B) (y : B) → Some y ≡ (o >>= f) → (x : A) × (Some x ≡ o) × (Some y ≡ f x)
 bind-some None f y e = cc
 bind-some (Some x) f y e = (x, refl, e)
 

@@ -5,3 +5,6 @@ pub mod Exact
 pub mod Ratios
 pub mod NormalForms
 pub mod Meaning
+pub mod Puts
+pub mod Joins
+pub mod Wholes

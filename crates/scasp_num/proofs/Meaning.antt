@@ -1,15 +1,15 @@
 -- What rows mean: their sums, and that the normal form and the negation keep it.
-use Rattle.std.proofs.Common.{◌≡◌, ◌≢◌, ◌↔◌, ℕ, zero, suc, ◌+◌, ◌*◌, ◌<◌, ◌≤◌, Bool, true, false, not, ◌&&◌, ℤ, pos, negsuc, ◌+ℤ◌, ◌-ℤ◌, ◌*ℤ◌, neg_ℤ, ◌<ℤ◌, ◌≤ℤ◌, unsigned_abs, int_div, List, [], ◌∷◌, map, refl, sym, ap, subst, ◌∙◌, arith}
+use Rattle.std.proofs.Common.{◌≡◌, ◌↔◌, ℕ, zero, suc, ◌*◌, ◌<◌, Bool, true, false, not, ◌&&◌, ℤ, pos, negsuc, ◌+ℤ◌, ◌*ℤ◌, neg_ℤ, ◌<ℤ◌, ◌≤ℤ◌, unsigned_abs, int_div, List, [], ◌∷◌, refl, sym, ap, subst, ◌∙◌, arith}
 use Rattle.std.specs.Prelude.{if◌then◌else◌}
 use Rattle.std.specs.Int.{◌∣◌}
 use Rattle.std.proofs.Math.Nat.{mul-pos}
 use Rattle.std.proofs.Math.IntN.{neg_ℤ-neg_ℤ, *ℤ_comm, +ℤ_idl, zero-*ℤ, neg_ℤ-+ℤ}
-use Rattle.std.proofs.lemmas.Int.{ints, unsigned_abs-mul}
+use Rattle.std.proofs.lemmas.Int.{ints}
 use Rattle.scasp_num.specs.declared.linear.Coeff.{Coeff}
 use Rattle.scasp_num.specs.declared.linear.Op.{Op}
 use Rattle.scasp_num.specs.declared.linear.Op.TheVariants as op
 use Rattle.scasp_num.specs.Linear.{Linear, Each, divisor, is_zero, is_symmetric, is_negated, negated_if, shares, normal_form, weighted, Compares, Meets, negation, negated, opposite}
-use Rattle.scasp_num.proofs.Integers.{*ℤ_assoc, *ℤ_right_comm, +ℤ-*ℤ, neg-*ℤ, *ℤ-cancel}
+use Rattle.scasp_num.proofs.Integers.{*ℤ_right_comm, +ℤ-*ℤ, neg-*ℤ, *ℤ-cancel}
 use Rattle.scasp_num.proofs.Exact.{over-times}
 use Rattle.scasp_num.proofs.NormalForms.{share, divisor-dvd, divisor-above, zero_is}
 
@@ -58,7 +58,7 @@ most-times (pos zero) g h = (λ p. omega (arith, ints), λ p. omega (arith, ints
 most-times (pos (suc a)) g h = let m : 0 < suc a * g = mul-pos (omega arith) h in (λ p. absurd (omega (arith, ints)), λ p. absurd (omega (arith, ints)))
 most-times (negsuc a) g h = (λ p. omega (arith, ints), λ p. omega (arith, ints))
 
-compares-times : (o : Op) (n : Bool) (g : ℕ) (z w : ℤ) → 0 < g → (n ≡ true → is_symmetric o ≡ true) → z *ℤ factor n g ≡ w → Compares o z ↔ Compares o w
+pub compares-times : (o : Op) (n : Bool) (g : ℕ) (z w : ℤ) → 0 < g → (n ≡ true → is_symmetric o ≡ true) → z *ℤ factor n g ≡ w → Compares o z ↔ Compares o w
 compares-times op.Eq n g z w h s e = (λ p. sym e ∙ ap (λ x. x *ℤ factor n g) p ∙ zero-*ℤ (factor n g), λ p. zero-from_times z n g h (e ∙ p))
 compares-times op.Ne n g z w h s e = (λ p q. p (zero-from_times z n g h (e ∙ q)), λ p q. p (sym e ∙ ap (λ x. x *ℤ factor n g) q ∙ zero-*ℤ (factor n g)))
 compares-times op.Lt false g z w h s e = let b = below-times z g h in (λ p. subst (λ x. x <ℤ pos 0) e (b.0 p), λ p. b.1 (subst (λ x. x <ℤ pos 0) (sym e) p))

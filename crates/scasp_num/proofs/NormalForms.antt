@@ -1,10 +1,9 @@
 -- The normal form of a row is in normal form, and is met by the same values.
-use Rattle.std.proofs.Common.{◌≡◌, ◌≢◌, ◌↔◌, ℕ, zero, suc, ◌+◌, ◌*◌, ◌/◌, ◌^◌, ◌<◌, ◌≤◌, max, Bool, true, false, not, ◌&&◌, nat_lt, ℤ, pos, negsuc, ◌+ℤ◌, ◌*ℤ◌, neg_ℤ, ◌<ℤ◌, ◌≤ℤ◌, unsigned_abs, int_div, List, [], ◌∷◌, map, refl, sym, ap, subst, ◌∙◌, arith}
+use Rattle.std.proofs.Common.{◌≡◌, ◌≢◌, ℕ, zero, suc, ◌*◌, ◌/◌, ◌^◌, ◌<◌, ◌≤◌, max, Bool, true, false, not, ◌&&◌, ℤ, pos, negsuc, unsigned_abs, int_div, List, [], ◌∷◌, map, refl, sym, ap, subst, ◌∙◌, arith}
 use Rattle.std.specs.Prelude.{if◌then◌else◌, int_lt}
 use Rattle.std.specs.Int.{◌∣◌}
-use Rattle.std.proofs.Math.Nat.{mul-div_cancel', div-le_self, one-dvd, dvd-zero, dvd_refl, dvd_trans, eq_of_mul-eq-mul_left, mul-one, mul-zero}
+use Rattle.std.proofs.Math.Nat.{mul-div_cancel', div-le_self, dvd-zero, dvd_refl, dvd_trans, eq_of_mul-eq-mul_left, mul-one, mul-zero}
 use Rattle.std.proofs.Math.IntN.{neg_ℤ-neg_ℤ}
-use Rattle.std.proofs.lemmas.Int.{ints}
 use Rattle.scasp_num.specs.declared.linear.Coeff.{Coeff}
 use Rattle.scasp_num.specs.declared.linear.Op.{Op}
 use Rattle.scasp_num.specs.declared.linear.Op.TheVariants as op
@@ -12,7 +11,7 @@ use Rattle.scasp_num.specs.Gcd.{gcd}
 use Rattle.scasp_num.specs.Number.{InRange}
 use Rattle.scasp_num.specs.Linear.{Linear, Each, Ascends, integers, common_divisor, divisor, is_zero, leads_below, is_symmetric, is_negated, negated_if, shares, normal_form, negated, negation, opposite, IsNormal}
 use Rattle.scasp_num.proofs.Gcds.{gcd-is, gcd-mul, gcd-zero, gcd_comm}
-use Rattle.scasp_num.proofs.Numbers.{div-pos, unsigned_abs-over, unsigned_abs-signed, below-zero}
+use Rattle.scasp_num.proofs.Numbers.{div-pos, unsigned_abs-over, below-zero}
 
 -- the integer that stands for c in the normal form
 abbrev pub share : Bool → ℕ → ℤ → ℤ
@@ -93,7 +92,7 @@ shares-divisor n g (k ∷ ks) h d = by (is_zero k.c) refl (shares-divisor n g ks
     by : (t : Bool) → is_zero k.c ≡ t → g * common_divisor (map (λ k. k.c) (shares n g ks)) ≡ common_divisor (map (λ k. k.c) ks) → g * common_divisor (map (λ k. k.c) (if t then shares n g ks else (record { x = k.x; c = share n g k.c } ∷ shares n g ks))) ≡ gcd (unsigned_abs k.c) (common_divisor (map (λ k. k.c) ks))
     by true z e = e ∙ sym (gcd-zero_left _) ∙ ap (λ x. gcd (unsigned_abs x) (common_divisor (map (λ k. k.c) ks))) (sym (zero_is k.c z))
     by false z e =
-      sym (gcd-mul g (unsigned_abs (share n g k.c)) (common_divisor (map (λ k. k.c) (shares n g ks))) h) ∙ (λ i. gcd ((ap (λ x. g * x) (unsigned_abs-share n g k.c) ∙ mul-div_cancel' g d.0) i) (e i))
+        sym (gcd-mul g (unsigned_abs (share n g k.c)) (common_divisor (map (λ k. k.c) (shares n g ks))) h) ∙ (λ i. gcd ((ap (λ x. g * x) (unsigned_abs-share n g k.c) ∙ mul-div_cancel' g d.0) i) (e i))
 
 at_most_one : (d n : ℕ) → max d 1 * n ≡ d → n ≤ 1
 at_most_one zero n e = let m : max 0 1 * n ≡ n = omega arith in omega arith
@@ -152,7 +151,7 @@ normal_form-IsNormal r a z h =
       constant_range = share-InRange n g r.constant z;
       range = Each-shares (λ k. InRange k.c) (λ k. InRange k.c) n g (λ k y e. share-InRange n g k.c e) r.coeffs h;
       primitive = at_most_one (common_divisor (integers r)) _ (sym (gcd-mul g (unsigned_abs (share n g r.constant)) (common_divisor (map (λ k. k.c) (shares n g r.coeffs))) (divisor-above r)) ∙ (λ i. gcd ((ap (λ x. g * x) (unsigned_abs-share n g r.constant) ∙ mul-div_cancel' g d.0) i) (shares-divisor n g r.coeffs (divisor-above r) d.1 i)));
-      sign = sign-normal r
+      sign = sign-normal r;
     }
 
 pub normal_form-parts : (r : Linear) (coeffs : List Coeff) (constant : ℤ) → coeffs ≡ shares (is_negated r) (divisor r) r.coeffs → constant ≡ share (is_negated r) (divisor r) r.constant → ◌≡◌ {A = Linear} (record { coeffs = coeffs; constant = constant; op = r.op }) (normal_form r)
@@ -201,5 +200,5 @@ negation-IsNormal r h =
       constant_range = subst (λ x. x < 2 ^ 127) (sym (unsigned_abs-negated_if n r.constant)) h.constant_range;
       range = Each-negated (λ k. InRange k.c) (λ k. InRange k.c) n (λ k. subst (λ x. x < 2 ^ 127) (sym (unsigned_abs-negated_if n k.c))) r.coeffs h.range;
       primitive = subst (λ x. x ≤ 1) (sym (λ i. gcd (unsigned_abs-negated_if n r.constant i) (negated-divisor n r.coeffs i))) h.primitive;
-      sign = negation-sign r h.sign
+      sign = negation-sign r h.sign;
     }

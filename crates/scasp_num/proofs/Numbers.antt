@@ -180,7 +180,7 @@ unsigned_abs-over (pos n) g = refl
 unsigned_abs-over (negsuc n) g = unsigned_abs-signed true (suc n / g)
 
 -- an exact quotient of an integer above 0, and a product of two
-over-pos : (z : ℤ) (g : ℕ) → pos 0 <ℤ z → g ∣ unsigned_abs z → pos 0 <ℤ int_div z (pos g)
+pub over-pos : (z : ℤ) (g : ℕ) → pos 0 <ℤ z → g ∣ unsigned_abs z → pos 0 <ℤ int_div z (pos g)
 over-pos (pos n) g h d = let q : 0 < n / g = div-pos n g d (omega (arith, ints)) in omega (arith, ints)
 over-pos (negsuc n) g h d = absurd (omega (arith, ints))
 

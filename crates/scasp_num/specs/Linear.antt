@@ -1,5 +1,5 @@
 -- Linear comparisons with whole coefficients, as plain values: what they mean, and their normal form.
-use Rattle.std.specs.Prelude.{◌≡◌, ◌≢◌, ◌↔◌, ℕ, zero, suc, ◌<◌, ◌≤◌, Bool, true, false, ◌&&◌, not, ◌==◌, nat_lt, if◌then◌else◌, ℤ, pos, negsuc, ◌+ℤ◌, ◌*ℤ◌, neg_ℤ, ◌<ℤ◌, ◌≤ℤ◌, unsigned_abs, int_div, int_lt, max, List, [], ◌∷◌, ◌++◌, map, Option, Some, None, Result, Ok, Err, IsFalse, ⊤}
+use Rattle.std.specs.Prelude.{◌≡◌, ◌≢◌, ℕ, zero, suc, ◌<◌, ◌≤◌, Bool, true, false, ◌&&◌, not, ◌==◌, nat_lt, if◌then◌else◌, ℤ, pos, negsuc, ◌+ℤ◌, ◌*ℤ◌, neg_ℤ, ◌<ℤ◌, ◌≤ℤ◌, unsigned_abs, int_div, int_lt, max, List, [], ◌∷◌, map, Option, Some, None, Result, Ok, Err, IsFalse, ⊤}
 use Rattle.scasp_num.specs.declared.linear.Coeff.{Coeff}
 use Rattle.scasp_num.specs.declared.linear.Op.{Op}
 use Rattle.scasp_num.specs.declared.linear.Op.TheVariants as op
@@ -104,7 +104,7 @@ normal_form r =
     record {
       coeffs = shares negate g r.coeffs;
       constant = negated_if negate (int_div r.constant (pos g));
-      op = r.op
+      op = r.op;
     }
 
 -- ---- the negation of a row
@@ -126,7 +126,7 @@ negation r =
     record {
       coeffs = negated negate r.coeffs;
       constant = negated_if negate r.constant;
-      op = opposite r.op
+      op = opposite r.op;
     }
 
 -- ---- a variable replaced by a number
@@ -142,13 +142,18 @@ others_times d x [] = Some []
 others_times d x (k ∷ ks) =
     if k.x == x then others_times d x ks else (within (d *ℤ k.c) >>= (λ c. others_times d x ks >>= (λ rest. Some (record { x = k.x; c = c } ∷ rest))))
 
--- the row times the number's denominator, with the variable replaced
+-- the constant that is left, times d, with the variable's coefficient times n
+abbrev pub put_constant : Linear → ℕ → Number → Option ℤ
+put_constant r x q = do
+  left ← within (q.den *ℤ r.constant)
+  right ← within (coefficient x r.coeffs *ℤ q.num)
+  within (left +ℤ right)
+
+-- the row times the number's denominator, with x replaced by the number
 unfoldable pub put_of : Linear → ℕ → Number → Option Linear
 put_of r x q = do
   others ← others_times q.den x r.coeffs
-  left ← within (q.den *ℤ r.constant)
-  right ← within (coefficient x r.coeffs *ℤ q.num)
-  constant ← within (left +ℤ right)
+  constant ← put_constant r x q
   Some (normal_form (record { coeffs = others; constant = constant; op = r.op }))
 
 -- the values m with z for x
@@ -160,3 +165,27 @@ abbrev pub Gives : {A : Type 0} → Result A RowErr → Option A → Type 0
 Gives (Ok row) o = Some row ≡ o
 Gives (Err err.Overflow) o = None ≡ o
 Gives (Err err.Memory) o = ⊤
+
+-- ---- a variable replaced by another
+
+-- c times y added to terms that ascend
+abbrev pub merged : ℕ → ℤ → List Coeff → Option (List Coeff)
+merged y c [] = Some (record { x = y; c = c } ∷ [])
+merged y c (k ∷ ks) =
+    if nat_lt k.x y
+    then (merged y c ks >>= (λ rest. Some (k ∷ rest)))
+    else (if k.x == y
+    then (within (k.c +ℤ c) >>= (λ sum. Some (record { x = y; c = sum } ∷ ks)))
+    else Some (record { x = y; c = c } ∷ k ∷ ks))
+
+-- the row with x replaced by y: the two coefficients are added
+unfoldable pub join_of : Linear → ℕ → ℕ → Option Linear
+join_of r x y = do
+  others ← others_times (pos 1) x r.coeffs
+  coeffs ← merged y (coefficient x r.coeffs) others
+  Some (normal_form (record { coeffs = coeffs; constant = r.constant; op = r.op }))
+
+-- the terms still to come, with c times y among them unless it was placed
+abbrev pub merged_unless : Bool → ℕ → ℤ → List Coeff → Option (List Coeff)
+merged_unless true y c ks = Some ks
+merged_unless false y c ks = merged y c ks

@@ -6,6 +6,8 @@ pub mod hints;
 pub mod linear;
 mod normal;
 pub mod rational;
+mod substitution;
+mod sums;
 
 pub use hints::{Step, StepLists, Steps};
 pub use linear::{Coeff, Coeffs, Op, RatPair, RatPairs, Row, RowErr, Rows};

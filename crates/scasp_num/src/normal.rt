@@ -115,7 +115,12 @@ pub(crate) fn negated(alloc: Global, negate: bool, coeffs: &[Coeff]) -> Result<C
 }
 
 /// The normal form of a row whose variables ascend.
-pub(crate) fn normal_form(alloc: Global, coeffs: &[Coeff], constant: i128, op: Op) -> Result<Row, Memory>
+pub(crate) fn normal_form(
+    alloc: Global,
+    coeffs: &[Coeff],
+    constant: i128,
+    op: Op,
+) -> Result<Row, Memory>
     requires ascending { Ascends coeffs.now }
     requires constant_range { InRange constant }
     requires range { Each (λ k. InRange k.c) coeffs.now }

@@ -231,7 +231,7 @@ impl Rat {
     }
 
     /// The denominator, as an unsigned number.
-    fn parts(&self) -> u128
+    pub(crate) fn parts(&self) -> u128
         ensures value { result ≡ unsigned_abs self.now.den }
         ensures above { 0 < result }
     {
@@ -248,7 +248,7 @@ impl Rat {
     }
 
     /// The denominator divided by a number above 0, rounded toward 0.
-    fn den_over(&self, by: u128) -> i128
+    pub(crate) fn den_over(&self, by: u128) -> i128
         requires { 0 < by }
         ensures value { result ≡ int_div self.now.den (pos by) }
         ensures range { InRange result }

@@ -1,4 +1,4 @@
-use Rattle.std.proofs.Common.{◌≡◌, ℤ, max, to_z, of_z, sym, ap, subst, ◌∙◌}
+use Rattle.std.proofs.Common.{◌≡◌, max, to_z, of_z, sym, ap, subst, ◌∙◌}
 use Rattle.std.specs.Int.{w128}
 use Rattle.std.proofs.lemmas.Int.{to_z-of_z}
 use Rattle.scasp_num.specs.Linear.{Linear, IsNormal, normal_form, is_negated, divisor, shares}
@@ -15,7 +15,7 @@ from_normal-requires c =
     let g : c.max-g.result ≡ divisor r = c.max-g.ensures ∙ ap (λ x. max x 1) c.common_divisor.ensures ∙ (λ i. divisor (record r { constant = plain i })) in
     let kept : c.in_ok-kept.kept ≡ shares (is_negated r) (divisor r) r.coeffs = c.in_ok-kept.ensures ∙ (λ i. shares (n i) (g i) r.coeffs) in
     let last : to_z w128 (of_z w128 c.share.result) ≡ share (is_negated r) (divisor r) r.constant =
-      stored c.share.result c.share.ensures.range ∙ c.share.ensures.value ∙ (λ i. share (n i) (g i) (plain i)) in
+    stored c.share.result c.share.ensures.range ∙ c.share.ensures.value ∙ (λ i. share (n i) (g i) (plain i)) in
     let all : ◌≡◌ {A = Linear} (record { coeffs = c.in_ok-kept.kept; constant = to_z w128 (of_z w128 c.share.result); op = c.args.op }) (normal_form r) = normal_form-parts r _ _ kept last in
     subst (λ (x : Linear). IsNormal x) (sym all) (normal_form-IsNormal r c.requires.ascending c.requires.constant_range c.requires.range)
 
@@ -27,7 +27,7 @@ returns-clause-value c =
     let g : c.max-g.result ≡ divisor r = c.max-g.ensures ∙ ap (λ x. max x 1) c.common_divisor.ensures ∙ (λ i. divisor (record r { constant = plain i })) in
     let kept : c.in_ok-kept.kept ≡ shares (is_negated r) (divisor r) r.coeffs = c.in_ok-kept.ensures ∙ (λ i. shares (n i) (g i) r.coeffs) in
     let last : to_z w128 (of_z w128 c.share.result) ≡ share (is_negated r) (divisor r) r.constant =
-      stored c.share.result c.share.ensures.range ∙ c.share.ensures.value ∙ (λ i. share (n i) (g i) (plain i)) in
+    stored c.share.result c.share.ensures.range ∙ c.share.ensures.value ∙ (λ i. share (n i) (g i) (plain i)) in
     let all : ◌≡◌ {A = Linear} (record { coeffs = c.in_ok-kept.kept; constant = to_z w128 (of_z w128 c.share.result); op = c.args.op }) (normal_form r) = normal_form-parts r _ _ kept last in
     c.from_normal.ensures ∙ all
 
@@ -39,6 +39,6 @@ returns-clause-meets c =
     let g : c.max-g.result ≡ divisor r = c.max-g.ensures ∙ ap (λ x. max x 1) c.common_divisor.ensures ∙ (λ i. divisor (record r { constant = plain i })) in
     let kept : c.in_ok-kept.kept ≡ shares (is_negated r) (divisor r) r.coeffs = c.in_ok-kept.ensures ∙ (λ i. shares (n i) (g i) r.coeffs) in
     let last : to_z w128 (of_z w128 c.share.result) ≡ share (is_negated r) (divisor r) r.constant =
-      stored c.share.result c.share.ensures.range ∙ c.share.ensures.value ∙ (λ i. share (n i) (g i) (plain i)) in
+    stored c.share.result c.share.ensures.range ∙ c.share.ensures.value ∙ (λ i. share (n i) (g i) (plain i)) in
     let all : ◌≡◌ {A = Linear} (record { coeffs = c.in_ok-kept.kept; constant = to_z w128 (of_z w128 c.share.result); op = c.args.op }) (normal_form r) = normal_form-parts r _ _ kept last in
     normal_form-meets_of r c.from_normal.result (c.from_normal.ensures ∙ all)
