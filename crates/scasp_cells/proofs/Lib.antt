@@ -1,0 +1,5 @@
+-- What the walks of `segment` share.
+mod Element
+mod Opens
+mod Shows
+mod Contracts

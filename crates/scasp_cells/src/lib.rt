@@ -1,0 +1,4 @@
+//! A stack in segments over raw memory, whose items never move.
+#![tactic(auto)]
+
+mod segment;
