@@ -3,3 +3,4 @@ mod Element
 mod Opens
 mod Shows
 mod Contracts
+mod Filling

@@ -114,3 +114,22 @@ impl<T, A: Allocator> Segment<T, A> {
         alloc
     }
 }
+
+impl<T: Drop, A: Allocator> Segment<T, A> {
+    // Drops the items, newest first.
+    fn clear(&mut self)
+        ensures { self.new.len ≡ 0 }
+    {
+        while !self.as_slice().is_empty() {
+            let _item = self.pop();
+        }
+    }
+}
+
+// Drops the items, newest first, and frees the block.
+impl<T: Drop, A: Allocator> Drop for Segment<T, A> {
+    fn drop(mut self) {
+        self.clear();
+        let _alloc = self.free();
+    }
+}
