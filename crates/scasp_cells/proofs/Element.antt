@@ -1,7 +1,7 @@
 -- A segment at its parameters, under the names by which the walks go.
 use mathlib.Core.Path.{◌≡◌, refl}
-use Prim.Native.Nat.{ℕ, ◌+◌, ◌≤◌, ◌<◌, ◌^◌}
-use mathlib.Core.List.{List, [], ◌∷◌}
+use Prim.Native.Nat.{ℕ, ◌≤◌, ◌<◌, ◌^◌}
+use mathlib.Core.List.{List, []}
 use lib.ListN.{length}
 use lib.Dec.{T}
 use mir.Syntax.{Ty, w64, ty_int, ty_ptr, ty_struct, ty_ref, ty_named, ty_param, named, mut, tnil, tcons}

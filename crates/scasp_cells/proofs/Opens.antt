@@ -20,7 +20,7 @@ use denote.Array.{Array}
 use denote.RawPtr.{Ptr, block_ptr, in_block, in_a_block}
 use denote.Steps.{opens, closes}
 use denote.Struct.Struct.{Struct}
-use denote.Struct.Owning.{shape, fields}
+use denote.Struct.Owning.{shape}
 use Rattle.std_alloc.specs.Vec.Ownership.{has_block, vec_owns, owns_if}
 use Rattle.core.specs.Allocator.{block_with_items}
 use Rattle.std_alloc.proofs.Flags.{T_true}

@@ -1,5 +1,5 @@
 -- How the items lie in the segments.
-use Rattle.std.specs.Prelude.{◌≡◌, ℕ, ◌+◌, ◌-◌, ◌^◌, ◌<◌, ◌≤◌, min, List, [], ◌∷◌, ◌++◌, length}
+use Rattle.std.specs.Prelude.{◌≡◌, ℕ, ◌+◌, ◌-◌, ◌^◌, ◌<◌, min, List, [], ◌∷◌, ◌++◌, length}
 use Rattle.scasp_cells.specs.declared.segment.Segment.{Segment}
 
 -- the items of the segments, one segment after another

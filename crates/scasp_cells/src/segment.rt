@@ -86,9 +86,9 @@ impl<T, A: Allocator> Segment<T, A> {
     {
         unsafe {
             let place = self.ptr.cast_mut().add(at);
-            let old = place.read();
+            let before = place.read();
             place.write(item);
-            old
+            before
         }
     }
 

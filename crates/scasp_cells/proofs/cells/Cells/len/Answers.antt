@@ -1,5 +1,5 @@
 use Rattle.std.proofs.Common.{sym}
-use Rattle.scasp_cells.proofs.Filling.{length-joined, opened}
+use Rattle.scasp_cells.proofs.Filling.{length-joined}
 use Rattle.scasp_cells.proofs.cells.Cells.len.Goals as goal
 
 pub returns-clause-len : goal.returns-clause-len

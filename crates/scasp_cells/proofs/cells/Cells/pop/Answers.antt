@@ -1,4 +1,4 @@
-use Rattle.std.proofs.Common.{◌≡◌, ◌+◌, ◌-◌, ◌^◌, ◌<◌, length, length-set, ap, arith}
+use Rattle.std.proofs.Common.{◌≡◌, ◌-◌, ◌^◌, ◌<◌, length, length-set, ap, arith}
 use Rattle.scasp_cells.proofs.Filling.{items_len, segment_within, item_within, pop-joined, pop-filled}
 use Rattle.scasp_cells.specs.Stack.{Stack}
 use Rattle.scasp_cells.proofs.cells.Cells.pop.Goals as goal

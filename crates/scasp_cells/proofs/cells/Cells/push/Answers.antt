@@ -1,4 +1,4 @@
-use Rattle.std.proofs.Common.{◌≡◌, ◌+◌, ◌-◌, ◌^◌, ◌<◌, ◌≤◌, List, [], ◌∷◌, ◌++◌, true, false, length, length-set, refl, sym, ap, ◌∙◌, arith, lt_of_not-le}
+use Rattle.std.proofs.Common.{◌≡◌, ◌+◌, ◌-◌, ◌^◌, ◌≤◌, List, [], ◌∷◌, ◌++◌, true, false, length, length-set, refl, sym, ap, ◌∙◌, arith, lt_of_not-le}
 use Rattle.std.proofs.Math.Pow.{pow_mono}
 use Rattle.scasp_cells.specs.Stack.{Stack}
 use Rattle.scasp_cells.proofs.Filling.{items_len, segment_within, segment_near, room_left, push-joined, push-filled}

@@ -1,4 +1,4 @@
-use Rattle.std.proofs.Common.{◌≡◌, ◌<◌, length, arith}
+use Rattle.std.proofs.Common.{◌≡◌, length, arith}
 use Rattle.scasp_cells.proofs.Filling.{items_len, len_small, segment_within, item_within, slice_get-joined, set-joined, set-filled}
 use Rattle.scasp_cells.proofs.cells.Cells.set.Goals as goal
 

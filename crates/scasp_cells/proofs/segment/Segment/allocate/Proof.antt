@@ -1,11 +1,10 @@
 -- `allocate` lends the handle for the call, and keeps what comes back with it. Assumes `Logic`.
 use mathlib.Core.Path.{◌≡◌, refl, sym, subst, ap, ◌∙◌}
 use mathlib.Core.Bool.{true, false}
-use Prim.Native.Nat.{ℕ, ◌+◌, ◌-◌, ◌*◌, ◌≤◌, ◌<◌, ◌^◌}
+use Prim.Native.Nat.{ℕ, ◌+◌, ◌-◌, ◌*◌, ◌<◌, ◌^◌}
 use native.Mathlib.Omega.{arith}
 use mathlib.Core.List.{List, [], ◌∷◌, ◌++◌}
 use lib.Dec.{lit<}
-use lib.ListN.{length}
 use seplogic.Ra.Ura.{Ura}
 use base.Fraction.{full_share}
 use base.Fml.{Fml, Lft, Share, ftrue, fat, froom, flft, Incl-trans}
@@ -56,7 +55,7 @@ use Rattle.std_alloc.proofs.RcSteps.{first_Good, some_Good}
 use Rattle.std_alloc.proofs.ResultValues.{ok_of, err_of}
 use Rattle.std_alloc.proofs.VecSteps.Rows.{room_split, empty}
 use Rattle.std_alloc.proofs.VecSteps.Shapes.{after, head, arm_body}
-use Rattle.scasp_cells.proofs.Element.{El, R, P, Sr, Hd, args, el_x, elτ, sz, wider, el_make, segment_ty, segment_val, segment_typed}
+use Rattle.scasp_cells.proofs.Element.{El, R, P, Sr, Hd, args, elτ, sz, wider, el_make, segment_ty, segment_val, segment_typed}
 use Rattle.scasp_cells.proofs.Opens.{blk_in, segment_made}
 use Rattle.scasp_cells.specs.contracts.segment.Segment.allocate as F
 use Rattle.scasp_cells.specs.contracts.segment.Segment.allocate.Key.{name as #self}

@@ -26,7 +26,7 @@ use denote.Ref.{Bor, ShrRef, shr_vals, shr_Tells}
 use denote.Signature.{plain}
 use denote.Steps.{heard, nothing}
 use denote.Struct.Struct.{Struct}
-use denote.Struct.Owning.{shape, row}
+use denote.Struct.Owning.{shape}
 use denote.Struct.Lending.{in_block_says, lent_out}
 use denote.Triple.Entry.{on_entry}
 use denote.Triple.Spec.{Meets}

@@ -21,7 +21,6 @@ use types.Part.{whole, sub}
 use types.Run.{stop, fld, from, lit, no_more, and_then, of_opd, bin, first, blocks, skips, branches, exec, returns, enter, size_lit, align_word, addr}
 use denote.Exit.{no}
 use denote.RattleType.{owns}
-use denote.Memory.{mem}
 use denote.RawPtr.{block_ptr}
 use denote.Signature.{plain}
 use denote.Steps.{nothing}
@@ -31,7 +30,6 @@ use denote.Triple.Entry.{on_entry}
 use denote.Triple.Spec.{Meets, triple_of}
 use denote.Triple.Statement.{Triple}
 use denote.Triple.Walked.{Stays, stay_dropped, walk_of, ends_at, walk_Meets}
-use denote.Index.{row}
 use mir.MapTy.{inst_fn}
 use prog.Capped.{capped_is, capped_fits}
 use contract.BorrowLft.{◌⊑◌, meet_⊑_right}

@@ -49,17 +49,17 @@ use Rattle.core.proofs.mem.Timeless.{timeless, timeless_laws}
 use types.ByLocal.{alloc_all, pass_all, free_all, look_at, get, through, sets, env}
 
 module _ (E : El) where
-  abbrev put_function : Fn
-  put_function = inst_fn (args E) code.function
+  abbrev push_function : Fn
+  push_function = inst_fn (args E) code.function
 
-abbrev stayed : (E : El) → Stays (K.put_ended E).signature.params (K.put_ended E).kept
+abbrev stayed : (E : El) → Stays (K.push_ended E).signature.params (K.push_ended E).kept
 stayed E = (stay_ref (0 ∷ []) tt (plain (λ _. Sr E)), (stay_dropped (plain (λ _. R E)) no, tt))
 
 module _ (E : El) {M : Type 1} {𝓤 : Ura M} (𝓛 : Logic 𝓤) (κ : Lft) (q : Share) (rb ro : ℕ) (γ : GName) (h : el_d E) (y : el_x E) (vy : Val) (fy : Good E vy) where
   open 𝓛 use {H, A}
 
   abbrev Post : Val → SProp 𝓤
-  Post = (walk_of 𝓛 (K.put_ended E) (stayed E) (K.put_clauses E 𝓛)).post (((κ, tt), (q, tt), tt, (record { ref_ptr = (rb, ro); ghost_name = γ; now = h }, (y, tt)), (vptr rb ro ∷ [], (vy ∷ [], tt))), tt)
+  Post = (walk_of 𝓛 (K.push_ended E) (stayed E) (K.push_clauses E 𝓛)).post (((κ, tt), (q, tt), tt, (record { ref_ptr = (rb, ro); ghost_name = γ; now = h }, (y, tt)), (vptr rb ro ∷ [], (vy ∷ [], tt))), tt)
 
   abbrev n : ℕ
   n = el_len E h
@@ -79,21 +79,21 @@ module _ (E : El) {M : Type 1} {𝓤 : Ura M} (𝓛 : Logic 𝓤) (κ : Lft) (q 
   exits : (h' : el_d E) → ((el_items E h' ≡ el_items E h ++ y ∷ []) × ((el_len E h' ≡ el_len E h + 1) × ((el_cap E h' ≡ el_cap E h) × (h'.ptr ≡ h.ptr)))) → ent 𝓤 (sep 𝓤 (A.obs γ ((Sr E).coded.code h')) (sep 𝓤 (A.bor κ (Borrowed (mem (Sr E)) rb ro γ)) (A.lft κ q))) (Post vunit)
   exits h' e =
       qed 𝓛 (‵ (fobs γ ((Sr E).coded.code h')) ∷ ‵ (fbor κ (Borrowed (mem (Sr E)) rb ro γ)) ∷ ‵ (flft κ q) ∷ []) ∵
-      suffices ! _ (ends_at 𝓛 (K.put_ended E) (stayed E) (K.put_clauses E 𝓛) (((κ, tt), (q, tt), tt, (record { ref_ptr = (rb, ro); ghost_name = γ; now = h }, (y, tt)), (vptr rb ro ∷ [], (vy ∷ [], tt))), tt) vunit tt (h', (tt, tt)) (tt, (tt, tt))) $ Says-All ! (and_fact 𝓤 e.0 (and_fact 𝓤 e.1.0 (and_fact 𝓤 e.1.1.0 (last_fact 𝓤 e.1.1.1)))) $
+      suffices ! _ (ends_at 𝓛 (K.push_ended E) (stayed E) (K.push_clauses E 𝓛) (((κ, tt), (q, tt), tt, (record { ref_ptr = (rb, ro); ghost_name = γ; now = h }, (y, tt)), (vptr rb ro ∷ [], (vy ∷ [], tt))), tt) vunit tt (h', (tt, tt)) (tt, (tt, tt))) $ Says-All ! (and_fact 𝓤 e.0 (and_fact 𝓤 e.1.0 (and_fact 𝓤 e.1.1.0 (last_fact 𝓤 e.1.1.1)))) $
       nothing ! $ move ! (3 ∷ 0 ∷ []) $ join ! $ frame ! $ feq_i ! (List Val) (vptr rb ro ∷ []) (vptr rb ro ∷ []) refl $ fjoin3 ! $ nothing ! $ nothing ! $ fjoin ! $ move ! (1 ∷ 0 ∷ []) $ fjoin ! $
       feq_i ! (List Val) (vunit ∷ []) (vunit ∷ []) refl $ move ! (1 ∷ 0 ∷ []) $ done !
 
   module _ (C : Calls 𝓤 H) (Λ : Loops 𝓤 H) where
-    walk : (el_len E h < el_cap E h) → ent 𝓤 (on_entry 𝓛 (K.put_ended E).signature (κ, tt) (q, tt) (record { ref_ptr = (rb, ro); ghost_name = γ; now = h }, (y, tt)) (vptr rb ro ∷ [], (vy ∷ [], tt))) (WpFn 𝓤 H C Λ (put_function E) (vptr rb ro ∷ vy ∷ []) Post)
+    walk : (el_len E h < el_cap E h) → ent 𝓤 (on_entry 𝓛 (K.push_ended E).signature (κ, tt) (q, tt) (record { ref_ptr = (rb, ro); ghost_name = γ; now = h }, (y, tt)) (vptr rb ro ∷ [], (vy ∷ [], tt))) (WpFn 𝓤 H C Λ (push_function E) (vptr rb ro ∷ vy ∷ []) Post)
     walk asked =
         let lens : n ≡ length xs = (el_ok E h).0 in
         let le : n ≤ c = (el_ok E h).1 in
         let less : n < c = asked in
         let pos : 0 < c = omega arith in
         let le₁ : n + 1 ≤ c = omega arith in
-        qed 𝓛 ((‵ (flft κ q) ⊛ ‵ ftrue) ∷ ‵ (owns (MutRef (named 0) κ (Sr E) ∷ R E ∷ []) (record { ref_ptr = (rb, ro); ghost_name = γ; now = h }, (y, tt)) (vptr rb ro ∷ [], (vy ∷ [], tt))) ∷ []) ∵ enter ! C Λ (put_function E) (vptr rb ro ∷ vy ∷ []) _ $
+        qed 𝓛 ((‵ (flft κ q) ⊛ ‵ ftrue) ∷ ‵ (owns (MutRef (named 0) κ (Sr E) ∷ R E ∷ []) (record { ref_ptr = (rb, ro); ghost_name = γ; now = h }, (y, tt)) (vptr rb ro ∷ [], (vy ∷ [], tt))) ∷ []) ∵ enter ! C Λ (push_function E) (vptr rb ro ∷ vy ∷ []) _ $
         alloc_all ! (λ l. pass_all ! refl ((tt, tt), (fy, tt)) $
-        let En : Env 𝓤 H = env (put_function E).locals l in
+        let En : Env 𝓤 H = env (push_function E).locals l in
         move ! (1 ∷ []) $ fsplit ! $ fsplit3 ! $ drop ! $ move ! (3 ∷ []) $ split ! $ move ! (2 ∷ 3 ∷ 0 ∷ []) $
         segment_opens E ! tt h rb ro pos (λ b o hv at_b fl fc fit.
         let tiny : s < 2 ^ 64 = wider s (one_below c s (2 ^ 63) pos fit) in
@@ -109,7 +109,7 @@ module _ (E : El) {M : Type 1} {𝓤 : Ura M} (𝓛 : Logic 𝓤) (κ : Lft) (q 
         sets ! (bin ! (get ! refl) (get ! refl) tt) refl (tt, tt) $
         sets ! (of_opd ! (get ! refl)) refl fy $
         assigns_last ! (of_opd ! (get ! refl)) (through ! refl (stop !)) (init ! 0 refl fy) $
-        exec ! C Λ En (after 2 (put_function E).body) (at_ret En Post) $
+        exec ! C Λ En (after 2 (push_function E).body) (at_ret En Post) $
         sets ! (bin ! (get ! refl) (lit ! tt) (record { fits = f₁ })) refl (tt, record { fits = f₁ }) $
         assigns ! (of_opd ! (get ! refl)) (through ! refl (fld ! refl (stop !))) (store_in ! 4 (sub ! 1 refl (whole !)) (tt, record { fits = f₁ })) $
         sets ! (of_opd ! (unit_lit !)) refl (tt, tt) $
@@ -131,8 +131,8 @@ module _ (E : El) {M : Type 1} {𝓤 : Ura M} (𝓛 : Logic 𝓤) (C : Calls �
   open 𝓛 use {H}
 
   abbrev Goal : List Val → List Val → Type 1
-  Goal us vs = ent 𝓤 (on_entry 𝓛 (K.put_ended E).signature (κ, tt) (q, tt) (record { ref_ptr = (rb, ro); ghost_name = γ; now = h }, (y, tt)) (us, (vs, tt)))
-      (WpFn 𝓤 H C Λ (put_function E) (us ++ (vs ++ [])) ((walk_of 𝓛 (K.put_ended E) (stayed E) (K.put_clauses E 𝓛)).post (((κ, tt), (q, tt), tt, (record { ref_ptr = (rb, ro); ghost_name = γ; now = h }, (y, tt)), (us, (vs, tt))), tt)))
+  Goal us vs = ent 𝓤 (on_entry 𝓛 (K.push_ended E).signature (κ, tt) (q, tt) (record { ref_ptr = (rb, ro); ghost_name = γ; now = h }, (y, tt)) (us, (vs, tt)))
+      (WpFn 𝓤 H C Λ (push_function E) (us ++ (vs ++ [])) ((walk_of 𝓛 (K.push_ended E) (stayed E) (K.push_clauses E 𝓛)).post (((κ, tt), (q, tt), tt, (record { ref_ptr = (rb, ro); ghost_name = γ; now = h }, (y, tt)), (us, (vs, tt))), tt)))
 
   entry : (us vs : List Val) → us ≡ vptr rb ro ∷ [] → Typed (elτ E ∷ []) vs → (el_len E h < el_cap E h) → Goal us vs
   entry us [] e t asked = absurd t
@@ -140,12 +140,12 @@ module _ (E : El) {M : Type 1} {𝓤 : Ura M} (𝓛 : Logic 𝓤) (C : Calls �
   entry us (v ∷ w ∷ vs) e t asked = absurd t.1
 
 meets : (E : El) {M : Type 1} {𝓤 : Ura M} (𝓛 : Logic 𝓤) (𝓣 : Tables 𝓤 𝓛.H)
-    → Meets 𝓛 (K.put_ended E).signature (WpFn 𝓤 𝓛.H 𝓣.C 𝓣.Λ (put_function E)) (closing 𝓛 (K.put_ended E) (K.put_clauses E 𝓛))
+    → Meets 𝓛 (K.push_ended E).signature (WpFn 𝓤 𝓛.H 𝓣.C 𝓣.Λ (push_function E)) (closing 𝓛 (K.push_ended E) (K.push_clauses E 𝓛))
 meets E {𝓤 = 𝓤} 𝓛 𝓣 =
-    walk_Meets 𝓛 (K.put_ended E) (stayed E) (Goes-ref 𝓛 1 0 tt (plain (λ _. Sr E)), (Goes-dropped 𝓛 1 (plain (λ _. R E)) no (λ κs x f. refl), tt)) (K.put_clauses E 𝓛) (WpFn 𝓤 𝓛.H 𝓣.C 𝓣.Λ (put_function E)) (WpFn-mono 𝓤 𝓛.H 𝓛.laws 𝓣 (put_function E))
+    walk_Meets 𝓛 (K.push_ended E) (stayed E) (Goes-ref 𝓛 1 0 tt (plain (λ _. Sr E)), (Goes-dropped 𝓛 1 (plain (λ _. R E)) no (λ κs x f. refl), tt)) (K.push_clauses E 𝓛) (WpFn 𝓤 𝓛.H 𝓣.C 𝓣.Λ (push_function E)) (WpFn-mono 𝓤 𝓛.H 𝓛.laws 𝓣 (push_function E))
     (λ z. let a = z.0.3 in let vss = z.0.4 in let Rs : List RattleType = MutRef (named 0) z.0.0.0 (Sr E) ∷ R E ∷ [] in
-    needs 𝓤 (el_len E a.0.now < el_cap E a.0.now) (on_entry 𝓛 (K.put_ended E).signature z.0.0 z.0.1 a vss) (λ asked.
-    fact_use 𝓤 (Are Rs (Ises Rs) a vss) (via 𝓤 (sem 𝓛 (owns Rs a vss)) (snd∗ 𝓤 (alive 𝓛 (K.put_ended E).signature z.0.0 z.0.1) (sem 𝓛 (owns Rs a vss))) (owns_show 𝓛 Rs (Ises Rs) (showss 𝓛 Rs) a vss)) (λ are.
+    needs 𝓤 (el_len E a.0.now < el_cap E a.0.now) (on_entry 𝓛 (K.push_ended E).signature z.0.0 z.0.1 a vss) (λ asked.
+    fact_use 𝓤 (Are Rs (Ises Rs) a vss) (via 𝓤 (sem 𝓛 (owns Rs a vss)) (snd∗ 𝓤 (alive 𝓛 (K.push_ended E).signature z.0.0 z.0.1) (sem 𝓛 (owns Rs a vss))) (owns_show 𝓛 Rs (Ises Rs) (showss 𝓛 Rs) a vss)) (λ are.
     entry E 𝓛 𝓣.C 𝓣.Λ z.0.0.0 z.0.1.0 a.0.ref_ptr.0 a.0.ref_ptr.1 a.0.ghost_name a.0.now a.1.0
     vss.0 vss.1.0 are.0.0 ((el_lawful E 𝓛).typed a.1.0 vss.1.0 are.1.0) asked)))
 
@@ -155,7 +155,7 @@ push_spec 𝓤 𝓛 𝓜 𝓡 wired X Z L LZ g d dd met md y =
     let E : El = record { row = timeless X; laws = timeless_laws X L; al = record { row = Z; laws = LZ; g = g; d = d; drops = dd } } in
     let A = 𝓛.A in
     let 𝓣 : Tables 𝓤 𝓛.H = tables_of 𝓤 𝓛.H 𝓜 (tables 𝓤 𝓛.H 𝓜 𝓡 𝓡.env) in
-    spared 𝓛 (K.put_ended E).signature (𝓡.run (𝓡.env (#self (args E)))) (run_framed 𝓤 𝓛.H 𝓜 𝓡 (𝓡.env (#self (args E)))) 2 (X.lives, (Z.lives, tt)) (closing 𝓛 (K.put_ended E) (K.put_clauses E 𝓛))
-    (entered 𝓤 𝓛.H (triple_of 𝓛 (K.put_ended E).signature (closing 𝓛 (K.put_ended E) (K.put_clauses E 𝓛))) 𝓣.C 𝓣.Λ (#self (args E)) (inst_fn (args E) code.function) (code.unfolded 𝓤 𝓛.H 𝓜 𝓡 wired (E.row, (Z, tt)) d dd)
+    spared 𝓛 (K.push_ended E).signature (𝓡.run (𝓡.env (#self (args E)))) (run_framed 𝓤 𝓛.H 𝓜 𝓡 (𝓡.env (#self (args E)))) 2 (X.lives, (Z.lives, tt)) (closing 𝓛 (K.push_ended E) (K.push_clauses E 𝓛))
+    (entered 𝓤 𝓛.H (triple_of 𝓛 (K.push_ended E).signature (closing 𝓛 (K.push_ended E) (K.push_clauses E 𝓛))) 𝓣.C 𝓣.Λ (#self (args E)) (inst_fn (args E) code.function) (code.unfolded 𝓤 𝓛.H 𝓜 𝓡 wired (E.row, (Z, tt)) d dd)
     (meets E 𝓛 𝓣))
     ((y.0.0, y.0.1, tt, y.0.3, y.0.4), y.1)

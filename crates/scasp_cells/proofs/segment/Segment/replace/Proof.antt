@@ -6,7 +6,7 @@ use mathlib.Core.List.{List, [], ◌∷◌, ◌++◌}
 use lib.ListN.{length, get_or, set, length-set}
 use seplogic.Ra.Ura.{Ura}
 use base.Fraction.{full_share}
-use mir.Syntax.{Ty, Fn, w64, named}
+use mir.Syntax.{Fn, w64, named}
 use mir.MapTy.{inst_fn}
 use mir.Val.{Val, vint, vptr}
 use base.Logic.{SProp, ent, sep, via, snd∗}
