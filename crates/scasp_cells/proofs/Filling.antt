@@ -7,7 +7,8 @@ use Rattle.std.proofs.Math.Pow.{pow_mono}
 use Rattle.std.proofs.Common.{lt_of_not-le}
 use Rattle.std.specs.Prelude.{slice_get, Some, None}
 use Rattle.scasp_cells.specs.declared.segment.Segment.{Segment}
-use Rattle.scasp_cells.specs.Filled.{joined, FillsFrom, IsFilled}
+use Rattle.scasp_cells.specs.Stack.{Stack}
+use Rattle.scasp_cells.specs.Filled.{joined, FillsFrom, IsFilled, stack_of}
 
 pub slice_get-append_left : {X : Type 0} (xs ys : List X) (i : ℕ) (x : X) → slice_get xs i ≡ Some x → slice_get (xs ++ ys) i ≡ Some x
 slice_get-append_left [] ys i x e = cc
@@ -194,11 +195,14 @@ module _ {X Z : Type 0} where
       }
 
 module _ {X Z : Type 0} (len : ℕ) (ss : List (Segment X Z)) (filled : IsFilled len ss) where
-  pub items_len : length (joined ss) ≡ len
-  items_len = length-joined 1 len ss filled.in_order
-
   pub len_small : len < 2 ^ 63
   len_small = let few : length ss ≤ 63 = omega (arith, filled.few) in let small : 2 ^ length ss ≤ 2 ^ 63 = pow_mono few in omega (arith, filled.within)
+
+  pub seen_len : (v : Stack X) → stack_of len ss ≡ v → length v.items ≡ len
+  seen_len v e = rw (← e) (length-joined 1 len ss filled.in_order)
+
+pub seen_spare : {X Z : Type 0} (len : ℕ) (ss : List (Segment X Z)) (v : Stack X) → stack_of len ss ≡ v → (2 ^ length ss - 1) - len ≡ v.spare
+seen_spare {X} len ss v e = ap (λ (w : Stack X). w.spare) e
 
 -- the segment of a place that is filled is there
 pub segment_within : (n len at k off : ℕ) → at + 1 ≡ 2 ^ k + off → at < len → len < 2 ^ n → k < n

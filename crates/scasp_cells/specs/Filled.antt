@@ -1,6 +1,7 @@
 -- How the items lie in the segments.
 use Rattle.std.specs.Prelude.{◌≡◌, ℕ, ◌+◌, ◌-◌, ◌^◌, ◌<◌, min, List, [], ◌∷◌, ◌++◌, length}
 use Rattle.scasp_cells.specs.declared.segment.Segment.{Segment}
+use Rattle.scasp_cells.specs.Stack.{Stack}
 
 -- the items of the segments, one segment after another
 abbrev pub joined : {X Z : Type 0} → List (Segment X Z) → List X
@@ -17,3 +18,7 @@ pub record IsFilled {X Z : Type 0} (len : ℕ) (segments : List (Segment X Z)) :
   pub in_order : FillsFrom 1 len segments
   pub within : len < 2 ^ length segments
   pub few : length segments < 64
+
+-- what callers see of them
+abbrev pub stack_of : {X Z : Type 0} → ℕ → List (Segment X Z) → Stack X
+stack_of len segments = record { items = joined segments; spare = (2 ^ length segments - 1) - len }

@@ -16,13 +16,12 @@ pub struct Cells<T> {
 }
 
 impl<T> Model for Cells<T> {
-    ghost use Rattle.std.specs.Prelude.{ℕ, ◌-◌, ◌^◌, length};
     ghost use Rattle.scasp_cells.specs.Stack.{Stack};
-    ghost use Rattle.scasp_cells.specs.Filled.{joined, IsFilled};
+    ghost use Rattle.scasp_cells.specs.Filled.{stack_of, IsFilled};
 
     ghost Value = { Stack T };
 
-    ghost view = { λ c. record { items = joined c.segments.items; spare = (2 ^ length c.segments.items - 1) - c.len } };
+    ghost view = { λ c. stack_of c.len c.segments.items };
 
     ghost invariant = { λ c. IsFilled c.len c.segments.items };
 }

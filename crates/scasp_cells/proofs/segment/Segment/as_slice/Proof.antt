@@ -5,7 +5,7 @@ use native.Mathlib.Nat.{mul-le-mul_right, lt_of_le_of_lt}
 use lib.ListN.{length}
 use mathlib.Core.List.{List, [], ◌∷◌}
 use seplogic.Ra.Ura.{Ura}
-use mir.Syntax.{Body, Fn, named, erased, imm, w64, ty_int, ty_ptr, ty_ref, ty_param, ty_named, tnil, tcons, place, copy, assign, rv_opd, seq, return}
+use mir.Syntax.{Fn, named}
 use mir.Val.{Val, vptr}
 use base.Logic.{SProp, ent, sep, emp, via, fst∗}
 use base.Fml.{Lft, Share, ftrue, fhide, flft}
@@ -14,13 +14,15 @@ use types.Logic.{Logic, sem}
 use sound.WpLaws.{WpFn-mono}
 use types.Kit.{at_ret, ‵, ◌⊛◌, ◌$◌, ◌∵◌, !, qed, by, move, keep, use1, drop, split, join, fsplit, fjoin, feq_i, flt_i, flt_l, raw, suffices, frame, done}
 use types.Part.{agg}
-use types.Run.{look, init, forget, stop, hop, fld, from, load, no_more, and_then, of_opd, assigns, assigns_last, first, blocks, exec, returns, enter, alloc1, alloc0, params1, pass1, pass0, free1, free0}
+use types.Run.{look, stop, fld, load, no_more, and_then, of_opd, first, blocks, exec, returns, enter}
+use types.ByLocal.{alloc_all, pass_all, free_all, look_at, get, through, sets, sets_last, env}
+use Rattle.std_alloc.proofs.VecSteps.Shapes.{after}
 use contract.Monad.{fact}
 use denote.Exit.{yes}
 use denote.RattleType.{RattleType, owns}
 use denote.Memory.{mem, hidden_shr}
 use denote.Opens.{shr_dup, unhide, hide}
-use denote.Slice.{slice_ty, slice_val, elements_shared}
+use denote.Slice.{slice_val, elements_shared}
 use denote.RawPtr.{block_of, count_of, InBlock}
 use denote.Ref.{Bor, ShrRef, shr_vals, shr_Tells}
 use denote.Signature.{plain}
@@ -39,7 +41,7 @@ use denote.Triple.Spec.{triple_of}
 use denote.Triple.Table.{entered, run_framed}
 use denote.Triple.Carry.{spared}
 use Rattle.scasp_cells.proofs.Element.{El, args, el_x, el_d, R, Sr, segment_row_laws, owning, P}
-use Rattle.scasp_cells.specs.contracts.segment.Segment as vec-type
+use Rattle.scasp_cells.specs.contracts.segment.Segment as segment-type
 use Rattle.scasp_cells.specs.contracts.segment.Segment.as_slice.Key.{name as #self}
 use Rattle.scasp_cells.proofs.segment.Segment.as_slice.Statement as stated
 use Rattle.scasp_cells.proofs.segment.Segment.as_slice.Code as code
@@ -60,9 +62,6 @@ module _ (E : El) where
 
   abbrev spec : {M : Type 1} (𝓤 : Ura M) → Clauses 𝓤 ended
   spec 𝓤 κs a = record { ghost = Unit {0}; requires = λ _. emp 𝓤; ensures = λ _ r _. sep 𝓤 (fact 𝓤 (r.now ≡ a.0.now.items)) (fact 𝓤 (length r.now ≡ a.0.now.len)) }
-
-abbrev rest : Body
-rest = seq (assign (place 0 []) (rv_opd (copy (place 2 [])))) return
 
 module _ (E : El) {M : Type 1} {𝓤 : Ura M} (𝓛 : Logic 𝓤) where
   open 𝓛 use {H, A}
@@ -98,31 +97,26 @@ module _ (E : El) {M : Type 1} {𝓤 : Ura M} (𝓛 : Logic 𝓤) where
       walk : ent 𝓤 (on_entry 𝓛 (ended E).signature (κ, tt) (q, tt) (self, tt) (vptr b o ∷ [], tt)) (WpFn 𝓤 H C Λ (fn' E) (vptr b o ∷ []) Post)
       walk =
           qed 𝓛 ((‵ (flft κ q) ⊛ ‵ ftrue) ∷ ‵ (owns (ShrRef (named 0) κ (Sr E) ∷ []) (self, tt) (vptr b o ∷ [], tt)) ∷ []) ∵ enter ! C Λ (fn' E) (vptr b o ∷ []) _ $
-          alloc1 ! (λ l₀. alloc1 ! (λ l₁. alloc1 ! (λ l₂. alloc1 ! (λ l₃. alloc1 ! (λ l₄. alloc0 ! $ params1 ! $ pass1 ! (init ! 6 refl (tt, tt)) $ pass0 ! $
-          let En : Env 𝓤 H = ((slice_ty (ty_ref (named 0) imm (ty_param 0)), l₀) ∷ (ty_ref (named 0) imm (ty_named ((owning E).name, []) (tcons (ty_param 0) (tcons (ty_param 1) tnil))), l₁) ∷ (slice_ty (ty_ref erased imm (ty_param 0)), l₂) ∷ (ty_ptr, l₃) ∷ (ty_int w64, l₄) ∷ []) in
-          move ! (11 ∷ []) $
-          fsplit ! $ fsplit ! $ drop ! $ shr_dup ! (Sr E) (segment_row_laws E) d b o κ $
-          use1 𝓛 (‵ (hidden_shr Words κ fields b o) ⊛ ‵ (fhide (vec-type.the_lent (R E) (P E) E.al.g d d.ptr κ))) (lent_out 𝓛 (vec-type.struct (R E) (P E) E.al.g) (vec-type.the_codes (el_x E) (P E).Denot (R E).coded (P E).coded) (vec-type.the_heap (R E) (P E) E.al.g) (vec-type.the_lent (R E) (P E) E.al.g) κ d b o) $ split ! $
+          alloc_all ! (λ l. pass_all ! refl ((tt, tt), tt) $
+          let En : Env 𝓤 H = env (fn' E).locals l in
+          move ! (1 ∷ []) $ fsplit ! $ fsplit ! $ drop ! $ shr_dup ! (Sr E) (segment_row_laws E) d b o κ $
+          use1 𝓛 (‵ (hidden_shr Words κ fields b o) ⊛ ‵ (fhide (segment-type.the_lent (R E) (P E) E.al.g d d.ptr κ))) (lent_out 𝓛 (segment-type.struct (R E) (P E) E.al.g) (segment-type.the_codes (el_x E) (P E).Denot (R E).coded (P E).coded) (segment-type.the_heap (R E) (P E) E.al.g) (segment-type.the_lent (R E) (P E) E.al.g) κ d b o) $ split ! $
           move ! (1 ∷ []) $
           unhide ! $ fsplit ! $ flt_l ! (λ fit. fsplit ! $ use1 𝓛 (raw (fact 𝓤 (InBlock d.ptr))) (in_block_says 𝓛 d.ptr) $ heard ! (InBlock d.ptr) (λ inb. fsplit ! $ drop ! $ hide ! $
-          move ! (14 ∷ []) $
-          split ! $
-          move ! (3 ∷ 0 ∷ []) $
+          move ! (4 ∷ []) $ split ! $ move ! (3 ∷ 0 ∷ []) $
+          -- [the words; the token; nothing; the items; the `&`; nothing; the locals]
           first ! $ blocks ! $
           pointer_in ! tt d.ptr inb b (o + 0) (seen.shows_ptr E 𝓛 κ b o d) (λ q0.
-          assigns ! (of_opd ! (load ! (from ! (hop ! (look ! 14 refl) (fld ! refl (stop !)))) (look ! 1 refl))) (from ! (stop !)) (init ! 10 refl (tt, tt)) $
+          sets ! (of_opd ! (load ! (through ! refl (fld ! refl (stop !))) (look ! 1 refl))) refl (tt, tt) $
           pointer_out ! tt d.ptr inb b (o + 0) $ move ! (1 ∷ 0 ∷ []) $
           word_in ! tt d.len b (o + 8) (seen.shows_len E 𝓛 κ b o d) (λ q1 fn.
-          assigns ! (of_opd ! (load ! (from ! (hop ! (look ! 14 refl) (fld ! refl (stop !)))) (look ! 1 refl))) (from ! (stop !)) (init ! 8 refl (tt, record { fits = fn })) $
+          sets ! (of_opd ! (load ! (through ! refl (fld ! refl (stop !))) (look ! 1 refl))) refl (tt, record { fits = fn }) $
           word_out ! tt d.len b (o + 8) fn $ move ! (1 ∷ 0 ∷ []) $
-          assigns_last ! (agg ! (and_then ! (load ! (from ! (stop !)) (look ! 8 refl)) (and_then ! (load ! (from ! (stop !)) (look ! 6 refl)) (no_more !)))) (from ! (stop !)) (init ! 10 refl (tt, (tt, (record { fits = fn }, tt)))) $
-          exec ! C Λ En rest (at_ret En Post) $
-          move ! (1 ∷ 0 ∷ []) $
-          assigns ! (of_opd ! (load ! (from ! (stop !)) (look ! 10 refl))) (from ! (stop !)) (init ! 14 refl (tt, (tt, (record { fits = fn }, tt)))) $
-          returns ! (look ! 14 refl) $
-          forget ! 6 refl $ forget ! 8 refl $ forget ! 10 refl $ forget ! 12 refl $ forget ! 14 refl $ move ! (14 ∷ 15 ∷ []) $ free1 ! $ move ! (12 ∷ 13 ∷ []) $ free1 ! $ move ! (10 ∷ 11 ∷ []) $ free1 ! $ move ! (8 ∷ 9 ∷ []) $ free1 ! $ move ! (6 ∷ 7 ∷ []) $ free1 ! $ free0 ! $
-          keep ! (0 ∷ 4 ∷ 3 ∷ []) $
-          by ! (exits fn (lt_of_le_of_lt (mul-le-mul_right (mem (R E)).size d.ok.1) fit)))))))))))
+          sets_last ! (agg ! (and_then ! (get ! refl) (and_then ! (get ! refl) (no_more !)))) refl (tt, (tt, (record { fits = fn }, tt))) $
+          exec ! C Λ En (after 1 (fn' E).body) (at_ret En Post) $ move ! (1 ∷ 0 ∷ []) $
+          sets ! (of_opd ! (get ! refl)) refl (tt, (tt, (record { fits = fn }, tt))) $
+          returns ! (look_at ! 0 refl) $ free_all ! refl $ keep ! (0 ∷ 4 ∷ 3 ∷ []) $
+          by ! (exits fn (lt_of_le_of_lt (mul-le-mul_right (mem (R E)).size d.ok.1) fit)))))))
 
   meets : (𝓣 : Tables 𝓤 H) → Meets 𝓛 (ended E).signature (WpFn 𝓤 H 𝓣.C 𝓣.Λ (fn' E)) (closing 𝓛 (ended E) (spec E 𝓤))
   meets 𝓣 =
