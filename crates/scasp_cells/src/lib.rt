@@ -10,6 +10,8 @@
 //! above them is plain code.
 #![tactic(auto)]
 
+ghost use Rattle.std.specs.Prelude.{Some, codes};
+
 use std::error::Error;
 use std::fmt;
 
@@ -26,6 +28,8 @@ pub use cells::Cells;
 pub struct Memory;
 
 impl fmt::Display for Memory {
+    ghost output = { λ _. Some (codes "out of memory") };
+
     fn fmt<W: fmt::Write>(&self, f: &mut fmt::Formatter<W>) -> fmt::Result {
         f.write_str("out of memory")
     }
