@@ -1,10 +1,10 @@
 -- A segment at its parameters, under the names by which the walks go.
 use mathlib.Core.Path.{◌≡◌, refl}
 use Prim.Native.Nat.{ℕ, ◌≤◌, ◌<◌, ◌^◌}
-use mathlib.Core.List.{List, []}
+use mathlib.Core.List.{List}
 use lib.ListN.{length}
 use lib.Dec.{T}
-use mir.Syntax.{Ty, w64, ty_int, ty_ptr, ty_struct, ty_ref, ty_named, ty_param, named, mut, tnil, tcons}
+use mir.Syntax.{Ty, w64, ty_int, ty_ptr, ty_struct, tnil, tcons}
 use mir.Val.{Val, vint, vstruct, vnil, vcons, has_ty, WT}
 use denote.RattleType.{RattleType, RowLaws}
 use denote.RawPtr.{Ptr, block_ptr, ptr_val, ptr_row_laws}
@@ -33,9 +33,6 @@ module _ (E : El) where
 
   abbrev pub segment_ty : Ty
   segment_ty = ty_struct owning.name (tcons ty_ptr (tcons (ty_int w64) (tcons (ty_int w64) (tcons (α E.al) tnil))))
-
-  abbrev pub ref_ty : Ty
-  ref_ty = ty_ref (named 0) mut (ty_named (owning.name, []) (tcons (ty_param 0) (tcons (ty_param 1) tnil)))
 
   abbrev pub el_d : Type 0
   el_d = Segment (el_x E) (Hd E)

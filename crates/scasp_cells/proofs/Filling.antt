@@ -1,10 +1,9 @@
 -- One segment of a filled row is opened: what lies before and behind it, and what becomes of the row when it changes.
-use Rattle.std.proofs.Common.{◌≡◌, ℕ, zero, suc, ◌+◌, ◌-◌, ◌*◌, ◌^◌, ◌<◌, ◌≤◌, ◌⊎◌, inl, inr, min, List, [], ◌∷◌, ◌++◌, length, get_or, set, refl, sym, ap, subst, ◌∙◌, arith, append_assoc, append-nil, length-append, length-set}
+use Rattle.std.proofs.Common.{◌≡◌, ℕ, zero, suc, ◌+◌, ◌-◌, ◌*◌, ◌^◌, ◌<◌, ◌≤◌, ◌⊎◌, inl, inr, min, List, [], ◌∷◌, ◌++◌, length, get_or, set, refl, sym, ap, subst, ◌∙◌, arith, append_assoc, append-nil, length-append, length-set, lt_of_not-le}
 use Rattle.std.proofs.lemmas.List.{nil_from_length, set-append_left, set-append_right}
 use Rattle.std.proofs.lemmas.Option.{slice_get_read}
 use Rattle.std.proofs.Math.Nat.{pow-suc, mul-le-mul_left}
 use Rattle.std.proofs.Math.Pow.{pow_mono}
-use Rattle.std.proofs.Common.{lt_of_not-le}
 use Rattle.std.specs.Prelude.{slice_get, Some, None}
 use Rattle.scasp_cells.specs.declared.segment.Segment.{Segment}
 use Rattle.scasp_cells.specs.Stack.{Stack}

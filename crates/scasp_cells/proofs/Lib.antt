@@ -1,4 +1,4 @@
--- What the walks of `segment` share.
+-- What the walks of `segment` share, and in `Filling` what the answers of `cells` do.
 mod Element
 mod Opens
 mod Shows

@@ -1,40 +1,31 @@
 -- What a segment owns is taken apart and made, and a `&mut` to a segment is opened and closed, at any element type. Assumes `Logic`.
-use mathlib.Core.Path.{◌≡◌, refl, sym, subst}
+use mathlib.Core.Path.{◌≡◌, refl, sym, subst, ap, ◌∙◌}
 use mathlib.Core.Bool.{Bool, true, not}
 use Prim.Native.Nat.{ℕ, ◌+◌, ◌-◌, ◌*◌, ◌<◌, ◌^◌}
 use native.Mathlib.Nat.{lt_irrefl}
-use mathlib.Core.List.{List, [], ◌∷◌}
+use mathlib.Core.List.{List, [], ◌∷◌, ◌++◌}
 use seplogic.Ra.Ura.{Ura}
 use base.Fraction.{full_share}
-use lib.Dec.{T, T_not, eqb, eqb→eq}
+use lib.Dec.{T, eqb, eqb→eq}
 use mir.Syntax.{w64, ty_array}
-use mir.Val.{Val, vint, vptr, vstruct}
+use mir.Val.{Val, vint, vptr, vstruct, of_list}
 use base.Stored.{Gv}
 use base.Fml.{Lft, GName, Share, Fml, fsep, froom, flft, fobs, fauth, fbor, fobor}
 use types.Logic.{Logic}
-use types.Kit.{Goal, Soaks, Step, step, Seq, Item, ‵, ◌$◌, move, rewrite, fsplit, fjoin, flt_l, flt_i}
+use types.Kit.{Goal, Soaks, Step, step, Seq, Item, ‵, ◌$◌, move, rewrite, fsplit, fjoin, flt_l, flt_i, fpick, fpack, feq_i, drop, feq_l}
 use types.SemTy.{Body}
-use denote.RattleType.{RattleType}
+use denote.RattleType.{RattleType, Valss}
 use denote.Memory.{cell_at, part_at, mem}
 use denote.Array.{Array}
 use denote.RawPtr.{Ptr, block_ptr, in_block, in_a_block}
-use denote.Steps.{opens, closes}
-use denote.Struct.Struct.{Struct}
+use denote.Steps.{opens, closes, nothing}
+use denote.Struct.Struct.{Struct, within}
 use denote.Struct.Owning.{shape}
 use Rattle.std_alloc.specs.Vec.Ownership.{has_block, vec_owns, owns_if}
 use Rattle.core.specs.Allocator.{block_with_items}
 use Rattle.std_alloc.proofs.Flags.{T_true}
 use Rattle.scasp_cells.proofs.Element.{El, el_x, elτ, el_d, el_ptr, el_len, el_cap, el_items, R, Sr, sz, owning, Has, segment_val, words_val, Hd, handle, el_heap}
 use base.Logic.{id⊢, never}
-use types.Kit.{fpick, fpack, feq_i, drop}
-use base.Fml.{fsep}
-use denote.RattleType.{Valss}
-use denote.Steps.{nothing}
-use mathlib.Core.Path.{ap, ◌∙◌}
-use mathlib.Core.List.{◌++◌}
-use mir.Val.{of_list}
-use types.Kit.{feq_l}
-use denote.Struct.Struct.{within}
 use Rattle.core.proofs.alloc.Calls.{token, Fits, handle_tells}
 use mir.Raw.{raw as bare}
 use Rattle.std_alloc.proofs.RawLayout.{as_raw, as_written}
@@ -45,9 +36,6 @@ by_bool X mathlib.Core.Bool.false f g = g tt
 
 pub is_live : (c : ℕ) → 0 < c → has_block c ≡ true
 is_live c pos = by_bool (has_block c ≡ true) (eqb c 0) (λ t. let z : c ≡ 0 = eqb→eq c 0 t in absurd (lt_irrefl 0 (subst (λ (j : ℕ). 0 < j) z pos))) (λ t. T_true (has_block c) t)
-
-pub not_live : (c : ℕ) → T (not (has_block c)) → c ≡ 0
-not_live c t = by_bool (c ≡ 0) (eqb c 0) (eqb→eq c 0) (λ n. absurd (T_not (has_block c) t n))
 
 module _ (E : El) where
   -- the block, where there is one

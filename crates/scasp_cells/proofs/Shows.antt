@@ -17,7 +17,7 @@ use denote.RawPtr.{RawPtr, ptr_row_laws}
 use denote.Struct.Struct.{Struct, Struct-row_laws}
 use denote.Struct.Owning.{shape}
 use Rattle.core.proofs.alloc.Calls.{α}
-use Rattle.scasp_cells.proofs.Element.{El, P, el_d, owning}
+use Rattle.scasp_cells.proofs.Element.{El, el_d, owning}
 
 abbrev pub heap_at : El → ℕ
 heap_at E = up (align (α E.al)) 24
@@ -40,9 +40,3 @@ module _ (E : El) {M : Type 1} {𝓤 : Ura M} (𝓛 : Logic 𝓤) (κ : Lft) (b 
 
   pub shows_len : ent 𝓤 (sem 𝓛 S) (sep 𝓤 (sem 𝓛 (hidden_shr usize κ d.len b (o + 8))) (sem 𝓛 S))
   shows_len = qed 𝓛 (‵ S ∷ []) ∵ shr_dup ! Words laws fields b o κ $ unhide ! $ fsplit ! $ fsplit ! $ drop ! $ fsplit ! $ hide ! $ keep ! (0 ∷ 3 ∷ []) $ done !
-
-  pub shows_cap : ent 𝓤 (sem 𝓛 S) (sep 𝓤 (sem 𝓛 (hidden_shr usize κ d.cap b (o + 16))) (sem 𝓛 S))
-  shows_cap = qed 𝓛 (‵ S ∷ []) ∵ shr_dup ! Words laws fields b o κ $ unhide ! $ fsplit ! $ fsplit ! $ drop ! $ fsplit ! $ drop ! $ fsplit ! $ hide ! $ keep ! (0 ∷ 3 ∷ []) $ done !
-
-  pub shows_heap : ent 𝓤 (sem 𝓛 S) (sep 𝓤 (sem 𝓛 (hidden_shr (P E) κ d.alloc b (o + heap_at E))) (sem 𝓛 S))
-  shows_heap = qed 𝓛 (‵ S ∷ []) ∵ shr_dup ! Words laws fields b o κ $ unhide ! $ fsplit ! $ fsplit ! $ drop ! $ fsplit ! $ drop ! $ fsplit ! $ drop ! $ fsplit ! $ hide ! $ keep ! (0 ∷ 3 ∷ []) $ done !

@@ -1,5 +1,5 @@
 -- A `&` to a segment is made where one to an element is. It lends the bound on its size and its elements, and neither the room after them nor the token. Assumes `Logic`.
-use mathlib.Core.Path.{◌≡◌, sym, subst, ◌∙◌}
+use mathlib.Core.Path.{◌≡◌, sym, subst, ◌∙◌, refl}
 use mathlib.Core.Bool.{Bool, true, false, not}
 use mathlib.Core.List.{List, [], ◌∷◌, ◌++◌}
 use Prim.Native.Nat.{ℕ, zero, ◌-◌, ◌*◌, ◌≤◌, ◌^◌}
@@ -8,14 +8,12 @@ use native.Mathlib.Nat.{suc-ne-zero}
 use lib.Dec.{T, eqb, eqb→eq}
 use lib.ListN.{length}
 use seplogic.Ra.Ura.{Ura}
-use mathlib.Core.Path.{refl}
 use base.Fraction.{full_share}
 use base.Logic.{ent, sep}
-use base.Fml.{Lft, ftrue, fsep, flt, fbor, Incl-trans}
-use mir.Syntax.{ty_array}
+use base.Fml.{Lft, ftrue, fsep, flt, fbor, Incl-trans, Fml}
+use mir.Syntax.{ty_array, Ty}
 use types.Logic.{Logic, sem, lfts}
-use types.Kit.{‵, raw, ◌$◌, !, qed, drop, fjoin, feq_i, updating, done}
-use types.Kit.{now as at_once}
+use types.Kit.{‵, raw, ◌$◌, !, qed, drop, fjoin, feq_i, updating, done, now as at_once}
 use contract.BorrowLft.{meet_⊑_left}
 use denote.RattleType.{RattleType}
 use denote.Steps.{nothing}
@@ -24,15 +22,12 @@ use denote.Array.{Array}
 use denote.Sharing.{said}
 use denote.RawPtr.{Ptr, block_ptr, null_ptr, lies_at, room_for, in_block, ◌+ₚ◌}
 use denote.Shares.{Shares, Shares-less, Shares-Array}
-use denote.Param.Laws.{Laws}
+use denote.Param.Laws.{Laws, row_shared}
 use denote.Param.Shared.{copy_shared}
 use denote.ArrayMemory.{Single}
 use denote.Struct.Field.{RawPtr-field, usize-field}
 use denote.Struct.Laws.{RawPtr-copy, usize-copy}
 use denote.Struct.Lending.{lent_at, Lends, Lends-false, Lends-lies, Lends-said, Lends-first, Lends-both, of_Lends}
-use mir.Syntax.{Ty}
-use base.Fml.{Fml}
-use denote.Param.Laws.{row_shared}
 use Rattle.core.specs.declared.alloc.Allocator.{Ghosts}
 use Rattle.core.specs.Mem.{type_size}
 use Rattle.core.specs.Allocator.{block_with_items}

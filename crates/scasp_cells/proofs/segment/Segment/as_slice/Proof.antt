@@ -1,6 +1,6 @@
 -- `as_slice` reads through a `&`, for every element type. Assumes `Logic`.
 use mathlib.Core.Path.{◌≡◌, refl, sym, subst}
-use Prim.Native.Nat.{ℕ, ◌*◌, ◌<◌, ◌^◌}
+use Prim.Native.Nat.{ℕ, ◌*◌, ◌<◌, ◌^◌, ◌+◌}
 use native.Mathlib.Nat.{mul-le-mul_right, lt_of_le_of_lt}
 use lib.ListN.{length}
 use mathlib.Core.List.{List, [], ◌∷◌}
@@ -31,13 +31,12 @@ use denote.Struct.Struct.{Struct}
 use denote.Struct.Owning.{shape}
 use denote.Struct.Lending.{in_block_says, lent_out}
 use denote.Triple.Entry.{on_entry}
-use denote.Triple.Spec.{Meets}
+use denote.Triple.Spec.{Meets, triple_of}
 use denote.Triple.Clauses.{Clauses, Ended, closing}
 use denote.Triple.Walked.{Stays, stay_none_ref, walk_of, ends_at, walked, Goes-none_ref, walk_Meets}
 use mir.MapTy.{inst_fn}
 use denote.Builtin.{RefOf, SliceRefOf}
 use contract.Running.{tables, tables_of}
-use denote.Triple.Spec.{triple_of}
 use denote.Triple.Table.{entered, run_framed}
 use denote.Triple.Carry.{spared}
 use Rattle.scasp_cells.proofs.Element.{El, args, el_x, el_d, R, Sr, segment_row_laws, owning, P}
@@ -45,7 +44,6 @@ use Rattle.scasp_cells.specs.contracts.segment.Segment as segment-type
 use Rattle.scasp_cells.specs.contracts.segment.Segment.as_slice.Key.{name as #self}
 use Rattle.scasp_cells.proofs.segment.Segment.as_slice.Statement as stated
 use Rattle.scasp_cells.proofs.segment.Segment.as_slice.Code as code
-use Prim.Native.Nat.{◌+◌}
 use Rattle.std_alloc.proofs.Words.{word_in, word_out, pointer_in, pointer_out}
 use Rattle.scasp_cells.proofs.Shows as seen
 use Rattle.core.proofs.mem.Facts.{says_two}

@@ -6,7 +6,7 @@ use mathlib.Core.List.{List, [], ◌∷◌, ◌++◌}
 use lib.ListN.{length, get_or, take, length-take}
 use seplogic.Ra.Ura.{Ura}
 use base.Fraction.{full_share}
-use mir.Syntax.{Ty, ty_array, named}
+use mir.Syntax.{Ty, ty_array, named, Fn}
 use mir.Val.{Val, vptr}
 use base.Logic.{SProp, ent, sep}
 use base.Fml.{Lft, GName, Share, ftrue, fat, froom, flft, fobs, fbor}
@@ -25,7 +25,7 @@ use denote.Ref.{MutRef, mut_vals, mut_Tells}
 use denote.Signature.{plain}
 use denote.Steps.{nothing}
 use denote.Triple.Entry.{on_entry}
-use denote.Triple.Spec.{Meets}
+use denote.Triple.Spec.{Meets, triple_of}
 use denote.Triple.Walked.{needs, Stays, stay_ref, walk_of, ends_at, walked, Goes-ref, walk_Meets}
 use Rattle.std_alloc.proofs.VecSteps.Facts.{last_fact, and_fact, Says-All}
 use Rattle.scasp_cells.proofs.Element.{wider, El, el_x, elτ, el_own, el_d, el_len, el_cap, el_items, el_ok, el_make, R, Sr, sz, Good, args, el_heap}
@@ -33,18 +33,15 @@ use Rattle.std_alloc.proofs.VecSteps.Rows.{el_out, unspare, unsnoc}
 use Rattle.core.proofs.ptr.Rows.{hd, take_snoc, take_all, one_below, times_below}
 use Rattle.scasp_cells.proofs.Opens.{segment_opens, segment_closes}
 use Rattle.scasp_cells.proofs.Contracts as K
-use mir.Syntax.{Fn}
 use Rattle.std_alloc.proofs.VecSteps.Shapes.{after}
 use types.ByLocal.{alloc_all, pass_all, free_all, look_at, get, through, sets, sets_last, env}
 use mir.MapTy.{inst_fn}
 use contract.Running.{tables, tables_of}
-use denote.Triple.Spec.{triple_of}
-use denote.Triple.Table.{entered}
+use denote.Triple.Table.{entered, run_framed}
 use Rattle.scasp_cells.specs.contracts.segment.Segment.pop.Key.{name as #self}
 use Rattle.scasp_cells.proofs.segment.Segment.pop.Statement as stated
 use Rattle.scasp_cells.proofs.segment.Segment.pop.Code as code
 use denote.Triple.Clauses.{closing}
-use denote.Triple.Table.{run_framed}
 use denote.Triple.Carry.{spared}
 use Rattle.core.proofs.mem.Timeless.{timeless, timeless_laws}
 
