@@ -98,7 +98,8 @@ impl<T> Cells<T> {
         add_segment(&mut self.segments)
     }
 
-    /// Puts `item` on top and returns its place. It comes back where there is no memory for it, which is never so while there is room already.
+    /// Puts `item` on top and returns its place. It comes back where there is no memory for it, which
+    /// is never so while there is room already.
     pub fn push(&mut self, item: T) -> Result<u64, T>
         requires { length self.old.items < 2 ^ 63 - 1 }
 

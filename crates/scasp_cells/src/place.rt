@@ -7,7 +7,8 @@ pub(crate) struct Place {
     pub(crate) offset: usize,
 }
 
-// The segments have room for 1, 2, 4, .. items, so segment k begins at place 2^k - 1: the highest bit of `at` + 1 is the segment, and the bits below it are the offset.
+// The segments have room for 1, 2, 4, .. items, so segment k begins at place 2^k - 1: the highest
+// bit of `at` + 1 is the segment, and the bits below it are the offset.
 pub(crate) fn locate(at: u64) -> Place
     requires { at + 1 < 2 ^ 64 }
     ensures at { at + 1 ≡ 2 ^ result.segment + result.offset }

@@ -1,4 +1,5 @@
-// A block of memory with room for a fixed number of items, of which the first are there. All raw pointers of the crate are here.
+// A block of memory with room for a fixed number of items, of which the first are there. All raw
+// pointers of the crate are here.
 ghost use Rattle.std.specs.Prelude.{◌≡◌, ◌+◌, ◌^◌, ◌<◌, ◌≤◌, List, [], ◌∷◌, ◌++◌, length, slice_set, slice_get, Some, IfOk};
 ghost use Rattle.std.specs.Vec.Ownership.{FitsInBlock, vec_owns, vec_shares};
 
