@@ -1,2 +1,3 @@
 pub mod ViewLemmas
 pub mod WalkLemmas
+pub mod Walks

@@ -6,7 +6,7 @@ use Rattle.scasp_cert.specs.Certificate.{Certificate}
 use Rattle.scasp_cert.specs.Trees.{Tree}
 use Rattle.scasp_cert.specs.View.{trees_of}
 use Rattle.scasp_cert.specs.States.{State}
-use Rattle.scasp_written.specs.Laws.{finds-nil, finds-answer, finds-spent, finds-step}
+use Rattle.scasp_written.proofs.Walks.{finds-nil, finds-answer, finds-spent, finds-step}
 use Rattle.scasp_written.specs.Machine.{Found, Finds, answered, ended, spent}
 use Rattle.scasp_written.specs.Run.{search_for, certificate, answer, pays}
 use Rattle.scasp_written.specs.Successors.{next}

@@ -1,4 +1,4 @@
-use Rattle.std.specs.Prelude.{ℕ, Bool, true, false, Option, Some, None, List, [], ◌∷◌}
+use Rattle.std.specs.Prelude.{◌≡◌, ℕ, Bool, true, false, Option, Some, None, List, [], ◌∷◌}
 use Rattle.scasp_syntax.specs.Tm.{nil}
 use Rattle.scasp_syntax.specs.declared.clause.Item.{Item}
 use Rattle.scasp_syntax.specs.declared.clause.Clause.{Clause}
@@ -6,7 +6,7 @@ use Rattle.scasp_cert.specs.Certificate.{Certificate}
 use Rattle.scasp_cert.specs.Trees.{Tree}
 use Rattle.scasp_cert.specs.States.{State, Level, closed}
 use Rattle.scasp_written.specs.Successors.{next}
-use Rattle.scasp_written.specs.Machine.{Machine}
+use Rattle.scasp_written.specs.Machine.{Machine, Found, Finds}
 
 -- a state with something left to show costs a call
 abbrev pub pays : List Item → Bool
@@ -35,3 +35,9 @@ search_for clauses query = record {
 -- where the search for an answer to these items begins
 abbrev pub start : List Item → State
 start body = closed [] body []
+
+-- from given states, with given calls spent, a search meets one event first, and no other
+abbrev pub HasOneEvent : Type 0
+HasOneEvent =
+  (clauses : List Clause) (query budget calls : ℕ) (states : List State) (one other : Found State Certificate)
+  → Finds (search_for clauses query) budget states calls one → Finds (search_for clauses query) budget states calls other → one ≡ other

@@ -1,6 +1,7 @@
 //! The written search: rules in order, depth first, over whole copied states. It is plain for good: what other searches are compared with.
 #![tactic(auto)]
 
+pub mod laws;
 mod position;
 mod successors;
 mod walk;

@@ -1,0 +1,127 @@
+use Rattle.std.proofs.Common.{◌≡◌, ◌⊎◌, inl, inr, ℕ, ◌≤◌, ◌<◌, Option, None, Some, IfSome, MatchOption, List, [], ◌∷◌, ◌++◌, length, refl, sym, ap, subst, ◌∙◌, arith}
+use Rattle.scasp_name.specs.Texts.{list_names}
+use Rattle.scasp_reader.specs.Reading.{program_in, Reading}
+use Rattle.scasp_syntax.specs.Programs.{numbered}
+use Rattle.scasp_syntax.specs.declared.clause.Clause.{Clause}
+use Rattle.scasp_syntax.specs.declared.clause.Query.{Query}
+use Rattle.scasp_cert.specs.Certificate.{Certificate}
+use Rattle.scasp_io.specs.Bytes.{behind}
+use Rattle.scasp_io.specs.Counts.{Rose}
+use Rattle.scasp_written.specs.Machine.{Outcome, Found}
+use Rattle.scasp_written.specs.Run.{search_for, start, HasOneEvent}
+use Rattle.scasp_top.specs.Texts.{header_line, query_text, status_of, usage_line}
+use Rattle.scasp_top.specs.Runs.{Runs, RunsQuery, Meets}
+use Rattle.scasp_top.specs.Outputs.{Outputs, OutputsOf, IsTooLong, IsNoProgram, RunsText, OfFile, HasFileFault, Expects, no_command, of_bytes}
+use Rattle.scasp_top.specs.Reports.{Reports, TakesWhole}
+use Rattle.scasp_top.specs.declared.program_run.TheConstants.{BUDGET}
+use Rattle.scasp_top.specs.declared.status.Status.{Status}
+use Rattle.scasp_top.specs.declared.status.Status.TheVariants.{Done, NoAnswer, Usage, Text, Read, Write, Spent, Overflow, Memory, Limit}
+
+-- the same status and the same text
+Same : Status → List ℕ → Status → List ℕ → Type 0
+Same s t s' t' = (s ≡ s') × (t ≡ t')
+
+-- a query meets one event first
+meets-one : (law : HasOneEvent) → (clauses : List Clause) (query : Query) (one other : Outcome Certificate) → Meets clauses 1 query one → Meets clauses 1 query other → one ≡ other
+meets-one law clauses query one other h g =
+  ap (λ f. f.event) (law clauses 1 BUDGET 0 (start query.body ∷ []) (record { event = one; calls = h.0; rest = h.1 }) (record { event = other; calls = g.0; rest = g.1 }) h.2 g.2)
+
+runs-query-one : (law : HasOneEvent) → (names : List (List ℕ)) (clauses : List Clause) (query : Query) (t t' : List ℕ) (s s' : Status)
+  → RunsQuery names clauses query t s → RunsQuery names clauses query t' s' → (s ≡ s') × (t ≡ t')
+runs-query-one law names clauses query t t' s s' h g =
+  let e : h.event ≡ g.event = meets-one law clauses query h.event g.event h.meets g.meets in
+  (h.ending ∙ ap status_of e ∙ sym g.ending, h.printed ∙ ap (λ v. header_line ++ query_text names v) e ∙ sym g.printed)
+
+runs-one : (law : HasOneEvent) → (names : List (List ℕ)) (clauses : List Clause) (query : Option Query) (t t' : List ℕ) (s s' : Status)
+  → MatchOption query ((t ≡ header_line) × (s ≡ NoAnswer)) (λ q. RunsQuery names clauses q t s)
+  → MatchOption query ((t' ≡ header_line) × (s' ≡ NoAnswer)) (λ q. RunsQuery names clauses q t' s')
+  → (s ≡ s') × (t ≡ t')
+runs-one law names clauses None t t' s s' h g = (h.1 ∙ sym g.1, h.0 ∙ sym g.0)
+runs-one law names clauses (Some q) t t' s s' h g = runs-query-one law names clauses q t t' s s' h g
+
+-- which of the three it is
+data Sort (bytes text : List ℕ) (status : Status) : Type 0 where
+  too_long : status ≡ Limit → IsTooLong bytes text → Sort bytes text status
+  outside : status ≡ Text → IsNoProgram bytes text → Sort bytes text status
+  run : RunsText bytes text status → Sort bytes text status
+
+sort-of : (bytes text : List ℕ) (status : Status) → OutputsOf bytes text status → Sort bytes text status
+sort-of bytes text Limit h = too_long refl h
+sort-of bytes text Text h = outside refl h
+sort-of bytes text Done h = run h
+sort-of bytes text NoAnswer h = run h
+sort-of bytes text Spent h = run h
+sort-of bytes text Overflow h = run h
+sort-of bytes text Usage h = absurd h
+sort-of bytes text Read h = absurd h
+sort-of bytes text Write h = absurd h
+sort-of bytes text Memory h = absurd h
+
+texts-one : (law : HasOneEvent) → (bytes t t' : List ℕ) (s s' : Status) → RunsText bytes t s → RunsText bytes t' s' → (s ≡ s') × (t ≡ t')
+texts-one law bytes t t' s s' h g =
+  let same : h.reading ≡ g.reading = cc (h.read, g.read) in
+  let P : Reading → Type 0 = λ r. Runs r.names r.clauses r.queries t s in
+  runs-one law g.reading.names g.reading.clauses (numbered g.reading.queries 1) t t' s s' (subst P same h.run) g.run
+
+sorts-one : (law : HasOneEvent) → (bytes t t' : List ℕ) (s s' : Status) → Sort bytes t s → Sort bytes t' s' → (s ≡ s') × (t ≡ t')
+sorts-one law bytes t t' s s' (too_long e h) (too_long e' h') = (e ∙ sym e', h.line ∙ sym h'.line)
+sorts-one law bytes t t' s s' (too_long e h) (outside e' h') = absurd (omega (arith, h.longer, h'.within))
+sorts-one law bytes t t' s s' (too_long e h) (run h') = absurd (omega (arith, h.longer, h'.within))
+sorts-one law bytes t t' s s' (outside e h) (too_long e' h') = absurd (omega (arith, h'.longer, h.within))
+sorts-one law bytes t t' s s' (outside e h) (outside e' h') = (e ∙ sym e', h.line ∙ sym h'.line)
+sorts-one law bytes t t' s s' (outside e h) (run h') = cc (h.outside, h'.read)
+sorts-one law bytes t t' s s' (run h) (too_long e' h') = absurd (omega (arith, h'.longer, h.within))
+sorts-one law bytes t t' s s' (run h) (outside e' h') = cc (h.read, h'.outside)
+sorts-one law bytes t t' s s' (run h) (run h') = texts-one law bytes t t' s s' h h'
+
+-- what was printed of a file's bytes is what they ask for
+settles : (law : HasOneEvent) → (file : Option (List ℕ)) (told : List ℕ → Option (List ℕ)) (t text : List ℕ) (s status : Status)
+  → OfFile file told (λ bytes. OutputsOf bytes t s) → Expects file told text status → (s ≡ status) × (t ≡ text)
+settles law file told t text s status h (no_command none line usage) =
+  let P : Option (List ℕ) → Type 0 = λ f. OfFile f told (λ bytes. OutputsOf bytes t s) in absurd (subst P none h)
+settles law file told t text s status h (of_bytes name bytes is known asked) =
+  let P : Option (List ℕ) → Type 0 = λ f. OfFile f told (λ b. OutputsOf b t s) in
+  let Q : Option (List ℕ) → Type 0 = λ o. IfSome o (λ b. OutputsOf b t s) in
+  sorts-one law bytes t text s status (sort-of bytes t s (subst Q known (subst P is h))) (sort-of bytes text status asked)
+
+-- and with the usage line no file is named
+usage-one : (file : Option (List ℕ)) (told : List ℕ → Option (List ℕ)) (t text : List ℕ) (status : Status)
+  → file ≡ None → t ≡ usage_line → Expects file told text status → (Usage ≡ status) × (t ≡ text)
+usage-one file told t text status none line (no_command none' line' usage) = (sym usage, line ∙ sym line')
+usage-one file told t text status none line (of_bytes name bytes is known asked) = cc (none, is)
+
+Ends : Status → Status → Option (List ℕ) → Option (List ℕ) → List ℕ → Type 0
+Ends result status before after text = (result ≡ Memory) ⊎ ((result ≡ status) × (after ≡ behind before text))
+
+ends-whole : (may : List ℕ → Status → Type 0) (before after : Option (List ℕ)) (s status : Status) (text : List ℕ)
+  → (w : TakesWhole may before after s) → ((s ≡ status) × (w.text ≡ text)) → Ends s status before after text
+ends-whole may before after s status text w same = inr (same.0, w.taken ∙ ap (behind before) same.1)
+
+pub complete : (law : HasOneEvent) → (file : Option (List ℕ)) (told : List ℕ → Option (List ℕ)) (faults faults' : List ℕ → ℕ) (before after : Option (List ℕ))
+  (result : Status) (text : List ℕ) (status : Status)
+  → Reports (Outputs file told faults faults') before after result → Expects file told text status
+  → (result ≡ Read → ⊥) → (result ≡ Write → ⊥)
+  → (result ≡ Memory) ⊎ ((result ≡ status) × (after ≡ behind before text))
+complete law file told faults faults' before after Memory text status r e no_read no_write = inl refl
+complete law file told faults faults' before after Write text status r e no_read no_write = absurd (no_write refl)
+complete law file told faults faults' before after Read text status r e no_read no_write = absurd (no_read refl)
+complete law file told faults faults' before after Usage text status r e no_read no_write =
+  ends-whole (Outputs file told faults faults') before after Usage status text r (usage-one file told r.text text status r.may_be.0 r.may_be.1 e)
+complete law file told faults faults' before after Limit text status r e no_read no_write =
+  ends-whole (Outputs file told faults faults') before after Limit status text r (settles law file told r.text text Limit status r.may_be e)
+complete law file told faults faults' before after Text text status r e no_read no_write =
+  ends-whole (Outputs file told faults faults') before after Text status text r (settles law file told r.text text Text status r.may_be e)
+complete law file told faults faults' before after Done text status r e no_read no_write =
+  ends-whole (Outputs file told faults faults') before after Done status text r (settles law file told r.text text Done status r.may_be e)
+complete law file told faults faults' before after NoAnswer text status r e no_read no_write =
+  ends-whole (Outputs file told faults faults') before after NoAnswer status text r (settles law file told r.text text NoAnswer status r.may_be e)
+complete law file told faults faults' before after Spent text status r e no_read no_write =
+  ends-whole (Outputs file told faults faults') before after Spent status text r (settles law file told r.text text Spent status r.may_be e)
+complete law file told faults faults' before after Overflow text status r e no_read no_write =
+  ends-whole (Outputs file told faults faults') before after Overflow status text r (settles law file told r.text text Overflow status r.may_be e)
+
+-- the status Read is reported only where a fault of the file was counted
+pub read-cause : (file : Option (List ℕ)) (told : List ℕ → Option (List ℕ)) (faults faults' : List ℕ → ℕ) (before after : Option (List ℕ)) (result : Status)
+  → Reports (Outputs file told faults faults') before after result → result ≡ Read → HasFileFault file faults faults'
+read-cause file told faults faults' before after result r e =
+  let P : Status → Type 0 = λ s. Reports (Outputs file told faults faults') before after s in (subst P e r).may_be.0

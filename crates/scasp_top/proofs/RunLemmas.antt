@@ -1,0 +1,63 @@
+use Rattle.std.proofs.Common.{◌≡◌, ℕ, ◌≤◌, Option, None, Some, IfSome, List, [], ◌∷◌, ◌++◌, length, refl, sym, subst, Result, Ok, Err, IfOk, MatchOption}
+use Rattle.scasp_name.specs.Texts.{list_names}
+use Rattle.scasp_reader.specs.Reading.{program_in, Reading}
+use Rattle.scasp_reader.specs.declared.program.TheConstants.{BYTE_LIMIT}
+use Rattle.scasp_syntax.specs.Programs.{numbered}
+use Rattle.scasp_syntax.specs.declared.clause.Clause.{Clause}
+use Rattle.scasp_syntax.specs.declared.clause.Query.{Query}
+use Rattle.scasp_cert.specs.Certificate.{Certificate}
+use Rattle.scasp_written.specs.Machine.{Outcome, answered, ended, spent, overflowed}
+use Rattle.scasp_written.specs.Searches.{Rest, IsWholeRun, Gives}
+use Rattle.scasp_top.specs.Texts.{header_line, query_text, status_of}
+use Rattle.scasp_top.specs.Runs.{Runs, RunsQuery}
+use Rattle.scasp_top.specs.Outputs.{OutputsOf, RunsText}
+use Rattle.scasp_top.specs.declared.program_run.TheConstants.{BUDGET}
+use Rattle.scasp_top.specs.declared.status.Status.{Status}
+use Rattle.scasp_top.specs.declared.status.Status.TheVariants.{Done, NoAnswer, Usage, Text, Read, Write, Spent, Overflow, Memory, Limit}
+
+-- what the search for a query gives first, and what is printed for it, is the run of the query
+pub runs-query : (names : List (List ℕ)) (clauses : List Clause) (query : Option Query) (old new : Rest) (event : Outcome Certificate) (text : List ℕ) (status : Status)
+  → IfSome query (λ q. IsWholeRun clauses 1 BUDGET q.body old) → Gives old event new
+  → text ≡ header_line ++ query_text names event → status ≡ status_of event
+  → IfSome query (λ q. RunsQuery names clauses q text status)
+runs-query names clauses None old new event text status whole gives printed ending = whole
+runs-query names clauses (Some q) old new event text status whole gives printed ending =
+  let P : Rest → Type 0 = λ rest. Gives rest event new in
+  record { event = event; meets = (new.calls, new.states, subst P whole gives); printed = printed; ending = ending }
+
+-- a run ends with one of the statuses of its events
+pub data IsRunStatus : Status → Type 0 where
+  done : IsRunStatus Done
+  no_answer : IsRunStatus NoAnswer
+  over : IsRunStatus Spent
+  past : IsRunStatus Overflow
+
+status_of-run : (event : Outcome Certificate) → IsRunStatus (status_of event)
+status_of-run (answered c) = done
+status_of-run ended = no_answer
+status_of-run spent = over
+status_of-run overflowed = past
+
+run-status : (names : List (List ℕ)) (clauses : List Clause) (queries : List Query) (text : List ℕ) (status : Status)
+  → Runs names clauses queries text status → IsRunStatus status
+run-status names clauses queries text status run = by (numbered queries 1) run
+  where
+    by : (query : Option Query) → MatchOption query ((text ≡ header_line) × (status ≡ NoAnswer)) (λ q. RunsQuery names clauses q text status) → IsRunStatus status
+    by None r = subst IsRunStatus (sym r.1) no_answer
+    by (Some q) r = subst IsRunStatus (sym r.ending) (status_of-run r.event)
+
+by-status : (bytes text : List ℕ) (status : Status) → IsRunStatus status → RunsText bytes text status → OutputsOf bytes text status
+by-status bytes text status is run = elim is as (λ s _. RunsText bytes text s → OutputsOf bytes text s) [ done ↦ λ r. r | no_answer ↦ λ r. r | over ↦ λ r. r | past ↦ λ r. r ] run
+
+-- the run of the program that the bytes spell is what is printed for the bytes
+pub outputs-run : (bytes text : List ℕ) (status : Status) (reading : Reading)
+  → length bytes ≤ BYTE_LIMIT → program_in list_names bytes ≡ Some reading → Runs reading.names reading.clauses reading.queries text status
+  → OutputsOf bytes text status
+outputs-run bytes text status reading within read run =
+  by-status bytes text status (run-status reading.names reading.clauses reading.queries text status run)
+    (record { within = within; reading = reading; read = read; run = run })
+
+-- what follows from a fact of the value holds of it too
+pub ok-more : {A E : Type 0} (r : Result A E) (P Q : A → Type 0) → ((x : A) → P x → Q x) → IfOk r P → IfOk r Q
+ok-more (Ok x) P Q more h = more x h
+ok-more (Err e) P Q more h = h

@@ -1,0 +1,49 @@
+//! How a command ended.
+
+/// How a command ended.
+#[derive(Clone, Copy, Debug, PartialEq, Eq)]
+pub enum Status {
+    /// An answer was printed.
+    Done,
+    /// The search ended without an answer.
+    NoAnswer,
+    /// The words are no command.
+    Usage,
+    /// The program's bytes are not in the grammar.
+    Text,
+    /// The program could not be read.
+    Read,
+    /// A write failed.
+    Write,
+    /// The search makes more calls than the budget.
+    Spent,
+    /// Arithmetic past 128 bits.
+    Overflow,
+    /// Want of memory.
+    Memory,
+    /// The program's text is longer than its limit.
+    Limit,
+}
+
+impl Status {
+    ghost use Rattle.std.specs.Prelude.{◌≡◌};
+    ghost use Rattle.scasp_top.specs.Codes.{code_of};
+
+    /// The exit code of the program: 0 to 8, and 11 for `Limit`.
+    pub fn code(self) -> u8
+        ensures { result ≡ code_of self }
+    {
+        match self {
+            Status::Done => 0,
+            Status::NoAnswer => 1,
+            Status::Usage => 2,
+            Status::Text => 3,
+            Status::Read => 4,
+            Status::Write => 5,
+            Status::Spent => 6,
+            Status::Overflow => 7,
+            Status::Memory => 8,
+            Status::Limit => 11,
+        }
+    }
+}
