@@ -3,6 +3,7 @@
 
 mod bounded;
 pub mod hints;
+pub mod laws;
 pub mod linear;
 mod normal;
 pub mod rational;
