@@ -8,3 +8,6 @@ pub mod Meaning
 pub mod Puts
 pub mod Joins
 pub mod Wholes
+pub mod Valuations
+pub mod SameNumber
+pub mod Placing

@@ -58,13 +58,17 @@ most-times (pos zero) g h = (λ p. omega (arith, ints), λ p. omega (arith, ints
 most-times (pos (suc a)) g h = let m : 0 < suc a * g = mul-pos (omega arith) h in (λ p. absurd (omega (arith, ints)), λ p. absurd (omega (arith, ints)))
 most-times (negsuc a) g h = (λ p. omega (arith, ints), λ p. omega (arith, ints))
 
-pub compares-times : (o : Op) (n : Bool) (g : ℕ) (z w : ℤ) → 0 < g → (n ≡ true → is_symmetric o ≡ true) → z *ℤ factor n g ≡ w → Compares o z ↔ Compares o w
+compares-times : (o : Op) (n : Bool) (g : ℕ) (z w : ℤ) → 0 < g → (n ≡ true → is_symmetric o ≡ true) → z *ℤ factor n g ≡ w → Compares o z ↔ Compares o w
 compares-times op.Eq n g z w h s e = (λ p. sym e ∙ ap (λ x. x *ℤ factor n g) p ∙ zero-*ℤ (factor n g), λ p. zero-from_times z n g h (e ∙ p))
 compares-times op.Ne n g z w h s e = (λ p q. p (zero-from_times z n g h (e ∙ q)), λ p q. p (sym e ∙ ap (λ x. x *ℤ factor n g) q ∙ zero-*ℤ (factor n g)))
 compares-times op.Lt false g z w h s e = let b = below-times z g h in (λ p. subst (λ x. x <ℤ pos 0) e (b.0 p), λ p. b.1 (subst (λ x. x <ℤ pos 0) (sym e) p))
 compares-times op.Lt true g z w h s e = let f = s refl in cc
 compares-times op.Le false g z w h s e = let b = most-times z g h in (λ p. subst (λ x. x ≤ℤ pos 0) e (b.0 p), λ p. b.1 (subst (λ x. x ≤ℤ pos 0) (sym e) p))
 compares-times op.Le true g z w h s e = let f = s refl in cc
+
+pub compares-scaled : (op : Op) (x k : ℤ) → pos 0 <ℤ k → Compares op x ↔ Compares op (x *ℤ k)
+compares-scaled op x (pos g) h = compares-times op false g x (x *ℤ pos g) (omega (arith, ints)) (λ e. cc) refl
+compares-scaled op x (negsuc g) h = absurd (omega (arith, ints))
 
 first-true : (a b : Bool) → (a && b) ≡ true → a ≡ true
 first-true true b e = refl

@@ -255,7 +255,7 @@ pub none_from-err : {T E : Type 0} (r : Result T E) → IsErr r → result_ok r 
 none_from-err (Ok x) h = cc
 none_from-err (Err e) h = refl
 
-some-same : {A : Type 0} {x y : A} → Some x ≡ Some y → x ≡ y
+pub some-same : {A : Type 0} {x y : A} → Some x ≡ Some y → x ≡ y
 some-same e = cc
 
 -- what the code computes for a negation

@@ -19,7 +19,7 @@ use Rattle.scasp_num.proofs.Integers.{*ℤ_assoc, *ℤ_right_comm, +ℤ-*ℤ, *�
 use Rattle.scasp_num.proofs.Numbers.{within-some, ltb_lt, times-pos, over-pos, unsigned_abs-over}
 use Rattle.scasp_num.proofs.Exact.{bind-some, sum_of-exact, over-times}
 use Rattle.scasp_num.proofs.NormalForms.{Each-map}
-use Rattle.scasp_num.proofs.Meaning.{normal_form-meets_of, compares-times}
+use Rattle.scasp_num.proofs.Meaning.{normal_form-meets_of, compares-scaled}
 use Rattle.scasp_num.proofs.Joins.{later}
 
 -- ---- the sums ascend
@@ -183,7 +183,7 @@ multiple-is l (p ∷ ps) out e h =
     let to : unsigned_abs next ∣ unsigned_abs out = subst (λ x. unsigned_abs x ∣ unsigned_abs out) is r.1 in
     (r.0, dvd_trans (unsigned_abs l) s.0 to, (dvd_trans (unsigned_abs d) s.1 to, r.2))
 
-size-pos : (d : ℤ) → pos 0 <ℤ d → pos (unsigned_abs d) ≡ d
+pub size-pos : (d : ℤ) → pos 0 <ℤ d → pos (unsigned_abs d) ≡ d
 size-pos (pos n) h = refl
 size-pos (negsuc n) h = absurd (omega (arith, ints))
 
@@ -235,7 +235,3 @@ normal_of-meets pairs q op row e m d l ks z above times last =
     let b = compares-scaled op (weighted m ks +ℤ z *ℤ d) n.0 is.0 in
     let r = normal_form-meets_of (record { coeffs = w.0; constant = c.0; op = op }) row made m d in
     (λ x. b.1 (subst (λ y. Compares op y) all (a.0 (r.0 x))), λ x. r.1 (a.1 (subst (λ y. Compares op y) (sym all) (b.0 x))))
-  where
-    compares-scaled : (op : Op) (x k : ℤ) → pos 0 <ℤ k → Compares op x ↔ Compares op (x *ℤ k)
-    compares-scaled op x (pos g) h = compares-times op false g x (x *ℤ pos g) (omega (arith, ints)) (λ e. cc) refl
-    compares-scaled op x (negsuc g) h = absurd (omega (arith, ints))

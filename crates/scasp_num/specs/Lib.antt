@@ -3,3 +3,4 @@ pub mod Number
 pub mod Arithmetic
 pub mod Linear
 pub mod Sums
+pub mod Values

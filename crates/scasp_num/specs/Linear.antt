@@ -184,8 +184,3 @@ join_of r x y = do
   others ← others_times (pos 1) x r.coeffs
   coeffs ← merged y (coefficient x r.coeffs) others
   Some (normal_form (record { coeffs = coeffs; constant = r.constant; op = r.op }))
-
--- the terms still to come, with c times y among them unless it was placed
-abbrev pub merged_unless : Bool → ℕ → ℤ → List Coeff → Option (List Coeff)
-merged_unless true y c ks = Some ks
-merged_unless false y c ks = merged y c ks

@@ -1,5 +1,5 @@
 -- The normal form of a row that is given by pairs of a variable and a number.
-use Rattle.std.specs.Prelude.{◌≡◌, ℕ, Bool, true, false, ◌==◌, nat_lt, if◌then◌else◌, ℤ, pos, ◌*ℤ◌, unsigned_abs, int_div, Option, Some, List, [], ◌∷◌, ⊤}
+use Rattle.std.specs.Prelude.{◌≡◌, ℕ, ◌==◌, nat_lt, if◌then◌else◌, ℤ, pos, ◌*ℤ◌, unsigned_abs, int_div, Option, Some, List, [], ◌∷◌, ⊤}
 use Rattle.scasp_num.specs.declared.linear.Coeff.{Coeff}
 use Rattle.scasp_num.specs.declared.linear.RatPair.{RatPair}
 use Rattle.scasp_num.specs.declared.linear.Op.{Op}
@@ -17,11 +17,6 @@ added x v (k ∷ ks) =
     else (if k.x == x
     then (sum_of k.value v >>= (λ sum. Some (record { x = x; value = sum } ∷ ks)))
     else Some (record { x = x; value = v } ∷ k ∷ ks))
-
--- the pairs still to come, with the number added unless it was placed
-abbrev pub added_unless : Bool → ℕ → Number → List RatPair → Option (List RatPair)
-added_unless true x v ks = Some ks
-added_unless false x v ks = added x v ks
 
 -- the sum of each variable's numbers, added in order
 abbrev pub summed : List RatPair → List RatPair → Option (List RatPair)

@@ -3,11 +3,14 @@
 
 mod bounded;
 pub mod hints;
+pub mod laws;
 pub mod linear;
 mod normal;
 pub mod rational;
 mod substitution;
 mod sums;
+#[cfg(test)]
+mod tests;
 
 pub use hints::{Step, StepLists, Steps};
 pub use linear::{Coeff, Coeffs, Op, RatPair, RatPairs, Row, RowErr, Rows};

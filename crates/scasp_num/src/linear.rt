@@ -169,6 +169,8 @@ impl Row {
     ghost use Rattle.std.specs.Prelude.{◌↔◌, ℕ, ℤ, IfOk, Option, pos, ◌<ℤ◌, ◌+ℤ◌, ◌*ℤ◌, ◌≢◌, List};
     ghost use Rattle.scasp_num.specs.Linear.{IsNormal, Meets, Compares, weighted, negation, put_of, join_of, Gives, replaced};
     ghost use Rattle.scasp_num.specs.Sums.{normal_of, IsTimes, AreTimes};
+    ghost use Rattle.scasp_num.specs.Number.{Number};
+    ghost use Rattle.scasp_num.specs.Values.{Holds, with_value};
     ghost use Rattle.scasp_num.specs.declared.linear.Coeff.{Coeff};
 
     /// The normal form of the sum of the pairs, each its number times its variable, and of the constant. The
@@ -201,6 +203,8 @@ impl Row {
         ensures exact { Gives result (put_of self.now x value.now) }
         ensures meets { IfOk result (λ row. (m : ℕ → ℤ) (d : ℤ) → Meets m d row
             ↔ Meets (replaced (λ y. m y *ℤ value.now.den) x (value.now.num *ℤ d)) (d *ℤ value.now.den) self.now) }
+        ensures holds { IfOk result
+            (λ row. (v : ℕ → Number) → Holds v row ↔ Holds (with_value v x value.now) self.now) }
         ensures normal { IfOk result IsNormal }
     {
         let alloc = self.coeffs.allocator();
@@ -218,6 +222,8 @@ impl Row {
         requires { x ≢ y }
         ensures exact { Gives result (join_of self.now x y) }
         ensures meets { IfOk result (λ row. (m : ℕ → ℤ) (d : ℤ) → Meets m d row ↔ Meets (replaced m x (m y)) d self.now) }
+        ensures holds { IfOk result
+            (λ row. (v : ℕ → Number) → Holds v row ↔ Holds (with_value v x (v y)) self.now) }
         ensures normal { IfOk result IsNormal }
     {
         let alloc = self.coeffs.allocator();
@@ -233,6 +239,8 @@ impl Row {
         ensures value { IfOk result (λ row. row ≡ negation self.now) }
         ensures meets { IfOk result
             (λ row. (m : ℕ → ℤ) (d : ℤ) → Meets m d row ↔ (¬ Meets m d self.now)) }
+        ensures holds { IfOk result
+            (λ row. (v : ℕ → Number) → Holds v row ↔ (¬ Holds v self.now)) }
         ensures normal { IfOk result IsNormal }
     {
         let op = self.op();

@@ -1,6 +1,7 @@
 use Rattle.std.proofs.Common.{◌≡◌, drop, ◌++◌, Some}
 use Rattle.scasp_num.specs.Arithmetic.{◌>>=◌}
-use Rattle.scasp_num.specs.Linear.{merged, merged_unless}
+use Rattle.scasp_num.specs.Linear.{merged}
+use Rattle.scasp_num.proofs.Placing.{merged_unless}
 use Rattle.scasp_num.proofs.substitution.merged.Given as goal
 
 abbrev pub invariant-loop-k : goal.invariant-loop-k

@@ -1,6 +1,7 @@
 use Rattle.std.proofs.Common.{◌≡◌, drop, ◌++◌, Some}
 use Rattle.scasp_num.specs.Arithmetic.{◌>>=◌}
-use Rattle.scasp_num.specs.Sums.{added, added_unless}
+use Rattle.scasp_num.specs.Sums.{added}
+use Rattle.scasp_num.proofs.Placing.{added_unless}
 use Rattle.scasp_num.proofs.sums.added.Given as goal
 
 abbrev pub invariant-loop-k : goal.invariant-loop-k

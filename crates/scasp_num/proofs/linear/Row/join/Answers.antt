@@ -6,6 +6,7 @@ use Rattle.scasp_num.specs.Linear.{Each, Ascends, coefficient, others_times, mer
 use Rattle.scasp_num.proofs.Numbers.{stored, plain}
 use Rattle.scasp_num.proofs.Puts.{others_times-range, others_times-Ascends}
 use Rattle.scasp_num.proofs.Joins.{join_of-meets, merged-range, merged-Ascends, coefficient-range}
+use Rattle.scasp_num.proofs.Valuations.{join_of-holds}
 use Rattle.scasp_num.proofs.linear.Row.join.Goals as goal
 
 pub normal_form-requires-clause-ascending : goal.normal_form-requires-clause-ascending
@@ -46,3 +47,6 @@ returns-clause-exact c = grind (arith, plain)
 
 pub returns-clause-meets : goal.returns-clause-meets
 returns-clause-meets c = join_of-meets c.args.self.now c.in_ok-row.row c.args.x c.args.y c.coeffs.ensures.normal.ascending (returns-clause-exact c)
+
+pub returns-clause-holds : goal.returns-clause-holds
+returns-clause-holds c = join_of-holds c.args.self.now c.in_ok-row.row c.args.x c.args.y c.coeffs.ensures.normal.ascending (returns-clause-exact c)

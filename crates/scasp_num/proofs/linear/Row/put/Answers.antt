@@ -5,6 +5,7 @@ use Rattle.scasp_num.specs.Number.{InRange}
 use Rattle.scasp_num.specs.Linear.{Each, Ascends, others_times, put_of}
 use Rattle.scasp_num.proofs.Numbers.{stored, plain}
 use Rattle.scasp_num.proofs.Puts.{put_of-meets, others_times-range, others_times-Ascends}
+use Rattle.scasp_num.proofs.Valuations.{put_of-holds}
 use Rattle.scasp_num.proofs.linear.Row.put.Goals as goal
 
 pub normal_form-requires-clause-ascending : goal.normal_form-requires-clause-ascending
@@ -33,3 +34,6 @@ returns-clause-exact c = grind (arith, plain)
 
 pub returns-clause-meets : goal.returns-clause-meets
 returns-clause-meets c = put_of-meets c.args.self.now c.in_ok-row.row c.args.x c.args.value.now c.coeffs.ensures.normal.ascending (returns-clause-exact c)
+
+pub returns-clause-holds : goal.returns-clause-holds
+returns-clause-holds c = put_of-holds c.args.self.now c.in_ok-row.row c.args.x c.args.value.now c.coeffs.ensures.normal.ascending (returns-clause-exact c)
