@@ -118,7 +118,8 @@ fn query(
     ensures refused { IfErr result (IsUnsupported (goals_in (drop place tokens.now) ≡ None)) }
 {
     let (items, behind) = goals(alloc, tokens, place)?;
-    if behind < tokens.len() {
+    let is_left = behind < tokens.len();
+    if is_left {
         return Err(UNSUPPORTED);
     }
     let program = finish(alloc, clauses, items)?;

@@ -25,7 +25,8 @@ pub fn read_program(alloc: Global, bytes: &[u8], names: &mut Names) -> Result<Pr
     ensures refused { IfErr result (IsCause names.old bytes.now) }
     ensures kept { KeepsPlaces names.old names.new }
 {
-    if bytes.len() > BYTE_LIMIT {
+    let is_too_long = bytes.len() > BYTE_LIMIT;
+    if is_too_long {
         return Err(ReadError::At {
             at: BYTE_LIMIT as u64,
             kind: Kind::Limit(Count::Bytes),

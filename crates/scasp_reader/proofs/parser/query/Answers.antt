@@ -11,15 +11,15 @@ returns-in_err-items-clause-refused c =
     let p = err_from_is_err_and c.from_residual.result c.from_residual.ensures.1 in
     rw (p.1, p.2) (IsUnsupported-weaker _ (query-none (drop c.args.place c.args.tokens.now)) c.in_err-items.ensures.refused)
 
-pub returns-then-behind-tokens-clause-refused : goal.returns-then-behind-tokens-clause-refused
-returns-then-behind-tokens-clause-refused c =
+pub returns-then-is_left-clause-refused : goal.returns-then-is_left-clause-refused
+returns-then-is_left-clause-refused c =
     let ts = c.args.tokens.now in
     let found = c.in_ok-items in
-    let left = drop_more ts found.behind Dot c.if-behind-tokens.true in
+    let left = drop_more ts found.behind Dot c.if-is_left.true in
     (query-more (drop c.args.place ts) found.items _ _ (found.ensures.ok ∙ ap (λ r. Some (found.items, r)) left), refl, refl)
 
 pub returns-clause-queries : goal.returns-clause-queries
 returns-clause-queries c =
     let ts = c.args.tokens.now in
     let found = c.in_ok-items in
-    query-items (drop c.args.place ts) found.items (drop found.behind ts) found.ensures.ok (drop_all found.behind ts c.if-behind-tokens.false) ∙ sym (ap Some c.in_ok-program.ensures.queries)
+    query-items (drop c.args.place ts) found.items (drop found.behind ts) found.ensures.ok (drop_all found.behind ts c.if-is_left.false) ∙ sym (ap Some c.in_ok-program.ensures.queries)
