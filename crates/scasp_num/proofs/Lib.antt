@@ -1,1 +1,10 @@
 pub mod Gcds
+pub mod Integers
+pub mod Numbers
+pub mod Exact
+pub mod Ratios
+pub mod NormalForms
+pub mod Meaning
+pub mod Puts
+pub mod Joins
+pub mod Wholes

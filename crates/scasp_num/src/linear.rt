@@ -3,7 +3,10 @@ ghost use Rattle.std.specs.Prelude.{◌≡◌, [], ◌∷◌, ◌++◌, length, 
 ghost use Rattle.std.specs.Option.{option_copied};
 
 use crate::Memory;
-use crate::rational::Rat;
+use crate::normal::{negated, negated_if, normal_form};
+use crate::rational::{Overflow, Rat};
+use crate::substitution::{coefficient, merged, others_times, put_constant};
+use crate::sums::{multiple, summed, whole, whole_number};
 use std::alloc::Global;
 use std::marker::Model;
 use thiserror::Error;
@@ -47,6 +50,11 @@ impl Model for Coeffs {
 }
 
 impl Coeffs {
+    /// The allocator that the list was made with.
+    pub(crate) fn allocator(&self) -> Global {
+        *self.list.allocator()
+    }
+
     /// The empty list; it takes no memory.
     pub fn new(alloc: Global) -> Self
         ensures { result ≡ [] }
@@ -158,7 +166,94 @@ impl Model for Row {
 }
 
 impl Row {
-    ghost use Rattle.scasp_num.specs.Linear.{IsNormal};
+    ghost use Rattle.std.specs.Prelude.{◌↔◌, ℕ, ℤ, IfOk, Option, pos, ◌<ℤ◌, ◌+ℤ◌, ◌*ℤ◌, ◌≢◌, List};
+    ghost use Rattle.scasp_num.specs.Linear.{IsNormal, Meets, Compares, weighted, negation, put_of, join_of, Gives, replaced};
+    ghost use Rattle.scasp_num.specs.Sums.{normal_of, IsTimes, AreTimes};
+    ghost use Rattle.scasp_num.specs.declared.linear.Coeff.{Coeff};
+
+    /// The normal form of the sum of the pairs, each its number times its variable, and of the constant. The
+    /// numbers of each variable are added in order, then all are multiplied by the least common multiple of
+    /// the denominators. Overflow exactly where an addition overflows, or the multiple or an integer times
+    /// it lies outside -M..M.
+    #[tactic(auto, using(crate::proofs::Numbers::plain), unfolding(crate::specs::Sums::normal_of))]
+    pub fn normal(alloc: Global, pairs: &RatPairs, constant: &Rat, op: Op) -> Result<Row, RowErr>
+        ensures exact { Gives result (normal_of pairs.now constant.now op) }
+
+        // Met exactly where l times the sum compares so, for each l above 0 that makes the numbers whole.
+        ensures meets { IfOk result
+            (λ row. (m : ℕ → ℤ) (d l : ℤ) (ks : List Coeff) (z : ℤ) → (pos 0 <ℤ l) → AreTimes l pairs.now ks → IsTimes l constant.now z →
+            Meets m d row ↔ Compares op (weighted m ks +ℤ z *ℤ d)) }
+        ensures normal { IfOk result IsNormal }
+    {
+        let sums = summed(alloc, pairs.as_slice())?;
+        let l = multiple(constant, sums.as_slice())?;
+        let coeffs = whole(alloc, l, sums.as_slice())?;
+        let last = whole_number(l, constant)?;
+        let row = normal_form(alloc, coeffs.as_slice(), last, op)?;
+        Ok(row)
+    }
+
+    /// The row with `x` replaced by a number n/d, in normal form. Overflow exactly where one of d times each
+    /// other coefficient, d times the constant, the coefficient of `x` times n, and the sum of the last
+    /// two lies outside -M..M.
+    #[tactic(auto, using(crate::proofs::Numbers::plain), unfolding(crate::specs::Linear::put_of))]
+    pub fn put(&self, x: u64, value: &Rat) -> Result<Row, RowErr>
+        ensures exact { Gives result (put_of self.now x value.now) }
+        ensures meets { IfOk result (λ row. (m : ℕ → ℤ) (d : ℤ) → Meets m d row
+            ↔ Meets (replaced (λ y. m y *ℤ value.now.den) x (value.now.num *ℤ d)) (d *ℤ value.now.den) self.now) }
+        ensures normal { IfOk result IsNormal }
+    {
+        let alloc = self.coeffs.allocator();
+        let terms = self.coeffs().as_slice();
+        let others = others_times(alloc, value.den(), x, terms)?;
+        let constant = put_constant(self, x, value)?;
+        let row = normal_form(alloc, others.as_slice(), constant, self.op())?;
+        Ok(row)
+    }
+
+    /// The row with `x` replaced by another variable `y`, in normal form. Overflow exactly where the sum of
+    /// their two coefficients lies outside -M..M.
+    #[tactic(auto, using(crate::proofs::Numbers::plain), unfolding(crate::specs::Linear::join_of))]
+    pub fn join(&self, x: u64, y: u64) -> Result<Row, RowErr>
+        requires { x ≢ y }
+        ensures exact { Gives result (join_of self.now x y) }
+        ensures meets { IfOk result (λ row. (m : ℕ → ℤ) (d : ℤ) → Meets m d row ↔ Meets (replaced m x (m y)) d self.now) }
+        ensures normal { IfOk result IsNormal }
+    {
+        let alloc = self.coeffs.allocator();
+        let terms = self.coeffs().as_slice();
+        let others = others_times(alloc, 1, x, terms)?;
+        let coeffs = merged(alloc, others.as_slice(), y, coefficient(terms, x))?;
+        let row = normal_form(alloc, coeffs.as_slice(), self.constant(), self.op())?;
+        Ok(row)
+    }
+
+    /// The row that is met exactly where this one is not.
+    pub fn negate(&self) -> Result<Row, Memory>
+        ensures value { IfOk result (λ row. row ≡ negation self.now) }
+        ensures meets { IfOk result
+            (λ row. (m : ℕ → ℤ) (d : ℤ) → Meets m d row ↔ (¬ Meets m d self.now)) }
+        ensures normal { IfOk result IsNormal }
+    {
+        let op = self.op();
+        let negate = !op.is_symmetric();
+        let alloc = self.coeffs.allocator();
+        let terms = self.coeffs().as_slice();
+        let coeffs = negated(alloc, negate, terms)?;
+        let constant = negated_if(negate, self.constant());
+        Ok(Row::from_normal(coeffs, constant, op.opposite()))
+    }
+
+    pub(crate) fn from_normal(coeffs: Coeffs, constant: i128, op: Op) -> Self
+        requires { IsNormal (record { coeffs = coeffs; constant = constant; op = op }) }
+        ensures { result ≡ record { coeffs = coeffs; constant = constant; op = op } }
+    {
+        Row {
+            coeffs,
+            constant,
+            op,
+        }
+    }
 
     pub fn coeffs(&self) -> &Coeffs
         ensures value { result.now ≡ self.now.coeffs }
@@ -242,4 +337,24 @@ pub enum RowErr {
     Overflow,
     #[error("out of memory")]
     Memory,
+}
+
+impl From<Memory> for RowErr {
+    ghost use Rattle.scasp_num.specs.declared.linear.RowErr.TheVariants as errors;
+
+    ghost from_gives = { λ _ e. e ≡ errors.Memory };
+
+    fn from(_error: Memory) -> Self {
+        RowErr::Memory
+    }
+}
+
+impl From<Overflow> for RowErr {
+    ghost use Rattle.scasp_num.specs.declared.linear.RowErr.TheVariants as errors;
+
+    ghost from_gives = { λ _ e. e ≡ errors.Overflow };
+
+    fn from(_error: Overflow) -> Self {
+        RowErr::Overflow
+    }
 }

@@ -1,2 +1,3 @@
 pub mod SameLemmas
 pub mod TermLemmas
+pub mod ValueLemmas

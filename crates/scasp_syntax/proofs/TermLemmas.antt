@@ -3,7 +3,7 @@ use Rattle.std.proofs.Common.{◌≡◌, ◌≢◌, Bool, true, false, ◌&&◌,
 use Rattle.std.proofs.lemmas.Bool.Decides.{nat_tests}
 use Rattle.std.proofs.lemmas.List.{take_all}
 use Rattle.std.proofs.lemmas.Option.{slice_get_past, slice_get-get_or}
-use Rattle.scasp_syntax.specs.Tm.{Tm, Tms, nil, cons, items, listed, weight, weight_s}
+use Rattle.scasp_syntax.specs.Tm.{Tm, Tms, nil, cons, items, listed, pushed, weight, weight_s}
 use Rattle.scasp_syntax.specs.Values.{Sub, under, all_under}
 use Rattle.scasp_syntax.specs.Same.{same_tm, same_tms}
 use Rattle.scasp_syntax.specs.View.{tm_of, tms_of}
@@ -70,3 +70,7 @@ same_tms-length (cons t ts) (cons u us) h = rw (same_tms-length ts us (λ e. h (
     and_false : (b : Bool) → (b && false) ≡ false
     and_false true = refl
     and_false false = refl
+
+pub tms_of-push : (ts : List Term) (t : Term) → tms_of (ts ++ t ∷ []) ≡ pushed (tms_of ts) (tm_of t)
+tms_of-push [] t = refl
+tms_of-push (u ∷ ts) t = ap (cons (tm_of u)) (tms_of-push ts t)

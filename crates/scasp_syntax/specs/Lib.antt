@@ -1,5 +1,8 @@
+pub mod Constraints
+pub mod Examples
 pub mod Falls
 pub mod Programs
+pub mod RowTruth
 pub mod Same
 pub mod Tm
 pub mod TmCode

@@ -22,6 +22,11 @@ abbrev pub listed : List Tm → Tms
 listed [] = nil
 listed (t ∷ ts) = cons t (listed ts)
 
+-- the list with one more term at its end
+abbrev pub pushed : Tms → Tm → Tms
+pushed nil t = cons t nil
+pushed (cons u us) t = cons u (pushed us t)
+
 -- the number of nodes
 abbrev mutual
   pub weight : Tm → ℕ

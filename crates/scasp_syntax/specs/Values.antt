@@ -1,5 +1,5 @@
 -- Ground terms, substitutions and valuations.
-use Rattle.std.specs.Prelude.{ℕ, ◌+◌, Bool, true, false, ◌&&◌}
+use Rattle.std.specs.Prelude.{ℕ, ◌+◌, Bool, true, false, ◌&&◌, IsTrue}
 use Rattle.scasp_syntax.specs.Tm.{Tm, Tms, var, num, app, nil, cons}
 
 -- a term for each variable
@@ -31,3 +31,8 @@ abbrev mutual
   pub are_ground : Tms → Bool
   are_ground nil = true
   are_ground (cons t ts) = is_ground t && are_ground ts
+
+-- a ground term for each variable
+pub record Valuation : Type 0 where
+  pub of : Sub
+  pub ground : (x : ℕ) → IsTrue (is_ground (of x))

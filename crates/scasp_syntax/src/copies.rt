@@ -4,6 +4,8 @@ ghost use Rattle.std.specs.Prelude.{◌≡◌, IfOk};
 use crate::atom::{Atom, Lit};
 use crate::clause::{Clause, FlatItem, Item, Lin, Query};
 use crate::con::Con;
+use crate::hint::Hint;
+use crate::predicate_map::PredMap;
 use crate::program::Program;
 use crate::sequence::Sequence;
 use crate::term::{Term, Terms};
@@ -43,6 +45,12 @@ pub trait Duplicate {
 
 impl Duplicate for u64 {
     fn duplicate(&self, _alloc: Global) -> Result<u64, Memory> {
+        Ok(*self)
+    }
+}
+
+impl Duplicate for PredMap {
+    fn duplicate(&self, _alloc: Global) -> Result<PredMap, Memory> {
         Ok(*self)
     }
 }
@@ -97,6 +105,16 @@ impl Duplicate for Con {
             Con::Num(term) => Ok(Con::Num(copy(alloc, term)?)),
             Con::NotNum(term) => Ok(Con::NotNum(copy(alloc, term)?)),
             Con::Row(row) => Ok(Con::Row(row.clone()?)),
+        }
+    }
+}
+
+impl Duplicate for Hint {
+    fn duplicate(&self, _alloc: Global) -> Result<Hint, Memory> {
+        match self {
+            Hint::Terms => Ok(Hint::Terms),
+            Hint::Rows(steps) => Ok(Hint::Rows(steps.clone()?)),
+            Hint::Same(place, lists) => Ok(Hint::Same(*place, lists.clone()?)),
         }
     }
 }

@@ -14,6 +14,8 @@ mod renaming;
 mod sequence;
 mod sizes;
 mod term;
+#[cfg(test)]
+mod tests;
 
 pub use atom::{Atom, Atoms, Lit, Lits, Pred};
 pub use clause::{

@@ -42,7 +42,7 @@ impl Model for Terms {
 }
 
 impl Terms {
-    ghost use Rattle.scasp_syntax.specs.Tm.{nil, items, weight, weight_s};
+    ghost use Rattle.scasp_syntax.specs.Tm.{nil, items, pushed, weight, weight_s};
     ghost use Rattle.scasp_syntax.specs.View.{tm_of, tms_of};
     ghost use Rattle.std.specs.Prelude.{map, All, ◌≤◌};
 
@@ -80,6 +80,7 @@ impl Terms {
 
     /// Puts a term at the end; after an error the list is unchanged.
     pub fn push(&mut self, item: Term) -> Result<(), Memory>
+        ensures value { OnOk result (self.new ≡ pushed self.old (tm_of item)) }
         ensures ok { OnOk result (items self.new ≡ items self.old ++ tm_of item ∷ []) }
         ensures err { OnErr result (self.new ≡ self.old) }
     {

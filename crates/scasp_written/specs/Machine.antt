@@ -8,15 +8,15 @@ pub record Machine (S A : Type 0) : Type 0 where
   pub answer : S → Option A
 
 -- An answer, the end of the search, or the end of the budget. The fourth kind, arithmetic past its range, comes from no state yet.
-pub data Event (A : Type 0) : Type 0 where
-  answered : A → Event A
-  ended : Event A
-  spent : Event A
-  overflowed : Event A
+pub data Outcome (A : Type 0) : Type 0 where
+  answered : A → Outcome A
+  ended : Outcome A
+  spent : Outcome A
+  overflowed : Outcome A
 
 -- An event, the calls spent before it, and the states that are still to be gone through, the next one first.
 pub record Found (S A : Type 0) : Type 0 where
-  pub event : Event A
+  pub event : Outcome A
   pub calls : ℕ
   pub rest : List S
 

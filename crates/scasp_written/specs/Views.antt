@@ -1,7 +1,5 @@
-use Rattle.std.specs.Prelude.{List, map}
-use Rattle.std.specs.List.{reverse}
+use Rattle.std.specs.Prelude.{List, map, reverse}
 use Rattle.scasp_cert.specs.View.{trees_of}
-use Rattle.scasp_cert.specs.Certificate.{Certificate, certificate_of}
 use Rattle.scasp_cert.specs.States.{Level, Opened, State}
 use Rattle.scasp_written.specs.declared.position.Goals.{Goals}
 use Rattle.scasp_written.specs.declared.position.Frame.{Frame}

@@ -3,3 +3,7 @@
 
 mod position;
 mod successors;
+mod walk;
+mod written;
+
+pub use written::{Event, Written};

@@ -8,7 +8,7 @@ ghost use Rattle.scasp_written.specs.Views.{level_of, opened_of, above_of, state
 
 use scasp_cert::{Node, Nodes, copy_nodes};
 use scasp_name::Memory;
-use scasp_syntax::{Atom, Duplicate, Items, Terms};
+use scasp_syntax::{Atom, Duplicate, Items, Terms, copy_terms};
 use std::alloc::Global;
 
 /// A list of nodes in the making: the trees that are done, and the items that are still to be shown.
@@ -50,20 +50,29 @@ fn copy_frame(alloc: Global, frame: &Frame) -> Result<Frame, Memory>
     Ok(Frame {
         atom: frame.atom.duplicate(alloc)?,
         rule: frame.rule,
-        terms: frame.terms.duplicate(alloc)?,
+        terms: copy_terms(alloc, &frame.terms)?,
         outer: copy_goals(alloc, &frame.outer)?,
     })
 }
 
 /// Copies of frames.
 pub fn copy_frames(alloc: Global, frames: &[Frame]) -> Result<Vec<Frame>, Memory>
-    ensures { IfOk result (λ copied. map opened_of copied.items ≡ map opened_of frames.now) }
+    ensures { IfOk result (λ copied. above_of copied.items ≡ above_of frames.now) }
 {
     let mut copied = Vec::new(alloc);
     for frame in frames {
         copied.push(copy_frame(alloc, frame)?)?;
     }
     Ok(copied)
+}
+
+/// The frames with one more inside them.
+pub fn with_frame(frames: Vec<Frame>, frame: Frame) -> Result<Vec<Frame>, Memory>
+    ensures { IfOk result (λ more. above_of more.items ≡ opened_of frame ∷ above_of frames.items) }
+{
+    let mut frames = frames;
+    frames.push(frame)?;
+    Ok(frames)
 }
 
 /// Puts the finished literal into the list around it.

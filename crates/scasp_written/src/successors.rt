@@ -1,11 +1,12 @@
 //! What comes after a state.
 
-ghost use Rattle.std.specs.Prelude.{◌≡◌, ◌++◌, ◌∷◌, List, Some, None, IfOk, OnOk, map};
-ghost use Rattle.std.specs.List.{list_any, reverse};
+ghost use Rattle.std.specs.Prelude.{◌≡◌, ◌++◌, ◌∷◌, List, Some, None, IfOk, OnOk, map, reverse};
+ghost use Rattle.std.specs.List.{list_any};
+ghost use Rattle.scasp_syntax.specs.Same.{same_atom};
 ghost use Rattle.scasp_written.specs.Successors.{heads, repeats, opened, entered, tries, successors, next};
 ghost use Rattle.scasp_written.specs.Views.{opened_of, above_of, state_of, states_of};
 
-use crate::position::{Frame, Goals, Position, close, copy_frames};
+use crate::position::{Frame, Goals, Position, close, copy_frames, with_frame};
 use scasp_cert::{Nodes, copy_nodes};
 use scasp_name::Memory;
 use scasp_syntax::{Atom, Clause, Duplicate, Item, Items, Lit, Terms, same_atom};
@@ -21,9 +22,9 @@ fn heads(atom: &Atom, head: &Option<Atom>) -> bool
     }
 }
 
-/// Whether the atom is that of a literal open around it.
-fn repeats(atom: &Atom, frames: &[Frame]) -> bool
-    ensures { result ≡ repeats atom.now (above_of frames.now) }
+/// Whether one of the frames is of the atom.
+fn is_any(atom: &Atom, frames: &[Frame]) -> bool
+    ensures { result ≡ list_any (λ f. same_atom f.atom atom.now) frames.now }
 {
     for frame in frames {
         if same_atom(&frame.atom, atom) {
@@ -31,6 +32,13 @@ fn repeats(atom: &Atom, frames: &[Frame]) -> bool
         }
     }
     false
+}
+
+/// Whether the atom is that of a literal open around it.
+fn repeats(atom: &Atom, frames: &[Frame]) -> bool
+    ensures { result ≡ repeats atom.now (above_of frames.now) }
+{
+    is_any(atom, frames)
 }
 
 /// A copy of items.
@@ -76,8 +84,8 @@ fn entered(
 ) -> Result<Position, Memory>
     ensures { IfOk result (λ next. state_of next ≡ entered (state_of position.now) atom.now items.now rule clause.now) }
 {
-    let mut frames = copy_frames(alloc, &position.frames)?;
-    frames.push(opened(alloc, position, atom, items, rule)?)?;
+    let frame = opened(alloc, position, atom, items, rule)?;
+    let frames = with_frame(copy_frames(alloc, &position.frames)?, frame)?;
     let goals = Goals {
         done: Nodes::new(alloc),
         todo: clause.body.duplicate(alloc)?,

@@ -1,0 +1,172 @@
+-- `allocate` lends the handle for the call, and keeps what comes back with it. Assumes `Logic`.
+use mathlib.Core.Path.{◌≡◌, refl, sym, subst, ap, ◌∙◌}
+use mathlib.Core.Bool.{true, false}
+use Prim.Native.Nat.{ℕ, ◌+◌, ◌-◌, ◌*◌, ◌<◌, ◌^◌}
+use native.Mathlib.Omega.{arith}
+use mathlib.Core.List.{List, [], ◌∷◌, ◌++◌}
+use lib.Dec.{lit<}
+use seplogic.Ra.Ura.{Ura}
+use base.Fraction.{full_share}
+use base.Fml.{Fml, Lft, Share, ftrue, fat, froom, flft, Incl-trans}
+use base.Logic.{SProp, ent, sep, wand, id⊢, apply∗}
+use mir.Syntax.{Fn, Body, w64, ty_array}
+use mir.Val.{Val, vint, vcons, vnil}
+use mir.MapTy.{inst_fn}
+use mir.Raw.{raw as bare}
+use prog.Memory.{Memory, align, capped}
+use prog.Capped.{capped_is, capped_fits}
+use prog.RawLaws.{size-raw, align-raw}
+use prog.Routine.{Routine}
+use prog.Wp.{Env, Calls, Loops, Wp, WpFn, Tables, after_seq, at_return}
+use types.Logic.{Logic, sem}
+use types.Kit.{Post as After, any_q, ‵, raw, ◌⊛◌, some, later, given, at_ret, ◌$◌, ◌∵◌, !, qed, by, move, keep, drop, use0, use1, use2, pick, learn, split, split3, join, fsplit, fsplit3, fjoin, feq_l, flt_l, suffices, await, done}
+use types.Part.{whole, agg}
+use types.Match.{live, vrt, in_variant}
+use types.Run.{stop, fld, from, addr, lit, bin, size_lit, align_word, no_more, and_then, of_opd, first, switches_on, exec, returns, enter}
+use types.ByLocal.{alloc_all, pass_all, free_all, look_at, take_at, give_at, get, get_in, get_tag, sets, sets_last, lands_as, env}
+use contract.Monad.{Fun, fact}
+use contract.BorrowLft.{◌⊑◌, meet_⊑_right}
+use contract.Running.{tables, tables_of}
+use sound.WpLaws.{FmC, fm_of, WpFn-mono}
+use denote.Array.{Array}
+use denote.Builtin.{usize}
+use denote.Exit.{yes, no}
+use denote.Memory.{part_at}
+use denote.RattleType.{RattleType, owns}
+use denote.RawPtr.{block_ptr}
+use denote.Signature.{plain}
+use denote.Steps.{nothing}
+use denote.Triple.Call.{calls_at}
+use denote.Triple.Clauses.{Clauses, Ended, closing}
+use denote.Triple.Entry.{on_entry}
+use denote.Triple.Spec.{Meets, triple_of}
+use denote.Triple.Statement.{Triple}
+use denote.Triple.Table.{entered}
+use denote.Triple.Walked.{says, needs, Stays, stay_dropped, walk_of, ends_at, Goes-dropped, walk_Meets}
+use borrow.Table.OneValue.{part_in, part_out}
+use Rattle.core.specs.Result.{IfOk}
+use Rattle.core.specs.contracts.result.Result as RS
+use Rattle.core.specs.declared.result.Result.TheVariants.{Ok, Err}
+use Rattle.core.proofs.alloc.Calls.{second, Answer-typed, α, Fits, seen, Lent, lends, handle_tells, takes_key, Takes, at_takes, Answered, Takes-goes, Takes-gives, answers}
+use Rattle.core.proofs.ptr.Rows.{one_below}
+use Rattle.std_alloc.specs.Vec.Ownership.{FitsInBlock}
+use Rattle.std_alloc.proofs.RawLayout.{as_written}
+use Rattle.std_alloc.proofs.RcSteps.{first_Good, some_Good}
+use Rattle.std_alloc.proofs.ResultValues.{ok_of, err_of}
+use Rattle.std_alloc.proofs.VecSteps.Rows.{room_split, empty}
+use Rattle.std_alloc.proofs.VecSteps.Shapes.{after, head, arm_body}
+use Rattle.scasp_cells.proofs.Element.{El, R, P, Sr, Hd, args, elτ, sz, wider, el_make, segment_ty, segment_val, segment_typed}
+use Rattle.scasp_cells.proofs.Opens.{blk_in, segment_made}
+use Rattle.scasp_cells.specs.contracts.segment.Segment.allocate as F
+use Rattle.scasp_cells.specs.contracts.segment.Segment.allocate.Key.{name as #self}
+use Rattle.scasp_cells.proofs.segment.Segment.allocate.Statement as stated
+use Rattle.scasp_cells.proofs.segment.Segment.allocate.Code as code
+
+module _ (E : El) where
+  abbrev fn' : Fn
+  fn' = inst_fn (args E) code.function
+
+  abbrev ended : Ended
+  ended = F.ended E.row E.al.row E.al.g E.al.d E.al.drops
+
+  abbrev clauses : {M : Type 1} {𝓤 : Ura M} (𝓛 : Logic 𝓤) → (Memory → SProp 𝓤) → (Routine → Fun 𝓤) → Clauses 𝓤 ended
+  clauses 𝓛 = F.clauses E.row E.al.row E.al.g E.al.d E.al.drops 𝓛
+
+  abbrev stayed : Stays ended.signature.params ended.kept
+  stayed = (stay_dropped (plain (λ _. P E)) no, (stay_dropped (plain (λ _. usize)) yes, tt))
+
+  abbrev Out : RattleType
+  Out = RS.the_row (Sr E) (P E)
+
+module _ (E : El) {M : Type 1} {𝓤 : Ura M} (𝓛 : Logic 𝓤) (at_mem : Memory → SProp 𝓤) (run : Routine → Fun 𝓤) (C : Calls 𝓤 𝓛.H) (Λ : Loops 𝓤 𝓛.H) (fm : FmC 𝓤 𝓛.H 𝓛.laws C)
+    (callee : Triple 𝓤 (C (takes_key E.al)) (Takes E.al 𝓛 at_mem run)) (κT ρ : Lft) (qT qρ : Share) (within : ρ ⊑ E.al.row.lives) (a : Hd E) (c : ℕ) (vs ws : List Val) where
+  open 𝓛 use {H, A}
+
+  abbrev bound : (walk_of 𝓛 (ended E) (stayed E) (clauses E 𝓛 at_mem run)).Ghost
+  bound = (((κT, (ρ, tt)), (qT, (qρ, tt)), tt, (a, (c, tt)), (vs, (ws, tt))), tt)
+
+  abbrev Post : Val → SProp 𝓤
+  Post = (walk_of 𝓛 (ended E) (stayed E) (clauses E 𝓛 at_mem run)).post bound
+
+  abbrev Had : Val → SProp 𝓤
+  Had hv = sep 𝓤 (sem 𝓛 (E.al.row.own_val a (hv ∷ []))) (sep 𝓤 (A.lft ρ qρ) (A.lft κT qT))
+
+  exits : (r : (Out E).Denot) (v : Val) → IfOk r (λ d. (d.items ≡ []) × (d.len ≡ 0) × (d.cap ≡ c)) → ent 𝓤 (sep 𝓤 (sem 𝓛 ((Out E).own_val r (v ∷ []))) (sep 𝓤 (A.lft κT qT) (A.lft ρ qρ))) (Post v)
+  exits r v k =
+      qed 𝓛 (‵ ((Out E).own_val r (v ∷ [])) ∷ ‵ (flft κT qT) ∷ ‵ (flft ρ qρ) ∷ []) ∵ suffices ! _ (ends_at 𝓛 (ended E) (stayed E) (clauses E 𝓛 at_mem run) bound v r (tt, (tt, tt)) (tt, (tt, tt))) $ says ! k $
+      nothing ! $ nothing ! $ fjoin ! $ nothing ! $ fjoin ! $ join ! $ nothing ! $ move ! (3 ∷ 0 ∷ []) $ join ! $ move ! (2 ∷ 0 ∷ []) $ join ! $ join ! $ done !
+
+  walk : (hv : Val) → Fits E.al hv → 0 < c → FitsInBlock (R E) c → c < 2 ^ 64 → ent 𝓤 (Had hv) (WpFn 𝓤 H C Λ (fn' E) (hv ∷ vint w64 c ∷ []) Post)
+  walk hv fa pos fits fc =
+      let s : ℕ = sz E in
+      let fit : c * s < 2 ^ 63 = fits.0 in
+      let bytes : c * s < 2 ^ 64 = wider (c * s) fit in
+      let tiny : s < 2 ^ 64 = one_below c s (2 ^ 64) pos bytes in
+      qed 𝓛 (‵ (E.al.row.own_val a (hv ∷ [])) ∷ ‵ (flft ρ qρ) ∷ ‵ (flft κT qT) ∷ []) ∵ enter ! C Λ (fn' E) (hv ∷ vint w64 c ∷ []) _ $ alloc_all ! (λ l. pass_all ! refl (fa, ((tt, record { fits = fc }), tt)) $
+      let En : Env 𝓤 H = env (fn' E).locals l in
+      let both : Body = head (after 4 (fn' E).body) in
+      let Then : After 𝓤 H = any_q (after_seq 𝓤 H (Wp 𝓤 H C Λ En (after 5 (fn' E).body) (at_return 𝓤 H En Post)) (at_return 𝓤 H En Post)) in
+      let al : ℕ = capped (align (elτ E)) in
+      let hp : ℕ × ℕ = (l 3, 0) in
+      let Lies : Fml = part_at (P E) full_share a (l 3) 0 in
+      sets ! (of_opd ! (get ! refl)) refl fa $ sets ! (addr ! (from ! (stop !))) refl (tt, tt) $
+      sets ! (bin ! (get ! refl) (size_lit ! (record { fits = tiny })) (record { fits = bytes })) refl (tt, record { fits = bytes }) $ take_at ! 3 $
+      use2 𝓛 (‵ Lies) (part_in 𝓛 (P E) refl full_share a (l 3) 0 hv) $
+      use2 𝓛 (later (some (λ (n : ℕ × Share). raw (Lent E.al 𝓛 ρ qρ hp a n)))) (lends E.al 𝓛 ρ qρ within hp a) $ await ! tt $ pick ! (λ n.
+      let κ : Lft = n.0 ∷ ρ in
+      let Again : SProp 𝓤 = H.⇛ (sep 𝓤 (sem 𝓛 Lies) (A.lft ρ qρ)) in
+      let y : (Takes E.al 𝓛 at_mem run).Ghost = at_takes E.al 𝓛 at_mem run κ n.1 hp a (c * s) al (bare (ty_array (elτ E) c)) in
+      use1 𝓛 (‵ (seen E.al κ hp a) ⊛ ‵ (flft κ n.1) ⊛ raw (wand 𝓤 (A.lft κ n.1) Again)) (id⊢ 𝓤 _) $ split3 ! $
+      use2 𝓛 (raw ((Takes E.al 𝓛 at_mem run).pre y))
+      (Takes-goes E.al 𝓛 at_mem run κ n.1 hp a (Incl-trans (meet_⊑_right (n.0 ∷ []) ρ) within) (c * s) al (bare (ty_array (elτ E) c)) (ap capped (size-raw (ty_array (elτ E) c)) ∙ capped_is (c * s) bytes) (ap capped (align-raw (elτ E))) bytes (capped_fits (align (elτ E)))) $
+      calls_at ! fm (Takes E.al 𝓛 at_mem run) callee y (and_then ! (get ! refl) (and_then ! (get ! refl) (and_then ! (align_word !) (no_more !)))) (λ v.
+      use1 𝓛 (later (raw (Answered E.al 𝓛 at_mem run a (bare (ty_array (elτ E) c)) v) ⊛ ‵ (flft κ n.1))) (Takes-gives E.al 𝓛 at_mem run κ n.1 hp a (c * s) al (bare (ty_array (elτ E) c)) v) $ await ! tt $ split ! $ move ! (1 ∷ 2 ∷ []) $
+      use2 𝓛 (later (‵ Lies ⊛ ‵ (flft ρ qρ))) (apply∗ 𝓤 (A.lft κ n.1) Again) $ await ! tt $ split ! $
+      use1 𝓛 (some (λ (u : Val). ‵ (fat full_share (α E.al) (l 3) 0 u) ⊛ ‵ (E.al.row.own_val a (u ∷ [])))) (part_out 𝓛 (P E) refl full_share a (l 3) 0) $ pick ! (λ hv'. split ! $
+      use1 𝓛 (given (Fits E.al hv') (‵ (fat full_share (α E.al) (l 3) 0 hv'))) (𝓛.laws.at_wt full_share (α E.al) (l 3) 0 hv') $ learn ! (λ fa'. give_at ! 3 $ move ! (2 ∷ []) $
+      answers E.al ! at_mem run a (bare (ty_array (elτ E) c)) v
+      (λ b o e.
+      let made = segment_typed E hv' b o 0 c fa' (lit< tt) fc in
+      let ok = first_Good (segment_ty E) (segment_val E hv' b o 0 c) made in
+      let new = el_make E a (block_ptr b o) 0 c [] (refl, omega arith) fits.1 in
+      lands_as ! e refl (Answer-typed true b o) $ first ! $ switches_on ! (get_tag ! (vrt ! refl (fld ! refl (stop !))) (whole !)) $ exec ! C Λ En (arm_body 0 both) Then $
+      sets ! (of_opd ! (get_in ! (vrt ! refl (fld ! refl (stop !))) (in_variant ! 0 0 refl refl (whole !)))) refl (tt, tt) $ sets ! (of_opd ! (get ! refl)) refl (tt, tt) $ sets ! (of_opd ! (get ! refl)) refl fa' $
+      sets ! (agg ! (and_then ! (get ! refl) (and_then ! (lit ! tt) (and_then ! (get ! refl) (and_then ! (get ! refl) (no_more !)))))) refl made $ sets_last ! (agg ! (and_then ! (lit ! tt) (and_then ! (get ! refl) (no_more !)))) refl ok $
+      exec ! C Λ En (after 5 (fn' E).body) (at_ret En Post) $ sets ! (of_opd ! (get ! refl)) refl ok $
+      as_written ! (ty_array (elτ E) c) b o $
+      use1 𝓛 (‵ (froom (ty_array (elτ E) 0) b o) ⊛ ‵ (froom (ty_array (elτ E) (c - 0)) b (o + 0 * s))) (room_split E 𝓛 0 c b o (omega arith)) $ split ! $ drop ! $
+      use0 𝓛 (‵ (part_at (Array (R E) 0) full_share [] b o)) (empty E 𝓛 [] b o refl) $
+      blk_in E ! a b o 0 c [] pos $ segment_made E ! new.0 b o 0 c [] (new.1, new.2, new.3, new.4) (lit< tt) fc fit $
+      use1 𝓛 (‵ ((Out E).own_val (Ok new.0) (live 0 (vcons (segment_val E hv' b o 0 c) vnil) ∷ []))) (ok_of 𝓛 (Sr E) (P E) new.0 (segment_val E hv' b o 0 c)) $
+      returns ! (look_at ! 0 refl) $ free_all ! refl $ keep ! (0 ∷ 2 ∷ 1 ∷ []) $ by ! (exits (Ok new.0) (live 0 (vcons (segment_val E hv' b o 0 c) vnil)) (refl, refl, refl)))
+      (λ e.
+      let none = some_Good (α E.al) hv' fa' in
+      lands_as ! e refl (Answer-typed false 0 0) $ first ! $ switches_on ! (get_tag ! (vrt ! refl (fld ! refl (stop !))) (whole !)) $ exec ! C Λ En (arm_body 1 both) Then $
+      sets ! (of_opd ! (get ! refl)) refl fa' $ sets_last ! (agg ! (and_then ! (lit ! tt) (and_then ! (get ! refl) (no_more !)))) refl none $
+      exec ! C Λ En (after 5 (fn' E).body) (at_ret En Post) $ sets ! (of_opd ! (get ! refl)) refl none $
+      use1 𝓛 (‵ ((Out E).own_val (Err a) (live 1 (vcons hv' vnil) ∷ []))) (err_of 𝓛 (Sr E) (P E) a hv') $
+      returns ! (look_at ! 0 refl) $ free_all ! refl $ keep ! (0 ∷ 2 ∷ 1 ∷ []) $ by ! (exits (Err a) (live 1 (vcons hv' vnil)) tt)))))))
+
+  entry : (0 < c) × FitsInBlock (R E) c → ent 𝓤 (on_entry 𝓛 (ended E).signature (κT, (ρ, tt)) (qT, (qρ, tt)) (a, (c, tt)) (vs, (ws, tt))) (WpFn 𝓤 H C Λ (fn' E) (vs ++ (ws ++ [])) Post)
+  entry asked =
+      qed 𝓛 ((‵ (flft κT qT) ⊛ ‵ (flft ρ qρ) ⊛ ‵ ftrue) ∷ ‵ (owns (P E ∷ usize ∷ []) (a, (c, tt)) (vs, (ws, tt))) ∷ []) ∵ split3 ! $ move ! (3 ∷ []) $ fsplit3 ! $ handle_tells E.al ! a vs (λ hv is fa.
+      move ! (1 ∷ []) $ fsplit ! $ feq_l ! (λ e. flt_l ! (λ fc. keep ! (0 ∷ 3 ∷ 2 ∷ []) $
+      by ! (subst (λ (zs : List Val × List Val). ent 𝓤 (Had hv) (WpFn 𝓤 H C Λ (fn' E) (zs.0 ++ (zs.1 ++ [])) Post)) (λ j. (sym is j, sym e j)) (walk hv fa asked.0 asked.1 fc)))))
+
+meets : (E : El) {M : Type 1} {𝓤 : Ura M} (𝓛 : Logic 𝓤) (at_mem : Memory → SProp 𝓤) (run : Routine → Fun 𝓤) (𝓣 : Tables 𝓤 𝓛.H) → Triple 𝓤 (𝓣.C (takes_key E.al)) (Takes E.al 𝓛 at_mem run)
+    → Meets 𝓛 (ended E).signature (WpFn 𝓤 𝓛.H 𝓣.C 𝓣.Λ (fn' E)) (closing 𝓛 (ended E) (clauses E 𝓛 at_mem run))
+meets E {𝓤 = 𝓤} 𝓛 at_mem run 𝓣 callee =
+    walk_Meets 𝓛 (ended E) (stayed E) (Goes-dropped 𝓛 2 (plain (λ _. P E)) no (λ κs x f. refl), (Goes-dropped 𝓛 2 (plain (λ _. usize)) yes (λ κs x f. refl), tt)) (clauses E 𝓛 at_mem run) (WpFn 𝓤 𝓛.H 𝓣.C 𝓣.Λ (fn' E)) (WpFn-mono 𝓤 𝓛.H 𝓛.laws 𝓣 (fn' E))
+    (λ z. let κs = z.0.0 in let qs = z.0.1 in let On : SProp 𝓤 = on_entry 𝓛 (ended E).signature κs qs z.0.3 z.0.4 in
+    let asks = (0 < z.0.3.1.0) × FitsInBlock (R E) z.0.3.1.0 in
+    second 𝓤 (κs.0 ⊑ E.row.lives) (κs.1.0 ⊑ E.al.row.lives) On (fact 𝓤 asks) (λ within. needs 𝓤 asks On
+    (entry E 𝓛 at_mem run 𝓣.C 𝓣.Λ (fm_of 𝓤 𝓛.H 𝓛.laws 𝓣) callee κs.0 κs.1.0 qs.0 qs.1.0 within z.0.3.0 z.0.3.1.0 z.0.4.0 z.0.4.1.0)))
+
+pub allocate_spec : {M : Type 1} → stated.statement M
+unfolding tables_of
+allocate_spec 𝓤 𝓛 𝓜 𝓡 wired Y Z L LZ g d dd met md =
+    let E : El = record { row = Y; laws = L; al = record { row = Z; laws = LZ; g = g; d = d; drops = dd } } in
+    let A = 𝓛.A in
+    let 𝓣 : Tables 𝓤 𝓛.H = tables_of 𝓤 𝓛.H 𝓜 (tables 𝓤 𝓛.H 𝓜 𝓡 𝓡.env) in
+    entered 𝓤 𝓛.H (triple_of 𝓛 (ended E).signature (F.spec Y Z g d dd 𝓛 𝓜.mem 𝓡.returns)) 𝓣.C 𝓣.Λ (#self (args E)) (fn' E) (code.unfolded 𝓤 𝓛.H 𝓜 𝓡 wired (Y, (Z, tt)) d dd)
+    (meets E 𝓛 𝓜.mem 𝓡.returns 𝓣 (met.allocate dd))

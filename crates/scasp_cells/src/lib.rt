@@ -1,0 +1,41 @@
+//! A stack in segments over raw memory.
+//!
+//! The items lie in segments, blocks of memory with room for 1, 2, 4, .. items. Growth adds a
+//! segment and copies no item, so items never move, and n pushes ask for memory a number of times
+//! that is logarithmic in n. A rewind keeps the segments that it empties, so as many pushes after
+//! it take no memory.
+//!
+//! Segment k begins at place 2^k - 1. So the item at a place is found without a walk over the
+//! segments: with x = place + 1, the segment is the highest bit of x, which a count of leading
+//! zeros gives, and the offset is the bits below it.
+//!
+//! Raw pointers are used by the six functions of `segment` alone: `allocate`, `push`, `pop`,
+//! `as_slice`, `replace` and `free`. Each is proved by hand. What stands above them is plain code.
+#![tactic(auto)]
+
+ghost use Rattle.std.specs.Prelude.{Some, codes};
+
+use std::error::Error;
+use std::fmt;
+
+mod cells;
+mod place;
+mod segment;
+#[cfg(test)]
+mod tests;
+
+pub use cells::Cells;
+
+/// Want of memory.
+#[derive(Clone, Copy, Debug, PartialEq, Eq, Hash)]
+pub struct Memory;
+
+impl fmt::Display for Memory {
+    ghost output = { λ _. Some (codes "out of memory") };
+
+    fn fmt<W: fmt::Write>(&self, f: &mut fmt::Formatter<W>) -> fmt::Result {
+        f.write_str("out of memory")
+    }
+}
+
+impl Error for Memory {}

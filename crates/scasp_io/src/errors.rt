@@ -1,0 +1,65 @@
+ghost use Rattle.std.specs.Prelude.{◌≡◌};
+ghost use Rattle.scasp_io.specs.declared.errors.ReadErr.TheVariants as read_err;
+
+use std::alloc::{AllocError, AllocFailed};
+use thiserror::Error;
+
+/// Want of memory.
+#[derive(Clone, Copy, Debug, PartialEq, Eq, Error)]
+#[error("out of memory")]
+pub struct Memory;
+
+/// One read or one write failed, and the object counted the fault.
+#[derive(Clone, Copy, Debug, PartialEq, Eq, Error)]
+#[error("a read or a write failed")]
+pub struct Failed;
+
+/// The sink did not take all the bytes, and counted the fault.
+#[derive(Clone, Copy, Debug, PartialEq, Eq, Error)]
+#[error("a write failed")]
+pub struct SinkFault;
+
+/// Why a file was not read to its end.
+#[derive(Clone, Copy, Debug, PartialEq, Eq, Error)]
+pub enum ReadErr {
+    #[error("a read failed")]
+    Fault,
+    #[error("the file has more bytes than the limit")]
+    TooLong,
+    #[error("out of memory")]
+    Memory,
+}
+
+impl From<AllocError> for Memory {
+    fn from(_error: AllocError) -> Memory {
+        Memory
+    }
+}
+
+impl<T: Drop> From<AllocFailed<T>> for Memory {
+    fn from(_error: AllocFailed<T>) -> Memory {
+        Memory
+    }
+}
+
+impl From<Failed> for SinkFault {
+    fn from(_error: Failed) -> SinkFault {
+        SinkFault
+    }
+}
+
+impl From<Failed> for ReadErr {
+    ghost from_gives = { λ _ error. error ≡ read_err.Fault };
+
+    fn from(_error: Failed) -> ReadErr {
+        ReadErr::Fault
+    }
+}
+
+impl From<AllocError> for ReadErr {
+    ghost from_gives = { λ _ error. error ≡ read_err.Memory };
+
+    fn from(_error: AllocError) -> ReadErr {
+        ReadErr::Memory
+    }
+}

@@ -1,0 +1,9 @@
+pub mod Bytes
+pub mod Source
+pub mod Spelling
+pub mod Lexis
+pub mod Meaning
+pub mod Lexed
+pub mod Parse
+pub mod Reading
+pub mod Refusal

@@ -1,0 +1,16 @@
+//! Tokens.
+use scasp_name::NameId;
+
+/// A name or a sign.
+#[derive(Clone, Copy, Debug, PartialEq, Eq)]
+pub enum Token {
+    Word(NameId),
+    /// `.`
+    Dot,
+    /// `,`
+    Comma,
+    /// `:-`
+    If,
+    /// `?-`
+    Query,
+}

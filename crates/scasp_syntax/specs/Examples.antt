@@ -1,0 +1,67 @@
+-- Small cases of the definitions, computed.
+use Rattle.std.specs.Prelude.{◌≡◌, ℕ, Bool, true, false, pos, negsuc, [], ◌∷◌, Some, None}
+use Rattle.std.proofs.Common.{refl}
+use Rattle.scasp_num.specs.declared.linear.Op.TheVariants as op
+use Rattle.scasp_syntax.specs.Constraints.{holds}
+use Rattle.scasp_syntax.specs.Programs.{predicates, rules_of, pred_of}
+use Rattle.scasp_syntax.specs.Tm.{Tms, var, app, nil, cons, weight}
+use Rattle.scasp_syntax.specs.Values.{Sub, under, raised}
+use Rattle.scasp_syntax.specs.declared.atom.Atom.{Atom}
+use Rattle.scasp_syntax.specs.declared.clause.Clause.{Clause}
+use Rattle.scasp_syntax.specs.declared.clause.Item.{Item}
+use Rattle.scasp_syntax.specs.declared.clause.Item.TheVariants.{Call}
+use Rattle.scasp_syntax.specs.declared.clause.Query.{Query}
+use Rattle.scasp_syntax.specs.declared.con.Con.TheVariants as con
+use Rattle.scasp_syntax.specs.declared.program.Program.{Program}
+use Rattle.scasp_syntax.specs.declared.term.Term.TheVariants.{Var, App}
+
+-- p(V0) :- not q. :- r, p(V0). p(a). ?- q, s.
+abbrev atom : ℕ → Tms → Atom
+atom name args = record { minus = false; name = name; args = args }
+
+abbrev call : Bool → Atom → Item
+call positive a = Call (record { positive = positive; atom = a })
+
+abbrev p0 : Atom
+p0 = atom 2 (cons (var 0) nil)
+
+abbrev rule : Clause
+rule = record { head = Some p0; body = call false (atom 3 nil) ∷ []; vars = 1 }
+
+abbrev denial : Clause
+denial = record { head = None; body = call true (atom 4 nil) ∷ call true p0 ∷ []; vars = 1 }
+
+abbrev fact : Clause
+fact = record { head = Some (atom 2 (cons (app 6 nil) nil)); body = []; vars = 0 }
+
+abbrev query : Query
+query = record { body = call true (atom 3 nil) ∷ call true (atom 5 nil) ∷ []; names = [] }
+
+abbrev program : Program
+program = record { clauses = rule ∷ denial ∷ fact ∷ []; queries = query ∷ []; well_formed = refl }
+
+order : predicates program ≡ pred_of p0 ∷ pred_of (atom 3 nil) ∷ pred_of (atom 4 nil) ∷ pred_of (atom 5 nil) ∷ []
+order = refl
+
+rules : rules_of program (pred_of p0) ≡ 1 ∷ 3 ∷ []
+rules = refl
+
+raising : under (raised 3) (app 2 (cons (var 0) nil)) ≡ app 2 (cons (var 3) nil)
+raising = refl
+
+counting : weight (app 2 (cons (var 0) nil)) ≡ 2
+counting = refl
+
+-- V0 = a, where V0 is a, and V0 \= a/0
+abbrev values : Sub
+values x = app 6 nil
+
+equal : holds values (con.Eq (Var 0) (App 6 nil)) ≡ true
+equal = refl
+
+shaped : holds values (con.NotShape 0 6 0) ≡ false
+shaped = refl
+
+-- 2*V0 - 1 < 0, where what is no number counts as 0
+compared : holds values (con.Row (record { coeffs = record { x = 0; c = pos 2 } ∷ []; constant = negsuc 0; op = op.Lt })) ≡ true
+compared = refl

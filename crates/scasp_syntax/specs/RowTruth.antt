@@ -1,0 +1,41 @@
+-- Whether a linear comparison holds under a valuation.
+use Rattle.std.specs.Prelude.{zero, suc, Bool, true, false, ◌||◌, not, ℤ, pos, negsuc, ◌+ℤ◌, ◌*ℤ◌, List, [], ◌∷◌}
+use Rattle.scasp_num.specs.Linear.{Linear}
+use Rattle.scasp_num.specs.declared.linear.Coeff.{Coeff}
+use Rattle.scasp_num.specs.declared.linear.Op.{Op}
+use Rattle.scasp_num.specs.declared.linear.Op.TheVariants as op
+use Rattle.scasp_syntax.specs.Tm.{Tm, var, num, app}
+use Rattle.scasp_syntax.specs.Values.{Sub}
+
+-- the numerator and the denominator of a value; what is no number counts as 0
+abbrev pub fraction_of : Tm → ℤ × ℤ
+fraction_of (var x) = (pos 0, pos 1)
+fraction_of (num q) = (q.num, q.den)
+fraction_of (app f ts) = (pos 0, pos 1)
+
+-- the constant and each coefficient times its variable's value, summed, as a numerator and a denominator above 0
+abbrev pub sum_under : Sub → ℤ → List Coeff → ℤ × ℤ
+sum_under v constant [] = (constant, pos 1)
+sum_under v constant (k ∷ ks) =
+    let value = fraction_of (v k.x) in
+    let rest = sum_under v constant ks in
+    (((k.c *ℤ value.0) *ℤ rest.1) +ℤ (rest.0 *ℤ value.1), value.1 *ℤ rest.1)
+
+abbrev pub is_zero : ℤ → Bool
+is_zero (pos zero) = true
+is_zero (pos (suc n)) = false
+is_zero (negsuc n) = false
+
+abbrev pub is_negative : ℤ → Bool
+is_negative (pos n) = false
+is_negative (negsuc n) = true
+
+-- whether the integer compares so with 0
+abbrev pub compares : Op → ℤ → Bool
+compares op.Eq z = is_zero z
+compares op.Lt z = is_negative z
+compares op.Le z = is_negative z || is_zero z
+compares op.Ne z = not (is_zero z)
+
+abbrev pub row_holds : Sub → Linear → Bool
+row_holds v r = compares r.op (sum_under v r.constant r.coeffs).0
