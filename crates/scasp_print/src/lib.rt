@@ -6,6 +6,8 @@ mod constraints;
 mod hints;
 mod names;
 mod terms;
+#[cfg(test)]
+mod tests;
 mod text;
 mod trees;
 
