@@ -1,0 +1,1 @@
+//! Small programs, whose models were found by hand.
