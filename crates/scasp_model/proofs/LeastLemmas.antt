@@ -1,8 +1,7 @@
 -- The least model of rules without `not`: enough rounds, closed, and within each closed list.
-use Rattle.std.proofs.Common.{◌≡◌, ◌≢◌, ◌∷◌, ◌++◌, ◌∙◌, ◌⊎◌, ℕ, zero, suc, ◌+◌, ◌≤◌, Bool, true, false, ◌&&◌, not, cond, List, [], length, refl, ap, sym, subst, inl, inr, arith, Result, IfOk, IsTrue, add-zero, add-suc}
+use Rattle.std.proofs.Common.{◌≡◌, ◌≢◌, ◌∷◌, ◌++◌, ◌∙◌, ◌⊎◌, ℕ, zero, suc, ◌+◌, ◌≤◌, Bool, true, false, ◌&&◌, not, cond, List, [], length, refl, ap, sym, subst, inl, inr, arith, add-zero, add-suc}
 use Rattle.std.specs.List.{list_all}
 use Rattle.std.proofs.lemmas.Bool.{true≢false, false≢true, and_parts, and_from, and_cases, or_left, or_right, not-true, not-false, cond-true, cond-false, cond_both, cases_Bool}
-use Rattle.std.proofs.lemmas.Result.{IfOk-weaker}
 use Rattle.scasp_syntax.specs.Same.{same_atom}
 use Rattle.scasp_syntax.specs.declared.atom.Atom.{Atom}
 use Rattle.scasp_model.specs.Atoms.{among, has_all, are_distinct}
@@ -163,7 +162,5 @@ pub rounds-distinct : (rs : List DefiniteRule) (n : ℕ) → are_distinct (round
 rounds-distinct rs zero = refl
 rounds-distinct rs (suc n) = with_heads-distinct (rounds rs n) (rounds rs n) rs (rounds-distinct rs n)
 
-pub least_model-distinct_result : {E : Type 0} (r : Result (List Atom) E) (rs : List DefiniteRule) → IfOk r (λ atoms. atoms ≡ least_model rs) → IfOk r (λ atoms. IsTrue (are_distinct atoms))
-least_model-distinct_result r rs h =
-    IfOk-weaker r (λ atoms. atoms ≡ least_model rs) (λ atoms. IsTrue (are_distinct atoms))
-    (λ atoms e. ap are_distinct e ∙ rounds-distinct rs (length rs)) h
+pub are_distinct-rounds : (rs : List DefiniteRule) (n : ℕ) (atoms : List Atom) → atoms ≡ rounds rs n → are_distinct atoms ≡ true
+are_distinct-rounds rs n atoms e = ap are_distinct e ∙ rounds-distinct rs n

@@ -38,7 +38,8 @@ pub fn least(alloc: Global, g: &GroundProgram) -> Result<AtomList, Memory>
 
 /// The least model of the rules.
 pub fn least_of(alloc: Global, rules: &DefiniteRules) -> Result<AtomList, Memory>
-    ensures { IfOk result (λ atoms. atoms ≡ least_model rules.now) }
+    ensures rounds { IfOk result (λ atoms. atoms ≡ least_model rules.now) }
+    ensures distinct { IfOk result (λ atoms. IsTrue (are_distinct atoms)) }
 {
     let mut atoms = Sequence::new(alloc);
     for _round in 0..rules.len() {
