@@ -23,8 +23,9 @@ among-within atoms [] a w h = absurd (false≢true h)
 among-within atoms (x ∷ xs) a w h =
     let p = and_parts (among atoms x) (has_all atoms xs) w in
     elim (or_cases (same_atom a x) (among xs a) h) [
-      inl e ↦ ap (among atoms) ((atom_decided a x).0 e) ∙ p.0
-    | inr e ↦ among-within atoms xs a p.1 e ]
+      | inl e ↦ ap (among atoms) ((atom_decided a x).0 e) ∙ p.0
+      | inr e ↦ among-within atoms xs a p.1 e
+    ]
 
 pub has_all_from : (atoms xs : List Atom) → ((a : Atom) → among xs a ≡ true → among atoms a ≡ true) → has_all atoms xs ≡ true
 has_all_from atoms [] f = refl
@@ -54,9 +55,9 @@ are_distinct-push (x ∷ xs) a d n =
     let p = and_parts (not (among xs x)) (are_distinct xs) d in
     let q = or_parts (same_atom a x) (among xs a) n in
     let other : same_atom x a ≡ false =
-      false_from_ne_true (same_atom x a) (λ e. true≢false (sym ((atom_decided a x).1 (sym ((atom_decided x a).0 e))) ∙ q.0)) in
+    false_from_ne_true (same_atom x a) (λ e. true≢false (sym ((atom_decided a x).1 (sym ((atom_decided x a).0 e))) ∙ q.0)) in
     let new : among (xs ++ a ∷ []) x ≡ false =
-      among-append xs (a ∷ []) x ∙ or_from (among xs x) (among (a ∷ []) x) (not-true (among xs x) p.0) (or_from (same_atom x a) false other refl) in
+    among-append xs (a ∷ []) x ∙ or_from (among xs x) (among (a ∷ []) x) (not-true (among xs x) p.0) (or_from (same_atom x a) false other refl) in
     and_from (not (among (xs ++ a ∷ []) x)) (are_distinct (xs ++ a ∷ []))
     (not_from_false (among (xs ++ a ∷ []) x) new) (are_distinct-push xs a p.1 q.1)
 

@@ -33,8 +33,9 @@ with_head-has present got r b =
     by_cases present got r (λ z. among z r.head ≡ true)
     (λ e. among-append got (r.head ∷ []) r.head ∙ or_right (among got r.head) (among (r.head ∷ []) r.head) (or_left (same_atom r.head r.head) false (same_atom-self r.head)))
     (λ e. elim (and_cases (has_all present r.body) (not (among got r.head)) e) [
-      inl f ↦ absurd (true≢false (sym b ∙ f))
-    | inr f ↦ not-false (among got r.head) f ])
+      | inl f ↦ absurd (true≢false (sym b ∙ f))
+      | inr f ↦ not-false (among got r.head) f
+    ])
 
 -- where the body is present, the head is got
 abbrev gives : List Atom → List Atom → DefiniteRule → Bool
@@ -46,8 +47,8 @@ with_heads-has present got (r ∷ rs) =
     let all : List Atom = with_heads present (with_head present got r) rs in
     and_from (gives present all r) (list_all (gives present all) rs)
     (cond_both (has_all present r.body) (among all r.head) true (λ z. z ≡ true)
-      (λ b. with_heads-grows present (with_head present got r) rs r.head (with_head-has present got r b))
-      (λ b. refl))
+    (λ b. with_heads-grows present (with_head present got r) rs r.head (with_head-has present got r b))
+    (λ b. refl))
     (with_heads-has present (with_head present got r) rs)
 
 is_closed_from_fixed : (rs : List DefiniteRule) (atoms : List Atom) → round rs atoms ≡ atoms → is_closed rs atoms ≡ true
@@ -89,38 +90,44 @@ fixed_or_falls present got (r ∷ rs) =
     let all : List Atom = with_heads present (with_head present got r) rs in
     let grows : (a : Atom) → among got a ≡ true → among all a ≡ true = with_heads-grows present got (r ∷ rs) in
     elim (cases_Bool (adds present got r)) [
-      inl e ↦
-        (let p = and_parts (has_all present r.body) (not (among got r.head)) e in
-        let has : among all r.head ≡ true =
+      | inl e ↦
+          (let p = and_parts (has_all present r.body) (not (among got r.head)) e in
+          let has : among all r.head ≡ true =
           with_heads-grows present (with_head present got r) rs r.head (with_head-has present got r p.0) in
-        inr (falls_here (among got r.head) (among all r.head) (missing got rs) (missing all rs)
+          inr (falls_here (among got r.head) (among all r.head) (missing got rs) (missing all rs)
           (not-true (among got r.head) p.1) has (missing-falls got all rs grows)))
-    | inr e ↦
-        (let same : with_head present got r ≡ got = cond-false (adds present got r) (got ++ r.head ∷ []) got e in
-        elim (fixed_or_falls present (with_head present got r) rs) [
-          inl k ↦ inl (k ∙ same)
-        | inr k ↦ inr (falls_below (among got r.head) (among all r.head) (missing got rs) (missing all rs) (grows r.head)
-            (subst (λ (z : List Atom). missing all rs + 1 ≤ missing z rs) same k)) ]) ]
+      | inr e ↦
+          (let same : with_head present got r ≡ got = cond-false (adds present got r) (got ++ r.head ∷ []) got e in
+          elim (fixed_or_falls present (with_head present got r) rs) [
+            | inl k ↦ inl (k ∙ same)
+            | inr k ↦ inr (falls_below (among got r.head) (among all r.head) (missing got rs) (missing all rs) (grows r.head)
+                (subst (λ (z : List Atom). missing all rs + 1 ≤ missing z rs) same k))
+          ])
+    ]
 
 fixed_or_few : (rs : List DefiniteRule) (n : ℕ) → (round rs (rounds rs n) ≡ rounds rs n) ⊎ (missing (rounds rs n) rs + n ≤ length rs)
 fixed_or_few rs zero = let h : missing [] rs ≤ length rs = missing-below [] rs in inr (omega (arith, h))
 fixed_or_few rs (suc n) =
     elim (fixed_or_few rs n) [
-      inl e ↦ inl (ap (round rs) e)
-    | inr h ↦
-        elim (fixed_or_falls (rounds rs n) (rounds rs n) rs) [
-          inl e ↦ inl (ap (round rs) e)
-        | inr k ↦ inr (omega (arith, h, k)) ] ]
+      | inl e ↦ inl (ap (round rs) e)
+      | inr h ↦
+          elim (fixed_or_falls (rounds rs n) (rounds rs n) rs) [
+            | inl e ↦ inl (ap (round rs) e)
+            | inr k ↦ inr (omega (arith, h, k))
+          ]
+    ]
 
 -- one more round adds nothing
 pub least_model-fixed : (rs : List DefiniteRule) → round rs (least_model rs) ≡ least_model rs
 least_model-fixed rs =
     elim (fixed_or_few rs (length rs)) [
-      inl e ↦ e
-    | inr h ↦
-        elim (fixed_or_falls (least_model rs) (least_model rs) rs) [
-          inl e ↦ e
-        | inr k ↦ absurd (omega (arith, h, k)) ] ]
+      | inl e ↦ e
+      | inr h ↦
+          elim (fixed_or_falls (least_model rs) (least_model rs) rs) [
+            | inl e ↦ e
+            | inr k ↦ absurd (omega (arith, h, k))
+          ]
+    ]
 
 pub rounds_enough : (rs : List DefiniteRule) (n : ℕ) → rounds rs (length rs + n) ≡ least_model rs
 rounds_enough rs zero = rw add-zero refl
@@ -133,7 +140,7 @@ with_head-within : (atoms present got : List Atom) (r : DefiniteRule) → (has_a
 with_head-within atoms present got r f w =
     by_cases present got r (λ z. has_all atoms z ≡ true)
     (λ e. has_all-append atoms got (r.head ∷ []) ∙ and_from (has_all atoms got) (has_all atoms (r.head ∷ [])) w
-      (and_from (among atoms r.head) true (f (and_parts (has_all present r.body) (not (among got r.head)) e).0) refl))
+    (and_from (among atoms r.head) true (f (and_parts (has_all present r.body) (not (among got r.head)) e).0) refl))
     (λ e. w)
 
 with_heads-within : (atoms present got : List Atom) (rs : List DefiniteRule) → is_closed rs atoms ≡ true → has_all atoms present ≡ true → has_all atoms got ≡ true → has_all atoms (with_heads present got rs) ≡ true
@@ -141,7 +148,7 @@ with_heads-within atoms present got [] c v w = w
 with_heads-within atoms present got (r ∷ rs) c v w =
     let q = and_parts (gives atoms atoms r) (is_closed rs atoms) c in
     let head : has_all present r.body ≡ true → among atoms r.head ≡ true =
-      λ b. sym (cond-true (has_all atoms r.body) (among atoms r.head) true (has_all_trans atoms present r.body v b)) ∙ q.0 in
+    λ b. sym (cond-true (has_all atoms r.body) (among atoms r.head) true (has_all_trans atoms present r.body v b)) ∙ q.0 in
     with_heads-within atoms present (with_head present got r) rs q.1 v (with_head-within atoms present got r head w)
 
 -- each closed list has what the rounds give
@@ -155,8 +162,8 @@ with_heads-distinct present got [] d = d
 with_heads-distinct present got (r ∷ rs) d =
     with_heads-distinct present (with_head present got r) rs
     (by_cases present got r (λ z. are_distinct z ≡ true)
-      (λ e. are_distinct-push got r.head d (not-true (among got r.head) (and_parts (has_all present r.body) (not (among got r.head)) e).1))
-      (λ e. d))
+    (λ e. are_distinct-push got r.head d (not-true (among got r.head) (and_parts (has_all present r.body) (not (among got r.head)) e).1))
+    (λ e. d))
 
 pub rounds-distinct : (rs : List DefiniteRule) (n : ℕ) → are_distinct (rounds rs n) ≡ true
 rounds-distinct rs zero = refl

@@ -10,6 +10,6 @@ mod stable;
 #[cfg(test)]
 mod tests;
 
-pub use program::{AtomList, DefiniteRule, DefiniteRules, Domain, GroundClause, GroundProgram};
 pub use least_model::{is_without_not, least};
+pub use program::{AtomList, DefiniteRule, DefiniteRules, Domain, GroundClause, GroundProgram};
 pub use stable::is_stable;

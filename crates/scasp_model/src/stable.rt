@@ -4,8 +4,8 @@ ghost use Rattle.scasp_model.specs.Atoms.{SameAtoms};
 ghost use Rattle.scasp_model.specs.Stable.{Stable, is_true_in, are_true_in, is_violated, has_violation};
 
 use crate::atoms::{among, has_all};
-use crate::program::{AtomList, GroundClause, GroundProgram};
 use crate::least_model::least_of;
+use crate::program::{AtomList, GroundClause, GroundProgram};
 use crate::reduct::reduct;
 use scasp_name::Memory;
 use scasp_syntax::{Lit, Lits};
