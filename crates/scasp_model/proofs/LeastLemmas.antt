@@ -1,5 +1,5 @@
 -- The least model of rules without `not`: enough rounds, closed, and within each closed list.
-use Rattle.std.proofs.Common.{◌≡◌, ◌≢◌, ◌∷◌, ◌++◌, ◌∙◌, ◌⊎◌, ℕ, zero, suc, ◌+◌, ◌≤◌, Bool, true, false, ◌&&◌, not, cond, List, [], length, refl, ap, sym, subst, inl, inr, arith, add-zero, add-suc}
+use Rattle.std.proofs.Common.{◌≡◌, ◌≢◌, ◌∷◌, ◌++◌, ◌∙◌, ◌⊎◌, ℕ, zero, suc, ◌+◌, ◌-◌, ◌<◌, ◌≤◌, Bool, true, false, ◌&&◌, not, cond, List, [], length, refl, ap, sym, subst, inl, inr, arith, add-zero, add-suc, length-append}
 use Rattle.std.specs.List.{list_all}
 use Rattle.std.proofs.lemmas.Bool.{true≢false, false≢true, and_parts, and_from, and_cases, or_left, or_right, not-true, not-false, cond-true, cond-false, cond_both, cases_Bool}
 use Rattle.scasp_syntax.specs.Same.{same_atom}
@@ -171,3 +171,43 @@ rounds-distinct rs (suc n) = with_heads-distinct (rounds rs n) (rounds rs n) rs 
 
 pub are_distinct-rounds : (rs : List DefiniteRule) (n : ℕ) (atoms : List Atom) → atoms ≡ rounds rs n → are_distinct atoms ≡ true
 are_distinct-rounds rs n atoms e = ap are_distinct e ∙ rounds-distinct rs n
+
+length-with_head : (present got : List Atom) (r : DefiniteRule) → length got ≤ length (with_head present got r)
+length-with_head present got r =
+    by_cases present got r (λ z. length got ≤ length z) (λ e. omega (arith, length-append got (r.head ∷ []))) (λ e. omega arith)
+
+length-with_heads : (present got : List Atom) (rs : List DefiniteRule) → length got ≤ length (with_heads present got rs)
+length-with_heads present got [] = omega arith
+length-with_heads present got (r ∷ rs) =
+    let here : length got ≤ length (with_head present got r) = length-with_head present got r in
+    let rest : length (with_head present got r) ≤ length (with_heads present (with_head present got r) rs) =
+    length-with_heads present (with_head present got r) rs in
+    omega (arith, here, rest)
+
+-- a round that adds none changes nothing
+with_heads-same : (present got : List Atom) (rs : List DefiniteRule) → length (with_heads present got rs) ≡ length got → with_heads present got rs ≡ got
+with_heads-same present got [] e = refl
+with_heads-same present got (r ∷ rs) e =
+    let next : List Atom = with_head present got r in
+    let rest : length next ≤ length (with_heads present next rs) = length-with_heads present next rs in
+    elim (cases_Bool (adds present got r)) [
+      | inl t ↦
+          (let longer : next ≡ got ++ r.head ∷ [] = cond-true (adds present got r) (got ++ r.head ∷ []) got t in
+          let more : length next ≡ length (got ++ r.head ∷ []) = ap length longer in
+          absurd (omega (arith, rest, more, e, length-append got (r.head ∷ []))))
+      | inr f ↦
+          (let same : next ≡ got = cond-false (adds present got r) (got ++ r.head ∷ []) got f in
+          with_heads-same present next rs (e ∙ sym (ap length same)) ∙ same)
+    ]
+
+rounds-stay : (rs : List DefiniteRule) (k j : ℕ) → round rs (rounds rs k) ≡ rounds rs k → rounds rs (k + j) ≡ rounds rs k
+rounds-stay rs k zero e = rw add-zero refl
+rounds-stay rs k (suc j) e = rw add-suc (ap (round rs) (rounds-stay rs k j e) ∙ e)
+
+-- the model is there as soon as a round adds none
+pub least_model-early : (rs : List DefiniteRule) (k : ℕ) (atoms next : List Atom) → k < length rs → atoms ≡ rounds rs k → next ≡ round rs atoms → length next ≡ length atoms → next ≡ least_model rs
+least_model-early rs k atoms next h e f g =
+    let same : round rs atoms ≡ atoms = with_heads-same atoms atoms rs (ap length (sym f) ∙ g) in
+    let fixed : round rs (rounds rs k) ≡ rounds rs k = subst (λ (z : List Atom). round rs z ≡ z) e same in
+    let all : k + (length rs - k) ≡ length rs = omega (arith, h) in
+    f ∙ same ∙ e ∙ sym (rounds-stay rs k (length rs - k) fixed) ∙ ap (rounds rs) all

@@ -7,7 +7,7 @@ use Rattle.scasp_model.specs.Atoms.{among, SameAtoms}
 use Rattle.scasp_model.specs.Least.{least_model}
 use Rattle.scasp_model.specs.Programs.{is_positive, is_without_not, is_blocked}
 use Rattle.scasp_model.specs.Reduct.{rule_of, definite, reduced, reduct}
-use Rattle.scasp_model.specs.Stable.{Stable}
+use Rattle.scasp_model.specs.Stable.{Stable, has_violation}
 use Rattle.scasp_model.specs.declared.program.GroundClause.{GroundClause}
 
 not_blocked : (m : List Atom) (body : List Lit) → is_positive body ≡ true → is_blocked m body ≡ false
@@ -28,3 +28,10 @@ reduct-without_not m (c ∷ g) p =
 pub stable_is_least : (g : List GroundClause) (m : List Atom) → is_without_not g ≡ true → Stable g m → SameAtoms m (least_model (definite g))
 stable_is_least g m p s a =
     s.least_of_reduct a ∙ ap (λ rules. among (least_model rules) a) (reduct-without_not m g p)
+
+pub least_is_stable : (g : List GroundClause) → is_without_not g ≡ true → not (has_violation (least_model (definite g)) g) ≡ true → Stable g (least_model (definite g))
+least_is_stable g p v =
+    record {
+      least_of_reduct = λ a. sym (ap (λ rules. among (least_model rules) a) (reduct-without_not (least_model (definite g)) g p));
+      no_violation = v;
+    }

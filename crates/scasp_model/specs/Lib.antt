@@ -1,4 +1,5 @@
 pub mod Atoms
+pub mod Examples
 pub mod Grounding
 pub mod Least
 pub mod Programs

@@ -36,14 +36,18 @@ pub fn least(alloc: Global, g: &GroundProgram) -> Result<AtomList, Memory>
     least_of(alloc, &definite(alloc, g)?)
 }
 
-/// The least model of the rules.
+/// The least model of the rules. The rounds end with one that adds nothing.
 pub fn least_of(alloc: Global, rules: &DefiniteRules) -> Result<AtomList, Memory>
     ensures rounds { IfOk result (λ atoms. atoms ≡ least_model rules.now) }
     ensures distinct { IfOk result (λ atoms. IsTrue (are_distinct atoms)) }
 {
     let mut atoms = Sequence::new(alloc);
     for _round in 0..rules.len() {
-        atoms = round(alloc, rules, &atoms)?;
+        let next = round(alloc, rules, &atoms)?;
+        if next.len() == atoms.len() {
+            return Ok(next);
+        }
+        atoms = next;
     }
     Ok(atoms)
 }
