@@ -1,0 +1,3 @@
+pub mod AtomLemmas
+pub mod LeastLemmas
+pub mod StableLemmas

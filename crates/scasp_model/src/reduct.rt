@@ -1,0 +1,65 @@
+//! The reduct of a ground program.
+ghost use Rattle.std.specs.Prelude.{◌≡◌, IfOk};
+ghost use Rattle.scasp_model.specs.Programs.{is_blocked, positive_atoms};
+ghost use Rattle.scasp_model.specs.Reduct.{definite, reduct};
+
+use crate::atoms::among;
+use crate::program::{AtomList, DefiniteRule, DefiniteRules, GroundProgram};
+use scasp_name::Memory;
+use scasp_syntax::{Duplicate, Lits, Sequence};
+use std::alloc::Global;
+
+/// Whether the body has `not` before an atom of the list.
+fn is_blocked(atoms: &AtomList, body: &Lits) -> bool
+    ensures { result ≡ is_blocked atoms.now body.now }
+{
+    body.as_slice()
+        .iter()
+        .any(|literal| !literal.positive && among(atoms, &literal.atom))
+}
+
+/// The atoms of the body that stand without `not`.
+fn positive_atoms(alloc: Global, body: &Lits) -> Result<AtomList, Memory>
+    ensures { IfOk result (λ atoms. atoms ≡ positive_atoms body.now) }
+{
+    let mut atoms = Sequence::new(alloc);
+    for literal in body.as_slice() {
+        if literal.positive {
+            atoms.push(literal.atom.duplicate(alloc)?)?;
+        }
+    }
+    Ok(atoms)
+}
+
+/// The rules of a program, without the negated literals of their bodies.
+pub fn definite(alloc: Global, g: &GroundProgram) -> Result<DefiniteRules, Memory>
+    ensures { IfOk result (λ rules. rules ≡ definite g.now) }
+{
+    let mut rules = Sequence::new(alloc);
+    for clause in g.as_slice() {
+        if let Some(head) = &clause.head {
+            let head = head.duplicate(alloc)?;
+            let body = positive_atoms(alloc, &clause.body)?;
+            rules.push(DefiniteRule { head, body })?;
+        }
+    }
+    Ok(rules)
+}
+
+/// The reduct by a list of atoms: no rule with `not` before one of them, and no other negated literal.
+pub fn reduct(alloc: Global, g: &GroundProgram, m: &AtomList) -> Result<DefiniteRules, Memory>
+    ensures { IfOk result (λ rules. rules ≡ reduct m.now g.now) }
+{
+    let mut rules = Sequence::new(alloc);
+    for clause in g.as_slice() {
+        if is_blocked(m, &clause.body) {
+            continue;
+        }
+        if let Some(head) = &clause.head {
+            let head = head.duplicate(alloc)?;
+            let body = positive_atoms(alloc, &clause.body)?;
+            rules.push(DefiniteRule { head, body })?;
+        }
+    }
+    Ok(rules)
+}
