@@ -5,6 +5,8 @@ mod certificate;
 mod copies;
 mod count;
 mod lists;
+#[cfg(test)]
+mod tests;
 mod tree;
 
 pub use certificate::{Cert, Check, Checks, Clash, Clashes};

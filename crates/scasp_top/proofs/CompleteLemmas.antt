@@ -12,7 +12,6 @@ use Rattle.scasp_written.specs.Run.{search_for, start, HasOneEvent}
 use Rattle.scasp_top.specs.Texts.{header_line, query_text, status_of, usage_line}
 use Rattle.scasp_top.specs.Runs.{Runs, RunsQuery, Meets}
 use Rattle.scasp_top.specs.Outputs.{Outputs, OutputsOf, IsTooLong, IsNoProgram, RunsText, OfFile, HasFileFault, Expects, no_command, of_bytes}
-use Rattle.scasp_top.specs.Reports.{Reports, TakesWhole}
 use Rattle.scasp_top.specs.declared.program_run.TheConstants.{BUDGET}
 use Rattle.scasp_top.specs.declared.status.Status.{Status}
 use Rattle.scasp_top.specs.declared.status.Status.TheVariants.{Done, NoAnswer, Usage, Text, Read, Write, Spent, Overflow, Memory, Limit}
@@ -90,38 +89,29 @@ usage-one : (file : Option (List ℕ)) (told : List ℕ → Option (List ℕ)) (
 usage-one file told t text status none line (no_command none' line' usage) = (sym usage, line ∙ sym line')
 usage-one file told t text status none line (of_bytes name bytes is known asked) = cc (none, is)
 
-Ends : Status → Status → Option (List ℕ) → Option (List ℕ) → List ℕ → Type 0
-Ends result status before after text = (result ≡ Memory) ⊎ ((result ≡ status) × (after ≡ behind before text))
+-- where no read failed, a text that was printed whole is the expected one
+whole : (before after : Option (List ℕ)) (t text : List ℕ) (s status : Status)
+  → after ≡ behind before t → (s ≡ status) × (t ≡ text) → (s ≡ Memory) ⊎ ((s ≡ status) × (after ≡ behind before text))
+whole before after t text s status taken same = inr (same.0, taken ∙ ap (behind before) same.1)
 
-ends-whole : (may : List ℕ → Status → Type 0) (before after : Option (List ℕ)) (s status : Status) (text : List ℕ)
-  → (w : TakesWhole may before after s) → ((s ≡ status) × (w.text ≡ text)) → Ends s status before after text
-ends-whole may before after s status text w same = inr (same.0, w.taken ∙ ap (behind before) same.1)
-
-pub complete : (law : HasOneEvent) → (file : Option (List ℕ)) (told : List ℕ → Option (List ℕ)) (faults faults' : List ℕ → ℕ) (before after : Option (List ℕ))
-  (result : Status) (text : List ℕ) (status : Status)
-  → Reports (Outputs file told faults faults') before after result → Expects file told text status
-  → (result ≡ Read → ⊥) → (result ≡ Write → ⊥)
-  → (result ≡ Memory) ⊎ ((result ≡ status) × (after ≡ behind before text))
-complete law file told faults faults' before after Memory text status r e no_read no_write = inl refl
-complete law file told faults faults' before after Write text status r e no_read no_write = absurd (no_write refl)
-complete law file told faults faults' before after Read text status r e no_read no_write = absurd (no_read refl)
-complete law file told faults faults' before after Usage text status r e no_read no_write =
-  ends-whole (Outputs file told faults faults') before after Usage status text r (usage-one file told r.text text status r.may_be.0 r.may_be.1 e)
-complete law file told faults faults' before after Limit text status r e no_read no_write =
-  ends-whole (Outputs file told faults faults') before after Limit status text r (settles law file told r.text text Limit status r.may_be e)
-complete law file told faults faults' before after Text text status r e no_read no_write =
-  ends-whole (Outputs file told faults faults') before after Text status text r (settles law file told r.text text Text status r.may_be e)
-complete law file told faults faults' before after Done text status r e no_read no_write =
-  ends-whole (Outputs file told faults faults') before after Done status text r (settles law file told r.text text Done status r.may_be e)
-complete law file told faults faults' before after NoAnswer text status r e no_read no_write =
-  ends-whole (Outputs file told faults faults') before after NoAnswer status text r (settles law file told r.text text NoAnswer status r.may_be e)
-complete law file told faults faults' before after Spent text status r e no_read no_write =
-  ends-whole (Outputs file told faults faults') before after Spent status text r (settles law file told r.text text Spent status r.may_be e)
-complete law file told faults faults' before after Overflow text status r e no_read no_write =
-  ends-whole (Outputs file told faults faults') before after Overflow status text r (settles law file told r.text text Overflow status r.may_be e)
-
--- the status Read is reported only where a fault of the file was counted
-pub read-cause : (file : Option (List ℕ)) (told : List ℕ → Option (List ℕ)) (faults faults' : List ℕ → ℕ) (before after : Option (List ℕ)) (result : Status)
-  → Reports (Outputs file told faults faults') before after result → result ≡ Read → HasFileFault file faults faults'
-read-cause file told faults faults' before after result r e =
-  let P : Status → Type 0 = λ s. Reports (Outputs file told faults faults') before after s in (subst P e r).may_be.0
+pub complete : (law : HasOneEvent) → (file : Option (List ℕ)) (told : List ℕ → Option (List ℕ)) (faults faults' : List ℕ → ℕ)
+  (before after : Option (List ℕ)) (t text : List ℕ) (s status : Status)
+  → Outputs file told faults faults' t s → after ≡ behind before t → Expects file told text status → (HasFileFault file faults faults' → ⊥)
+  → (s ≡ Memory) ⊎ ((s ≡ status) × (after ≡ behind before text))
+complete law file told faults faults' before after t text Memory status o taken e fine = inl refl
+complete law file told faults faults' before after t text Write status o taken e fine = absurd o
+complete law file told faults faults' before after t text Read status o taken e fine = absurd (fine o.0)
+complete law file told faults faults' before after t text Usage status o taken e fine =
+  whole before after t text Usage status taken (usage-one file told t text status o.0 o.1 e)
+complete law file told faults faults' before after t text Limit status o taken e fine =
+  whole before after t text Limit status taken (settles law file told t text Limit status o e)
+complete law file told faults faults' before after t text Text status o taken e fine =
+  whole before after t text Text status taken (settles law file told t text Text status o e)
+complete law file told faults faults' before after t text Done status o taken e fine =
+  whole before after t text Done status taken (settles law file told t text Done status o e)
+complete law file told faults faults' before after t text NoAnswer status o taken e fine =
+  whole before after t text NoAnswer status taken (settles law file told t text NoAnswer status o e)
+complete law file told faults faults' before after t text Spent status o taken e fine =
+  whole before after t text Spent status taken (settles law file told t text Spent status o e)
+complete law file told faults faults' before after t text Overflow status o taken e fine =
+  whole before after t text Overflow status taken (settles law file told t text Overflow status o e)

@@ -1,6 +1,9 @@
 //! Whole commands, over files and sinks in memory.
 use crate::{Status, scasp};
 use scasp_io::{Bytes, CallList, MemFile, MemFileList, MemFiles, MemSink, Memory};
+use scasp_name::Names;
+use scasp_reader::read_program;
+use scasp_written::{Event, Written};
 use std::alloc::{AllocError, Global};
 use std::test::Fail;
 
@@ -136,6 +139,58 @@ fn tells_refusals(rt: HostRuntime) -> Result<(), Fail> {
         assert_eq!(rt; got.text.as_slice(), want.as_bytes(), "{want}");
         assert_eq!(rt; got.status, status, "{want}");
     }
+    Ok(())
+}
+
+/// Each write of four bytes fails once, and each read.
+#[test]
+fn meets_each_fault(rt: HostRuntime) -> Result<(), Fail> {
+    let fact = FACT.as_bytes();
+    for call in 1..=fact.len().div_ceil(4) {
+        let case = Case {
+            words: &["run", "p"],
+            text: "p. ?- p.",
+            chunk: 4,
+            failing_read: 0,
+            failing_write: call as u64,
+        };
+        let got = printed(rt.alloc(), &case)?;
+        assert_eq!(rt; Some(got.text.as_slice()), fact.get(..got.text.len()), "{call}");
+        assert_eq!(rt; got.text.len() + 4, call * 4, "{call}");
+        assert_eq!(rt; got.status, Status::Write, "{call}");
+    }
+    for call in 1..=2 {
+        let case = Case {
+            words: &["run", "p"],
+            text: "p. ?- p.",
+            chunk: 4,
+            failing_read: call,
+            failing_write: 0,
+        };
+        let got = printed(rt.alloc(), &case)?;
+        assert_eq!(rt; got.text.as_slice(), b"read program\n".as_slice(), "{call}");
+        assert_eq!(rt; got.status, Status::Read, "{call}");
+    }
+    Ok(())
+}
+
+/// A budget of two calls just serves, and one call less is spent; a last event comes again.
+#[test]
+fn spends_budgets(rt: HostRuntime) -> Result<(), Fail> {
+    let alloc = rt.alloc();
+    let mut names = Names::new(alloc)?;
+    let program = read_program(alloc, b"p :- q. q. ?- p.", &mut names)?;
+    assert!(rt; program.query(1).is_some());
+    let mut serving = Written::open(alloc, &program, 1, 2, names.len())?;
+    assert!(rt; matches!(serving.next()?, Event::Answer(_)));
+    assert_eq!(rt; serving.calls(), 2);
+    assert!(rt; matches!(serving.next()?, Event::Ended));
+    assert!(rt; matches!(serving.next()?, Event::Ended));
+    assert_eq!(rt; serving.calls(), 2);
+    let mut short = Written::open(alloc, &program, 1, 1, names.len())?;
+    assert!(rt; matches!(short.next()?, Event::Spent));
+    assert!(rt; matches!(short.next()?, Event::Spent));
+    assert_eq!(rt; short.calls(), 1);
     Ok(())
 }
 
