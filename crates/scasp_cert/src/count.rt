@@ -1,6 +1,6 @@
 //! How many lines a certificate has.
 
-ghost use Rattle.std.specs.Prelude.{◌≡◌, ◌-◌, ◌^◌, min};
+ghost use Rattle.std.specs.Prelude.{◌≡◌, ◌-◌, ◌^◌, min, Ok};
 ghost use Rattle.scasp_cert.specs.View.{tree_of, trees_of, branch_of, covers_of};
 ghost use Rattle.scasp_cert.specs.Trees.{listed, covering};
 ghost use Rattle.scasp_cert.specs.Lines.{lines_of, lines_below, lines_at, lines_in, lines_under, all_lines};
@@ -8,9 +8,17 @@ ghost use Rattle.scasp_cert.specs.Certificate.{certificate_of, checks_of};
 
 use crate::certificate::{Cert, Checks};
 use crate::tree::{Case, Covers, Node, Nodes};
+use scasp_name::Memory;
 
 /// How many tree and check lines the certificate has, or 2^64 - 1 where there are more.
-pub fn lines(cert: &Cert) -> u64
+/// It takes no memory.
+pub fn lines(cert: &Cert) -> Result<u64, Memory>
+    ensures { result ≡ Ok (min (all_lines (certificate_of cert.now)) (2 ^ 64 - 1)) }
+{
+    Ok(all_cert_lines(cert))
+}
+
+fn all_cert_lines(cert: &Cert) -> u64
     ensures { result ≡ min (all_lines (certificate_of cert.now)) (2 ^ 64 - 1) }
 {
     nodes_lines(&cert.trees).saturating_add(checks_lines(&cert.checks))

@@ -85,6 +85,6 @@ fn counts_and_copies(rt: HostRuntime) -> Result<(), Fail> {
         map: PredMaps::new(alloc),
     };
     // Twice a literal, a rule and four lines; a check and its case.
-    assert_eq!(rt; lines(&cert), 14);
+    assert_eq!(rt; lines(&cert)?, 14);
     Ok(())
 }

@@ -9,6 +9,7 @@ use std::test::Fail;
 
 /// What a test asks for: the words of the command, the text of the file `p`, the most bytes of one write, and the number of the
 /// read and of the write that fail, if any.
+#[derive(Clone, Copy)]
 struct Case<'a> {
     words: &'a [&'a str],
     text: &'a str,
@@ -47,7 +48,7 @@ fn command(alloc: Global, words: &[&str]) -> Result<Vec<String>, AllocError> {
     Ok(all)
 }
 
-fn printed(alloc: Global, case: &Case) -> Result<Printed, Memory> {
+fn run_case(alloc: Global, case: &Case) -> Result<Printed, Memory> {
     let words = command(alloc, case.words)?;
     let mut files = MemFiles::new(
         one_file(alloc, case.text)?,
@@ -104,7 +105,7 @@ fn runs_programs(rt: HostRuntime) -> Result<(), Fail> {
             failing_read: 0,
             failing_write: 0,
         };
-        let got = printed(rt.alloc(), &case)?;
+        let got = run_case(rt.alloc(), &case)?;
         assert_eq!(rt; got.text.as_slice(), want.as_bytes(), "{text}");
         assert_eq!(rt; got.status, status, "{text}");
     }
@@ -135,7 +136,7 @@ fn tells_refusals(rt: HostRuntime) -> Result<(), Fail> {
             failing_read,
             failing_write,
         };
-        let got = printed(rt.alloc(), &case)?;
+        let got = run_case(rt.alloc(), &case)?;
         assert_eq!(rt; got.text.as_slice(), want.as_bytes(), "{want}");
         assert_eq!(rt; got.status, status, "{want}");
     }
@@ -154,7 +155,7 @@ fn meets_each_fault(rt: HostRuntime) -> Result<(), Fail> {
             failing_read: 0,
             failing_write: call as u64,
         };
-        let got = printed(rt.alloc(), &case)?;
+        let got = run_case(rt.alloc(), &case)?;
         assert_eq!(rt; Some(got.text.as_slice()), fact.get(..got.text.len()), "{call}");
         assert_eq!(rt; got.text.len() + 4, call * 4, "{call}");
         assert_eq!(rt; got.status, Status::Write, "{call}");
@@ -167,7 +168,7 @@ fn meets_each_fault(rt: HostRuntime) -> Result<(), Fail> {
             failing_read: call,
             failing_write: 0,
         };
-        let got = printed(rt.alloc(), &case)?;
+        let got = run_case(rt.alloc(), &case)?;
         assert_eq!(rt; got.text.as_slice(), b"read program\n".as_slice(), "{call}");
         assert_eq!(rt; got.status, Status::Read, "{call}");
     }
@@ -218,7 +219,7 @@ fn stops_at_limits(rt: HostRuntime) -> Result<(), Fail> {
             failing_read: 0,
             failing_write: 0,
         };
-        let got = printed(rt.alloc(), &case)?;
+        let got = run_case(rt.alloc(), &case)?;
         assert_eq!(rt; got.text.as_slice(), want.as_bytes(), "{want}");
         assert_eq!(rt; got.status, status, "{want}");
     }

@@ -1,0 +1,7 @@
+fever.
+cough.
+cold :- cough, sneezing.
+flu :- fever, cough.
+rest :- cold.
+rest :- flu.
+?- rest.
