@@ -2,7 +2,7 @@
 use crate::print_cert;
 use scasp_cert::{Case, Cert, Check, Checks, Clash, Clashes, Cover, Covers, Node, Nodes};
 use scasp_name::{NIL, NameId, Names, PAIR};
-use scasp_num::{Step, StepLists, Steps};
+use scasp_num::{Op, Rat, RatPair, RatPairs, Row, Step, StepLists, Steps};
 use scasp_syntax::{Atom, Con, Cons, Hint, Lit, Pred, PredMap, PredMaps, Term, Terms};
 use std::alloc::Global;
 use std::test::Fail;
@@ -49,6 +49,21 @@ check 6
  void same 1 [1*2+-3*4;1*2+-3*4,-1*5+6*7]
 clash 1 3 terms
 map -q/0 1 -
+end
+";
+
+const NUMBERS: &str = "answer 1.1 [V0,V1]
+given num(V0)
+given num(V1)
+given 4*V0+3*V1-1 #= 0
+given 5*V0-V1-2 #= 0
+given -V0+3 #< 0
+given V0-V1 #=< 0
+given 1 #<> 0
+sample [7/19,-3/19]
+tree
+ pos p rule 1 []
+map p/0 0 +
 end
 ";
 
@@ -139,6 +154,35 @@ fn even_loop(alloc: Global) -> Result<Cert, Fail> {
     let atom = atom(alloc, false, 3);
     let mut cert = fact(alloc, only(alloc, Node::Neg { atom, covers })?)?;
     cert.map.push(map_line(false, 3, 0, false))?;
+    Ok(cert)
+}
+
+fn row(alloc: Global, summands: &[(u64, i128)], constant: i128, op: Op) -> Result<Con, Fail> {
+    let mut pairs = RatPairs::new(alloc);
+    for (x, number) in summands {
+        pairs.push(RatPair {
+            x: *x,
+            value: Rat::new(*number, 1)?,
+        })?;
+    }
+    let row = Row::normal(alloc, &pairs, &Rat::new(constant, 1)?, op)?;
+    Ok(Con::Row(row))
+}
+
+fn numbers(alloc: Global) -> Result<Cert, Fail> {
+    let mut cert = fact(alloc, Nodes::new(alloc))?;
+    for var in 0..2u64 {
+        cert.terms.push(Term::Var(var))?;
+        cert.given.push(Con::Num(Term::Var(var)))?;
+    }
+    let given = &mut cert.given;
+    given.push(row(alloc, &[(0, 4), (1, 3)], -1, Op::Eq)?)?;
+    given.push(row(alloc, &[(0, 5), (1, -1)], -2, Op::Eq)?)?;
+    given.push(row(alloc, &[(0, -1)], 3, Op::Lt)?)?;
+    given.push(row(alloc, &[(0, 1), (1, -1)], 0, Op::Le)?)?;
+    given.push(row(alloc, &[], 1, Op::Ne)?)?;
+    cert.sample.push(Term::Num(Rat::new(7, 19)?))?;
+    cert.sample.push(Term::Num(Rat::new(-3, 19)?))?;
     Ok(cert)
 }
 
@@ -281,6 +325,7 @@ fn certificates_are_written(rt: HostRuntime) -> Result<(), Fail> {
     rows.push((fact(alloc, Nodes::new(alloc))?, FACT))?;
     rows.push((even_loop(alloc)?, EVEN_LOOP))?;
     rows.push((all_forms(alloc)?, ALL_FORMS))?;
+    rows.push((numbers(alloc)?, NUMBERS))?;
     for (cert, block) in &rows {
         let text = print_cert(alloc, &names, cert, 1)?;
         assert!(rt; text.as_slice() == block.as_bytes());
