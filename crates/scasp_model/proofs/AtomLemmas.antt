@@ -1,5 +1,5 @@
 -- Lists of atoms as sets.
-use Rattle.std.proofs.Common.{◌≡◌, ◌≢◌, ◌∷◌, ◌++◌, ◌∙◌, Bool, true, false, ◌&&◌, ◌||◌, not, List, [], refl, ap, sym, inl, inr}
+use Rattle.std.proofs.Common.{◌≡◌, ◌∷◌, ◌++◌, ◌∙◌, Bool, true, false, ◌&&◌, ◌||◌, not, List, [], refl, ap, sym, inl, inr}
 use Rattle.std.specs.Bool.{Decides}
 use Rattle.std.proofs.lemmas.Bool.{true≢false, false≢true, and_parts, and_from, or_cases, or_parts, or_from, or_left, or_right, not_from_false, not-true, false_from_ne_true}
 use Rattle.std.proofs.lemmas.List.Folds.{list_all-append, list_any-append}

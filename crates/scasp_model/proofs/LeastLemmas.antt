@@ -1,5 +1,5 @@
 -- The least model of rules without `not`: enough rounds, closed, and within each closed list.
-use Rattle.std.proofs.Common.{◌≡◌, ◌≢◌, ◌∷◌, ◌++◌, ◌∙◌, ◌⊎◌, ℕ, zero, suc, ◌+◌, ◌-◌, ◌<◌, ◌≤◌, Bool, true, false, ◌&&◌, not, cond, List, [], length, refl, ap, sym, subst, inl, inr, arith, add-zero, add-suc, length-append}
+use Rattle.std.proofs.Common.{◌≡◌, ◌∷◌, ◌++◌, ◌∙◌, ◌⊎◌, ℕ, zero, suc, ◌+◌, ◌-◌, ◌<◌, ◌≤◌, Bool, true, false, ◌&&◌, not, cond, List, [], length, refl, ap, sym, subst, inl, inr, arith, add-zero, add-suc, length-append}
 use Rattle.std.specs.List.{list_all}
 use Rattle.std.proofs.lemmas.Bool.{true≢false, false≢true, and_parts, and_from, and_cases, or_left, or_right, not-true, not-false, cond-true, cond-false, cond_both, cases_Bool}
 use Rattle.scasp_syntax.specs.Same.{same_atom}

@@ -1,12 +1,12 @@
 -- Stable models: the test of them, and those of programs without `not`.
-use Rattle.std.proofs.Common.{◌≡◌, ◌∷◌, ◌++◌, ◌∙◌, Bool, true, false, ◌&&◌, not, List, [], refl, ap, sym, subst}
+use Rattle.std.proofs.Common.{◌≡◌, ◌∷◌, ◌++◌, ◌∙◌, true, false, ◌&&◌, not, List, [], refl, ap, sym}
 use Rattle.std.proofs.lemmas.Bool.{and_parts, and_left, or_from, not_from_true, cond-false}
 use Rattle.scasp_syntax.specs.declared.atom.Atom.{Atom}
 use Rattle.scasp_syntax.specs.declared.atom.Lit.{Lit}
 use Rattle.scasp_model.specs.Atoms.{among, SameAtoms}
 use Rattle.scasp_model.specs.Least.{least_model}
 use Rattle.scasp_model.specs.Programs.{is_positive, is_without_not, is_blocked}
-use Rattle.scasp_model.specs.Reduct.{rule_of, definite, reduced, reduct}
+use Rattle.scasp_model.specs.Reduct.{rule_of, definite, reduct}
 use Rattle.scasp_model.specs.Stable.{Stable, has_violation}
 use Rattle.scasp_model.specs.declared.program.GroundClause.{GroundClause}
 

@@ -5,8 +5,8 @@ use Rattle.scasp_syntax.specs.Tm.{Tm, Tms, var, app, nil, cons}
 use Rattle.scasp_syntax.specs.declared.atom.Atom.{Atom}
 use Rattle.scasp_syntax.specs.declared.atom.Lit.{Lit}
 use Rattle.scasp_syntax.specs.declared.clause.Clause.{Clause}
-use Rattle.scasp_syntax.specs.declared.clause.Item.TheVariants.{Call, Equal, Differ}
-use Rattle.scasp_syntax.specs.declared.term.Term.TheVariants.{Var, App}
+use Rattle.scasp_syntax.specs.declared.clause.Item.TheVariants.{Call, Differ}
+use Rattle.scasp_syntax.specs.declared.term.Term.TheVariants.{Var}
 use Rattle.scasp_model.specs.Grounding.{instances, is_domain}
 use Rattle.scasp_model.specs.Least.{least_model}
 use Rattle.scasp_model.specs.Reduct.{reduct}

@@ -1,5 +1,5 @@
 -- The instances of a program over a list of terms.
-use Rattle.std.specs.Prelude.{ℕ, zero, suc, Bool, true, false, ◌&&◌, not, List, [], ◌∷◌, map, filter, Option, None, Some}
+use Rattle.std.specs.Prelude.{ℕ, zero, suc, Bool, true, ◌&&◌, not, List, [], ◌∷◌, map, filter, Option, None, Some}
 use Rattle.std.specs.List.{list_all, list_any, flat_map}
 use Rattle.scasp_syntax.specs.Constraints.{is_number}
 use Rattle.scasp_syntax.specs.RowTruth.{row_holds}

@@ -1,6 +1,4 @@
-use Rattle.std.proofs.Common.{◌≡◌, ◌<◌, ◌∙◌, ap, arith, length}
-use Rattle.scasp_model.specs.Atoms.{are_distinct}
-use Rattle.scasp_model.specs.Least.{least_model}
+use Rattle.std.proofs.Common.{◌≡◌, ◌<◌, arith, length}
 use Rattle.scasp_model.proofs.LeastLemmas.{are_distinct-rounds, least_model-early}
 use Rattle.scasp_model.proofs.least_model.least_of.Goals as goal
 
