@@ -4,9 +4,8 @@
 mod system;
 
 use scasp_top::scasp;
-use std::env;
-use std::io;
 use std::process::ExitCode;
+use std::{env, io};
 use system::{SystemFiles, SystemSink};
 
 /// The exit code where the system does not give the words of the command.

@@ -23,18 +23,18 @@ Same s t s' t' = (s ≡ s') × (t ≡ t')
 -- a query meets one event first
 meets-one : (law : HasOneEvent) → (clauses : List Clause) (query : Query) (one other : Outcome Certificate) → Meets clauses 1 query one → Meets clauses 1 query other → one ≡ other
 meets-one law clauses query one other h g =
-  ap (λ f. f.event) (law clauses 1 BUDGET 0 (start query.body ∷ []) (record { event = one; calls = h.0; rest = h.1 }) (record { event = other; calls = g.0; rest = g.1 }) h.2 g.2)
+    ap (λ f. f.event) (law clauses 1 BUDGET 0 (start query.body ∷ []) (record { event = one; calls = h.0; rest = h.1 }) (record { event = other; calls = g.0; rest = g.1 }) h.2 g.2)
 
 runs-query-one : (law : HasOneEvent) → (names : List (List ℕ)) (clauses : List Clause) (query : Query) (t t' : List ℕ) (s s' : Status)
-  → RunsQuery names clauses query t s → RunsQuery names clauses query t' s' → (s ≡ s') × (t ≡ t')
+    → RunsQuery names clauses query t s → RunsQuery names clauses query t' s' → (s ≡ s') × (t ≡ t')
 runs-query-one law names clauses query t t' s s' h g =
-  let e : h.event ≡ g.event = meets-one law clauses query h.event g.event h.meets g.meets in
-  (h.ending ∙ ap status_of e ∙ sym g.ending, h.printed ∙ ap (λ v. header_line ++ query_text names v) e ∙ sym g.printed)
+    let e : h.event ≡ g.event = meets-one law clauses query h.event g.event h.meets g.meets in
+    (h.ending ∙ ap status_of e ∙ sym g.ending, h.printed ∙ ap (λ v. header_line ++ query_text names v) e ∙ sym g.printed)
 
 runs-one : (law : HasOneEvent) → (names : List (List ℕ)) (clauses : List Clause) (query : Option Query) (t t' : List ℕ) (s s' : Status)
-  → MatchOption query ((t ≡ header_line) × (s ≡ NoAnswer)) (λ q. RunsQuery names clauses q t s)
-  → MatchOption query ((t' ≡ header_line) × (s' ≡ NoAnswer)) (λ q. RunsQuery names clauses q t' s')
-  → (s ≡ s') × (t ≡ t')
+    → MatchOption query ((t ≡ header_line) × (s ≡ NoAnswer)) (λ q. RunsQuery names clauses q t s)
+    → MatchOption query ((t' ≡ header_line) × (s' ≡ NoAnswer)) (λ q. RunsQuery names clauses q t' s')
+    → (s ≡ s') × (t ≡ t')
 runs-one law names clauses None t t' s s' h g = (h.1 ∙ sym g.1, h.0 ∙ sym g.0)
 runs-one law names clauses (Some q) t t' s s' h g = runs-query-one law names clauses q t t' s s' h g
 
@@ -58,9 +58,9 @@ sort-of bytes text Memory h = absurd h
 
 texts-one : (law : HasOneEvent) → (bytes t t' : List ℕ) (s s' : Status) → RunsText bytes t s → RunsText bytes t' s' → (s ≡ s') × (t ≡ t')
 texts-one law bytes t t' s s' h g =
-  let same : h.reading ≡ g.reading = cc (h.read, g.read) in
-  let P : Reading → Type 0 = λ r. Runs r.names r.clauses r.queries t s in
-  runs-one law g.reading.names g.reading.clauses (numbered g.reading.queries 1) t t' s s' (subst P same h.run) g.run
+    let same : h.reading ≡ g.reading = cc (h.read, g.read) in
+    let P : Reading → Type 0 = λ r. Runs r.names r.clauses r.queries t s in
+    runs-one law g.reading.names g.reading.clauses (numbered g.reading.queries 1) t t' s s' (subst P same h.run) g.run
 
 sorts-one : (law : HasOneEvent) → (bytes t t' : List ℕ) (s s' : Status) → Sort bytes t s → Sort bytes t' s' → (s ≡ s') × (t ≡ t')
 sorts-one law bytes t t' s s' (too_long e h) (too_long e' h') = (e ∙ sym e', h.line ∙ sym h'.line)
@@ -75,43 +75,43 @@ sorts-one law bytes t t' s s' (run h) (run h') = texts-one law bytes t t' s s' h
 
 -- what was printed of a file's bytes is what they ask for
 settles : (law : HasOneEvent) → (file : Option (List ℕ)) (told : List ℕ → Option (List ℕ)) (t text : List ℕ) (s status : Status)
-  → OfFile file told (λ bytes. OutputsOf bytes t s) → Expects file told text status → (s ≡ status) × (t ≡ text)
+    → OfFile file told (λ bytes. OutputsOf bytes t s) → Expects file told text status → (s ≡ status) × (t ≡ text)
 settles law file told t text s status h (no_command none line usage) =
-  let P : Option (List ℕ) → Type 0 = λ f. OfFile f told (λ bytes. OutputsOf bytes t s) in absurd (subst P none h)
+    let P : Option (List ℕ) → Type 0 = λ f. OfFile f told (λ bytes. OutputsOf bytes t s) in absurd (subst P none h)
 settles law file told t text s status h (of_bytes name bytes is known asked) =
-  let P : Option (List ℕ) → Type 0 = λ f. OfFile f told (λ b. OutputsOf b t s) in
-  let Q : Option (List ℕ) → Type 0 = λ o. IfSome o (λ b. OutputsOf b t s) in
-  sorts-one law bytes t text s status (sort-of bytes t s (subst Q known (subst P is h))) (sort-of bytes text status asked)
+    let P : Option (List ℕ) → Type 0 = λ f. OfFile f told (λ b. OutputsOf b t s) in
+    let Q : Option (List ℕ) → Type 0 = λ o. IfSome o (λ b. OutputsOf b t s) in
+    sorts-one law bytes t text s status (sort-of bytes t s (subst Q known (subst P is h))) (sort-of bytes text status asked)
 
 -- and with the usage line no file is named
 usage-one : (file : Option (List ℕ)) (told : List ℕ → Option (List ℕ)) (t text : List ℕ) (status : Status)
-  → file ≡ None → t ≡ usage_line → Expects file told text status → (Usage ≡ status) × (t ≡ text)
+    → file ≡ None → t ≡ usage_line → Expects file told text status → (Usage ≡ status) × (t ≡ text)
 usage-one file told t text status none line (no_command none' line' usage) = (sym usage, line ∙ sym line')
 usage-one file told t text status none line (of_bytes name bytes is known asked) = cc (none, is)
 
 -- where no read failed, a text that was printed whole is the expected one
 whole : (before after : Option (List ℕ)) (t text : List ℕ) (s status : Status)
-  → after ≡ behind before t → (s ≡ status) × (t ≡ text) → (s ≡ Memory) ⊎ ((s ≡ status) × (after ≡ behind before text))
+    → after ≡ behind before t → (s ≡ status) × (t ≡ text) → (s ≡ Memory) ⊎ ((s ≡ status) × (after ≡ behind before text))
 whole before after t text s status taken same = inr (same.0, taken ∙ ap (behind before) same.1)
 
 pub complete : (law : HasOneEvent) → (file : Option (List ℕ)) (told : List ℕ → Option (List ℕ)) (faults faults' : List ℕ → ℕ)
-  (before after : Option (List ℕ)) (t text : List ℕ) (s status : Status)
-  → Outputs file told faults faults' t s → after ≡ behind before t → Expects file told text status → (HasFileFault file faults faults' → ⊥)
-  → (s ≡ Memory) ⊎ ((s ≡ status) × (after ≡ behind before text))
+    (before after : Option (List ℕ)) (t text : List ℕ) (s status : Status)
+    → Outputs file told faults faults' t s → after ≡ behind before t → Expects file told text status → (HasFileFault file faults faults' → ⊥)
+    → (s ≡ Memory) ⊎ ((s ≡ status) × (after ≡ behind before text))
 complete law file told faults faults' before after t text Memory status o taken e fine = inl refl
 complete law file told faults faults' before after t text Write status o taken e fine = absurd o
 complete law file told faults faults' before after t text Read status o taken e fine = absurd (fine o.0)
 complete law file told faults faults' before after t text Usage status o taken e fine =
-  whole before after t text Usage status taken (usage-one file told t text status o.0 o.1 e)
+    whole before after t text Usage status taken (usage-one file told t text status o.0 o.1 e)
 complete law file told faults faults' before after t text Limit status o taken e fine =
-  whole before after t text Limit status taken (settles law file told t text Limit status o e)
+    whole before after t text Limit status taken (settles law file told t text Limit status o e)
 complete law file told faults faults' before after t text Text status o taken e fine =
-  whole before after t text Text status taken (settles law file told t text Text status o e)
+    whole before after t text Text status taken (settles law file told t text Text status o e)
 complete law file told faults faults' before after t text Done status o taken e fine =
-  whole before after t text Done status taken (settles law file told t text Done status o e)
+    whole before after t text Done status taken (settles law file told t text Done status o e)
 complete law file told faults faults' before after t text NoAnswer status o taken e fine =
-  whole before after t text NoAnswer status taken (settles law file told t text NoAnswer status o e)
+    whole before after t text NoAnswer status taken (settles law file told t text NoAnswer status o e)
 complete law file told faults faults' before after t text Spent status o taken e fine =
-  whole before after t text Spent status taken (settles law file told t text Spent status o e)
+    whole before after t text Spent status taken (settles law file told t text Spent status o e)
 complete law file told faults faults' before after t text Overflow status o taken e fine =
-  whole before after t text Overflow status taken (settles law file told t text Overflow status o e)
+    whole before after t text Overflow status taken (settles law file told t text Overflow status o e)

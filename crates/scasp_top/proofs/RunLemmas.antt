@@ -17,13 +17,13 @@ use Rattle.scasp_top.specs.declared.status.Status.TheVariants.{Done, NoAnswer, U
 
 -- what the search for a query gives first, and what is printed for it, is the run of the query
 pub runs-query : (names : List (List ℕ)) (clauses : List Clause) (query : Option Query) (old new : Rest) (event : Outcome Certificate) (text : List ℕ) (status : Status)
-  → IfSome query (λ q. IsWholeRun clauses 1 BUDGET q.body old) → Gives old event new
-  → text ≡ header_line ++ query_text names event → status ≡ status_of event
-  → IfSome query (λ q. RunsQuery names clauses q text status)
+    → IfSome query (λ q. IsWholeRun clauses 1 BUDGET q.body old) → Gives old event new
+    → text ≡ header_line ++ query_text names event → status ≡ status_of event
+    → IfSome query (λ q. RunsQuery names clauses q text status)
 runs-query names clauses None old new event text status whole gives printed ending = whole
 runs-query names clauses (Some q) old new event text status whole gives printed ending =
-  let P : Rest → Type 0 = λ rest. Gives rest event new in
-  record { event = event; meets = (new.calls, new.states, subst P whole gives); printed = printed; ending = ending }
+    let P : Rest → Type 0 = λ rest. Gives rest event new in
+    record { event = event; meets = (new.calls, new.states, subst P whole gives); printed = printed; ending = ending }
 
 -- a run ends with one of the statuses of its events
 pub data IsRunStatus : Status → Type 0 where
@@ -39,7 +39,7 @@ status_of-run spent = over
 status_of-run overflowed = past
 
 run-status : (names : List (List ℕ)) (clauses : List Clause) (queries : List Query) (text : List ℕ) (status : Status)
-  → Runs names clauses queries text status → IsRunStatus status
+    → Runs names clauses queries text status → IsRunStatus status
 run-status names clauses queries text status run = by (numbered queries 1) run
   where
     by : (query : Option Query) → MatchOption query ((text ≡ header_line) × (status ≡ NoAnswer)) (λ q. RunsQuery names clauses q text status) → IsRunStatus status
@@ -51,10 +51,10 @@ by-status bytes text status is run = elim is as (λ s _. RunsText bytes text s �
 
 -- the run of the program that the bytes spell is what is printed for the bytes
 pub outputs-run : (bytes text : List ℕ) (status : Status) (reading : Reading)
-  → length bytes ≤ BYTE_LIMIT → program_in list_names bytes ≡ Some reading → Runs reading.names reading.clauses reading.queries text status
-  → OutputsOf bytes text status
+    → length bytes ≤ BYTE_LIMIT → program_in list_names bytes ≡ Some reading → Runs reading.names reading.clauses reading.queries text status
+    → OutputsOf bytes text status
 outputs-run bytes text status reading within read run =
-  by-status bytes text status (run-status reading.names reading.clauses reading.queries text status run)
+    by-status bytes text status (run-status reading.names reading.clauses reading.queries text status run)
     (record { within = within; reading = reading; read = read; run = run })
 
 -- what follows from a fact of the value holds of it too

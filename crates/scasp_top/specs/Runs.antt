@@ -14,7 +14,7 @@ use Rattle.scasp_top.specs.declared.program_run.TheConstants.{BUDGET}
 -- the first event of the written search for the query of this number, within the budget
 abbrev pub Meets : List Clause → ℕ → Query → Outcome Certificate → Type 0
 Meets clauses number query event =
-  (calls : ℕ) × (rest : List State)
+    (calls : ℕ) × (rest : List State)
     × Finds (search_for clauses number) BUDGET (start query.body ∷ []) 0 (record { event = event; calls = calls; rest = rest })
 
 -- The text and the status of the run of a program's query, by the event that its search meets first.
@@ -27,4 +27,4 @@ pub record RunsQuery (names : List (List ℕ)) (clauses : List Clause) (query : 
 -- the text and the status of the run of a program
 abbrev pub Runs : List (List ℕ) → List Clause → List Query → List ℕ → Status → Type 0
 Runs names clauses queries text status =
-  MatchOption (numbered queries 1) ((text ≡ header_line) × (status ≡ NoAnswer)) (λ query. RunsQuery names clauses query text status)
+    MatchOption (numbered queries 1) ((text ≡ header_line) × (status ≡ NoAnswer)) (λ query. RunsQuery names clauses query text status)

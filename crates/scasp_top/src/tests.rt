@@ -68,9 +68,12 @@ fn run_case(alloc: Global, case: &Case) -> Result<Printed, Memory> {
 }
 
 const OUTSIDE: &str = "text program 0 Unsupported\n";
+
 const USAGE: &str =
     "usage: scasp run FILE [--budget N] [--answers N] | check PROGRAM ANSWERS | trial N\n";
-const FACT: &str = "scasp 1\nanswer 1.1 []\nsample []\ntree\n pos p rule 1 []\nend\n% domain any\nstopped 1\n";
+
+const FACT: &str =
+    "scasp 1\nanswer 1.1 []\nsample []\ntree\n pos p rule 1 []\nend\n% domain any\nstopped 1\n";
 
 #[test]
 fn runs_programs(rt: HostRuntime) -> Result<(), Fail> {
@@ -156,7 +159,11 @@ fn meets_each_fault(rt: HostRuntime) -> Result<(), Fail> {
             failing_write: call as u64,
         };
         let got = run_case(rt.alloc(), &case)?;
-        assert_eq!(rt; Some(got.text.as_slice()), fact.get(..got.text.len()), "{call}");
+        assert_eq!(rt;
+            Some(got.text.as_slice()),
+            fact.get(..got.text.len()),
+            "{call}"
+        );
         assert_eq!(rt; got.text.len() + 4, call * 4, "{call}");
         assert_eq!(rt; got.status, Status::Write, "{call}");
     }
@@ -209,7 +216,11 @@ fn stops_at_limits(rt: HostRuntime) -> Result<(), Fail> {
     }
     let rows = [
         (spent.as_str(), "scasp 1\nspent 1\n", Status::Spent),
-        (long.as_str(), "limit program 4194304 bytes\n", Status::Limit),
+        (
+            long.as_str(),
+            "limit program 4194304 bytes\n",
+            Status::Limit,
+        ),
     ];
     for (text, want, status) in rows {
         let case = Case {

@@ -30,7 +30,7 @@ or-turned false false = refl
 pub any-above : (atom : Atom) (frames : List Frame) → list_any (λ f. same_atom f.atom atom) frames ≡ repeats atom (above_of frames)
 any-above atom [] = refl
 any-above atom (f ∷ fs) =
-  sym (or-turned (same_atom f.atom atom) (list_any (λ f. same_atom f.atom atom) fs))
+    sym (or-turned (same_atom f.atom atom) (list_any (λ f. same_atom f.atom atom) fs))
     ∙ ap (λ b. b || (same_atom f.atom atom || false)) (any-above atom fs)
     ∙ sym (list_any-append (λ o. same_atom o.atom atom) (above_of fs) (opened_of f ∷ []))
     ∙ ap (repeats atom) (sym (reverse-append (opened_of f ∷ []) (map opened_of fs)))

@@ -31,45 +31,45 @@ below-eqb a b h = grind (arith, nat_tests)
 
 -- the walk at a stack whose last position is this one
 popped : (clauses : List Clause) (query budget calls : ℕ) (positions rest : List Position) (position : Position) (found : Found State Certificate)
-  → positions ≡ rest ++ position ∷ []
-  → Finds (search_for clauses query) budget (state_of position ∷ states_of rest) calls found
-  → Finds (search_for clauses query) budget (states_of positions) calls found
+    → positions ≡ rest ++ position ∷ []
+    → Finds (search_for clauses query) budget (state_of position ∷ states_of rest) calls found
+    → Finds (search_for clauses query) budget (states_of positions) calls found
 popped clauses query budget calls positions rest position found is f =
-  let P : List State → Type 0 = λ ss. Finds (search_for clauses query) budget ss calls found in
-  subst P (sym (ap states_of is ∙ states-push rest position)) f
+    let P : List State → Type 0 = λ ss. Finds (search_for clauses query) budget ss calls found in
+    subst P (sym (ap states_of is ∙ states-push rest position)) f
 
 pub walk-answer : (clauses : List Clause) (query budget calls : ℕ) (positions rest : List Position) (position : Position) (cert : Certificate)
-  → positions ≡ rest ++ position ∷ [] → length position.goals.todo ≡ 0 → cert ≡ certificate query (trees_of position.goals.done)
-  → Finds (search_for clauses query) budget (states_of positions) calls (record { event = answered cert; calls = calls; rest = states_of rest })
+    → positions ≡ rest ++ position ∷ [] → length position.goals.todo ≡ 0 → cert ≡ certificate query (trees_of position.goals.done)
+    → Finds (search_for clauses query) budget (states_of positions) calls (record { event = answered cert; calls = calls; rest = states_of rest })
 walk-answer clauses query budget calls positions rest position cert is nothing said =
-  popped clauses query budget calls positions rest position _ is
+    popped clauses query budget calls positions rest position _ is
     (finds-answer (search_for clauses query) budget (state_of position) (states_of rest) calls cert
-      (answer-some query position.goals.todo (trees_of position.goals.done) nothing ∙ ap Some (sym said)))
+    (answer-some query position.goals.todo (trees_of position.goals.done) nothing ∙ ap Some (sym said)))
 
 pub walk-spent : (clauses : List Clause) (query budget calls : ℕ) (positions rest : List Position) (position : Position)
-  → positions ≡ rest ++ position ∷ [] → 0 < length position.goals.todo → calls ≡ budget
-  → Finds (search_for clauses query) budget (states_of positions) calls (record { event = spent; calls = calls; rest = states_of positions })
+    → positions ≡ rest ++ position ∷ [] → 0 < length position.goals.todo → calls ≡ budget
+    → Finds (search_for clauses query) budget (states_of positions) calls (record { event = spent; calls = calls; rest = states_of positions })
 walk-spent clauses query budget calls positions rest position is something over =
-  popped clauses query budget calls positions rest position _ is
+    popped clauses query budget calls positions rest position _ is
     (rw (ap states_of is ∙ states-push rest position)
-      (finds-spent (search_for clauses query) budget (state_of position) (states_of rest) calls
-        (answer-none query position.goals.todo (trees_of position.goals.done) something) (pays-true position.goals.todo something) over))
+    (finds-spent (search_for clauses query) budget (state_of position) (states_of rest) calls
+    (answer-none query position.goals.todo (trees_of position.goals.done) something) (pays-true position.goals.todo something) over))
 
 pub walk-step : (clauses : List Clause) (query budget calls : ℕ) (positions rest after : List Position) (position : Position) (found : Found State Certificate)
-  → positions ≡ rest ++ position ∷ [] → 0 < length position.goals.todo → calls < budget
-  → states_of after ≡ next clauses (state_of position) ++ states_of rest
-  → Finds (search_for clauses query) budget (states_of after) (calls + 1) found
-  → Finds (search_for clauses query) budget (states_of positions) calls found
+    → positions ≡ rest ++ position ∷ [] → 0 < length position.goals.todo → calls < budget
+    → states_of after ≡ next clauses (state_of position) ++ states_of rest
+    → Finds (search_for clauses query) budget (states_of after) (calls + 1) found
+    → Finds (search_for clauses query) budget (states_of positions) calls found
 walk-step clauses query budget calls positions rest after position found is something room gone f =
-  let none : answer query position.goals.todo (trees_of position.goals.done) ≡ None = answer-none query position.goals.todo (trees_of position.goals.done) something in
-  let paid : pays position.goals.todo ≡ true = pays-true position.goals.todo something in
-  let under : (pays position.goals.todo && (calls == budget)) ≡ false = rw paid (below-eqb calls budget room) in
-  let P : List State → Type 0 = λ ss. Finds (search_for clauses query) budget ss (calls + 1) found in
-  popped clauses query budget calls positions rest position found is
+    let none : answer query position.goals.todo (trees_of position.goals.done) ≡ None = answer-none query position.goals.todo (trees_of position.goals.done) something in
+    let paid : pays position.goals.todo ≡ true = pays-true position.goals.todo something in
+    let under : (pays position.goals.todo && (calls == budget)) ≡ false = rw paid (below-eqb calls budget room) in
+    let P : List State → Type 0 = λ ss. Finds (search_for clauses query) budget ss (calls + 1) found in
+    popped clauses query budget calls positions rest position found is
     (finds-step (search_for clauses query) budget (state_of position) (states_of rest) calls found none under
-      (rw paid (subst P gone f)))
+    (rw paid (subst P gone f)))
 
 -- nothing is left to go through
 pub walk-end : (clauses : List Clause) (query budget calls : ℕ) (positions rest : List Position) → positions ≡ [] → rest ≡ []
-  → Finds (search_for clauses query) budget (states_of positions) calls (record { event = ended; calls = calls; rest = states_of rest })
+    → Finds (search_for clauses query) budget (states_of positions) calls (record { event = ended; calls = calls; rest = states_of rest })
 walk-end clauses query budget calls positions rest none gone = rw (none, gone) (finds-nil (search_for clauses query) budget calls)

@@ -35,7 +35,7 @@ unfoldable pub first_event : {S A : Type 0} → Machine S A → ℕ → ℕ → 
 first_event m budget zero states calls = None
 first_event m budget (suc n) [] calls = Some (record { event = ended; calls = calls; rest = [] })
 first_event m budget (suc n) (s ∷ states) calls =
-  pick (m.answer s) (m.pays s && (calls == budget))
+    pick (m.answer s) (m.pays s && (calls == budget))
     (λ a. record { event = answered a; calls = calls; rest = states })
     (record { event = spent; calls = calls; rest = s ∷ states })
     (first_event m budget n (m.next s ++ states) (calls + cost (m.pays s)))

@@ -16,7 +16,14 @@ pays (item ∷ items) = true
 -- the certificate of these trees for the query of this number
 abbrev pub certificate : ℕ → List Tree → Certificate
 certificate query trees = record {
-  query = query; terms = nil; given = []; sample = nil; trees = trees; checks = []; clashes = []; map = []
+  query = query;
+  terms = nil;
+  given = [];
+  sample = nil;
+  trees = trees;
+  checks = [];
+  clashes = [];
+  map = [];
 }
 
 -- a state with nothing left to show is an answer
@@ -29,7 +36,7 @@ abbrev pub search_for : List Clause → ℕ → Machine State Certificate
 search_for clauses query = record {
   next = next clauses;
   pays = λ s. pays s.level.todo;
-  answer = λ s. answer query s.level.todo s.level.done
+  answer = λ s. answer query s.level.todo s.level.done;
 }
 
 -- where the search for an answer to these items begins
@@ -39,5 +46,5 @@ start body = closed [] body []
 -- from given states, with given calls spent, a search meets one event first, and no other
 abbrev pub HasOneEvent : Type 0
 HasOneEvent =
-  (clauses : List Clause) (query budget calls : ℕ) (states : List State) (one other : Found State Certificate)
-  → Finds (search_for clauses query) budget states calls one → Finds (search_for clauses query) budget states calls other → one ≡ other
+    (clauses : List Clause) (query budget calls : ℕ) (states : List State) (one other : Found State Certificate)
+    → Finds (search_for clauses query) budget states calls one → Finds (search_for clauses query) budget states calls other → one ≡ other

@@ -36,13 +36,13 @@ has_failed w = w.failed
 -- From the rest of a run this is the first outcome, and then this is the rest.
 abbrev pub Gives : Rest → Outcome Certificate → Rest → Type 0
 Gives old outcome new =
-  Finds (search_for old.clauses old.query) old.budget old.states old.calls
+    Finds (search_for old.clauses old.query) old.budget old.states old.calls
     (record { event = outcome; calls = new.calls; rest = new.states })
 
 -- all of the run for the query of this number with this body
 abbrev pub IsWholeRun : List Clause → ℕ → ℕ → List Item → Rest → Type 0
 IsWholeRun clauses query budget body rest =
-  rest ≡ record { clauses = clauses; query = query; budget = budget; calls = 0; states = start body ∷ [] }
+    rest ≡ record { clauses = clauses; query = query; budget = budget; calls = 0; states = start body ∷ [] }
 
 -- the run is for the same query of the same clauses, within the same budget
 pub record IsSameRun (old new : Rest) : Type 0 where

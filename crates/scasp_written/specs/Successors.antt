@@ -29,15 +29,15 @@ entered s atom items rule clause = closed [] clause.body (opened s atom items ru
 abbrev pub tries : State → Atom → List Item → ℕ → List Clause → List State
 tries s atom items rule [] = []
 tries s atom items rule (c ∷ cs) =
-  if heads atom c.head then entered s atom items rule c ∷ tries s atom items (rule + 1) cs
-  else tries s atom items (rule + 1) cs
+    if heads atom c.head then entered s atom items rule c ∷ tries s atom items (rule + 1) cs
+    else tries s atom items (rule + 1) cs
 
 -- The successors of a state with these items to show, in the order in which they are tried: a call that repeats a literal open
 -- around it fails, and any other is tried by each rule of its atom. Of the items, only positive calls are gone into.
 abbrev pub successors : List Clause → State → List Item → List State
 successors clauses s [] = []
 successors clauses s (Call lit ∷ items) =
-  if lit.positive && not (repeats lit.atom s.above) then tries s lit.atom items 1 clauses else []
+    if lit.positive && not (repeats lit.atom s.above) then tries s lit.atom items 1 clauses else []
 successors clauses s (Equal t u ∷ items) = []
 successors clauses s (Differ t u ∷ items) = []
 successors clauses s (Linear l ∷ items) = []

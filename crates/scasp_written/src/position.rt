@@ -78,8 +78,9 @@ pub fn with_frame(frames: Vec<Frame>, frame: Frame) -> Result<Vec<Frame>, Memory
 /// Puts the finished literal into the list around it.
 fn finish(frame: Frame, children: Nodes) -> Result<Goals, Memory>
     ensures { IfOk result (λ goals. level_of goals ≡ record {
-        done = trees_of frame.outer.done ++ pos_tree frame.atom frame.rule frame.terms (listed (trees_of children)) ∷ [];
-        todo = frame.outer.todo }) }
+      done = trees_of frame.outer.done ++ pos_tree frame.atom frame.rule frame.terms (listed (trees_of children)) ∷ [];
+      todo = frame.outer.todo;
+    }) }
 {
     let Frame {
         atom,

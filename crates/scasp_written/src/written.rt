@@ -1,7 +1,6 @@
 //! The search as an object that gives one event after the other.
 ghost use Rattle.std.specs.Prelude.{◌≤◌};
 
-
 use crate::position::{Frame, Goals, Position, close};
 use crate::walk::first_event;
 use scasp_cert::{Cert, Nodes};

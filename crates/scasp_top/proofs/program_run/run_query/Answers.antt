@@ -7,7 +7,7 @@ use Rattle.scasp_top.proofs.program_run.run_query.Goals as goal
 
 pub returns : goal.returns
 returns c =
-  runs-query c.args.names.now c.args.program.now.clauses (numbered c.args.program.now.queries 1)
+    runs-query c.args.names.now c.args.program.now.clauses (numbered c.args.program.now.queries 1)
     (rest_of c.in_ok-search.search) (rest_of c.next.new.self) (outcome_of c.in_ok-event.event) _ _
     c.in_ok-search.ensures.run c.in_ok-event.ensures.event
     (c.in_ok-status.ensures.text ∙ ap (λ t. t ++ query_text c.args.names.now (outcome_of c.in_ok-event.event)) c.in_ok-text.ensures.items)

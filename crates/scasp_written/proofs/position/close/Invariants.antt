@@ -6,7 +6,7 @@ use Rattle.scasp_written.proofs.position.close.Given as goal
 
 abbrev pub invariant-loop-frames : goal.invariant-loop-frames
 invariant-loop-frames l =
-  closed (trees_of l.goals.done) l.goals.todo (above_of l.frames.items)
+    closed (trees_of l.goals.done) l.goals.todo (above_of l.frames.items)
     ≡ closed (trees_of l.fn.goals.done) l.fn.goals.todo (above_of l.fn.frames.items)
 
 abbrev pub decreases-loop-frames : goal.decreases-loop-frames
