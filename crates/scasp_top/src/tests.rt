@@ -3,6 +3,7 @@ use crate::{Status, scasp};
 use scasp_io::{Bytes, CallList, MemFile, MemFileList, MemFiles, MemSink, Memory};
 use scasp_name::Names;
 use scasp_reader::read_program;
+use scasp_syntax::Program;
 use scasp_written::{Event, Written};
 use std::alloc::{AllocError, Global};
 use std::test::Fail;
@@ -150,24 +151,23 @@ fn tells_refusals(rt: HostRuntime) -> Result<(), Fail> {
 #[test]
 fn meets_each_fault(rt: HostRuntime) -> Result<(), Fail> {
     let fact = FACT.as_bytes();
-    for call in 1..=fact.len().div_ceil(4) {
+    assert_eq!(rt; fact.len(), 81);
+    for call in 1..22u64 {
         let case = Case {
             words: &["run", "p"],
             text: "p. ?- p.",
             chunk: 4,
             failing_read: 0,
-            failing_write: call as u64,
+            failing_write: call,
         };
         let got = run_case(rt.alloc(), &case)?;
-        assert_eq!(rt;
-            Some(got.text.as_slice()),
-            fact.get(..got.text.len()),
-            "{call}"
-        );
-        assert_eq!(rt; got.text.len() + 4, call * 4, "{call}");
+        match fact.get(..(call as usize - 1) * 4) {
+            Some(want) => assert_eq!(rt; got.text.as_slice(), want, "{call}"),
+            None => assert!(rt; false, "{call}"),
+        }
         assert_eq!(rt; got.status, Status::Write, "{call}");
     }
-    for call in 1..=2 {
+    for call in 1..3u64 {
         let case = Case {
             words: &["run", "p"],
             text: "p. ?- p.",
@@ -182,23 +182,42 @@ fn meets_each_fault(rt: HostRuntime) -> Result<(), Fail> {
     Ok(())
 }
 
+/// The events of the search for the first query within a budget, each as the calls spent before it and a word.
+fn events(
+    alloc: Global,
+    program: &Program,
+    budget: u64,
+) -> Result<Vec<(u64, &'static str)>, scasp_name::Memory> {
+    let mut met = Vec::new(alloc);
+    if program.query(1).is_none() {
+        return Ok(met);
+    }
+    let mut search = Written::open(alloc, program, 1, budget, 2)?;
+    for _ in 0..3u8 {
+        let word = match search.next()? {
+            Event::Answer(_) => "answer",
+            Event::Ended => "ended",
+            Event::Spent => "spent",
+            Event::Overflow => "overflow",
+        };
+        met.push((search.calls(), word))?;
+    }
+    Ok(met)
+}
+
 /// A budget of two calls just serves, and one call less is spent; a last event comes again.
 #[test]
 fn spends_budgets(rt: HostRuntime) -> Result<(), Fail> {
-    let alloc = rt.alloc();
-    let mut names = Names::new(alloc)?;
-    let program = read_program(alloc, b"p :- q. q. ?- p.", &mut names)?;
-    assert!(rt; program.query(1).is_some());
-    let mut serving = Written::open(alloc, &program, 1, 2, names.len())?;
-    assert!(rt; matches!(serving.next()?, Event::Answer(_)));
-    assert_eq!(rt; serving.calls(), 2);
-    assert!(rt; matches!(serving.next()?, Event::Ended));
-    assert!(rt; matches!(serving.next()?, Event::Ended));
-    assert_eq!(rt; serving.calls(), 2);
-    let mut short = Written::open(alloc, &program, 1, 1, names.len())?;
-    assert!(rt; matches!(short.next()?, Event::Spent));
-    assert!(rt; matches!(short.next()?, Event::Spent));
-    assert_eq!(rt; short.calls(), 1);
+    let mut names = Names::new(rt.alloc())?;
+    let program = read_program(rt.alloc(), b"p :- q. q. ?- p.", &mut names)?;
+    let rows = [
+        (2, [(2, "answer"), (2, "ended"), (2, "ended")]),
+        (1, [(1, "spent"), (1, "spent"), (1, "spent")]),
+    ];
+    for (budget, want) in rows {
+        let met = events(rt.alloc(), &program, budget)?;
+        assert_eq!(rt; met.as_slice(), want.as_slice(), "{budget}");
+    }
     Ok(())
 }
 
