@@ -1,7 +1,8 @@
 //! The top call.
 
-ghost use Rattle.std.specs.Prelude.{◌≡◌, ◌≤◌, ◌⊎◌, ℕ, List, Some, map, string_bytes, length, IfOk};
+ghost use Rattle.std.specs.Prelude.{◌≡◌, ◌≤◌, ◌⊎◌, ℕ, List, None, Some, map, string_bytes, length, IfOk};
 ghost use Rattle.scasp_io.specs.Counts.{Rose};
+ghost use Rattle.scasp_io.specs.Lookup.{bytes_or_none};
 ghost use Rattle.scasp_top.specs.Words.{file_of};
 ghost use Rattle.scasp_top.specs.Outputs.{Outputs, OutputsOf, Expects, HasFileFault};
 ghost use Rattle.scasp_top.specs.declared.status.Status.{Status as OfStatus};
@@ -98,6 +99,7 @@ pub fn scasp_sure(
     files: &mut SureFiles,
     out: &mut SureSink,
 ) -> Status
+    ensures reports { Reports (Outputs (file_of (map string_bytes words.now.items)) (λ name. Some (bytes_or_none files.old.files name)) (λ _. 0) (λ _. 0)) None None result }
     ensures no_read { ¬ (result ≡ Status.Read) }
     ensures no_write { ¬ (result ≡ Status.Write) }
 {
