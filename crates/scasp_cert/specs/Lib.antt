@@ -3,3 +3,6 @@ pub mod View
 pub mod Certificate
 pub mod Lines
 pub mod States
+pub mod Instances
+pub mod Flat
+pub mod Examples

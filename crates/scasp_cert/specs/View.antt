@@ -1,5 +1,5 @@
-use Rattle.std.specs.Prelude.{ℕ, List, [], ◌∷◌}
-use Rattle.scasp_cert.specs.Trees.{Tree, Trees, Branch, pos_tree, neg_tree, loop_tree, seen_tree, test_tree, split, void, leaf, head, listed, covering}
+use Rattle.std.specs.Prelude.{ℕ, List}
+use Rattle.scasp_cert.specs.Trees.{Tree, Branch, pos_tree, neg_tree, loop_tree, seen_tree, test_tree, split, void, leaf, head, listed, covering}
 use Rattle.scasp_cert.specs.declared.tree.Node.{Node}
 use Rattle.scasp_cert.specs.declared.tree.Nodes.{Nodes}
 use Rattle.scasp_cert.specs.declared.tree.Case.{Case}

@@ -5,19 +5,8 @@ ghost use Rattle.scasp_cert.specs.View.{tree_of, trees_of, branch_of, cover_of, 
 
 use crate::tree::{Case, Cover, Covers, Node, Nodes};
 use scasp_name::Memory;
-use scasp_syntax::{Duplicate, Hint, copy_terms};
+use scasp_syntax::{Duplicate, copy_terms};
 use std::alloc::Global;
-
-/// A copy of a hint.
-fn copy_hint(hint: &Hint) -> Result<Hint, Memory>
-    ensures { IfOk result (λ copied. copied ≡ hint.now) }
-{
-    match hint {
-        Hint::Terms => Ok(Hint::Terms),
-        Hint::Rows(steps) => Ok(Hint::Rows(steps.clone()?)),
-        Hint::Same(number, lists) => Ok(Hint::Same(*number, lists.clone()?)),
-    }
-}
 
 /// A copy of a node with all that stands below it.
 #[cycle(copy_tree)]
@@ -50,7 +39,7 @@ pub fn copy_node(alloc: Global, node: &Node) -> Result<Node, Memory>
         }),
         Node::Test { con, hint } => Ok(Node::Test {
             con: con.duplicate(alloc)?,
-            hint: copy_hint(hint)?,
+            hint: hint.duplicate(alloc)?,
         }),
     }
 }
@@ -93,7 +82,7 @@ pub fn copy_case(alloc: Global, case: &Case) -> Result<Case, Memory>
             second: Box::new(alloc, copy_case(alloc, second)?)?,
         }),
         Case::Void { hint } => Ok(Case::Void {
-            hint: copy_hint(hint)?,
+            hint: hint.duplicate(alloc)?,
         }),
         Case::Leaf { item, children } => Ok(Case::Leaf {
             item: *item,

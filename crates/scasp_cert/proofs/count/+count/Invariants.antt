@@ -1,5 +1,5 @@
 use Rattle.std.proofs.Common.{◌≡◌, ◌+◌, ◌-◌, ◌^◌, map, min, drop, ◌<◌}
-use Rattle.scasp_cert.specs.View.{tree_of, cover_of, trees_of, covers_of}
+use Rattle.scasp_cert.specs.View.{tree_of, cover_of}
 use Rattle.scasp_cert.specs.Trees.{listed, covering}
 use Rattle.scasp_cert.specs.Lines.{lines_below, lines_in}
 use Rattle.scasp_cert.proofs.count.+count.Given as goal

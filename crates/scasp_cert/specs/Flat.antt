@@ -1,0 +1,42 @@
+-- Certificates for which there is a closed domain above every domain.
+use Rattle.std.specs.Prelude.{Bool, true, false, ◌||◌, List, [], ◌++◌, length}
+use Rattle.std.specs.List.{list_all, flat_map}
+use Rattle.scasp_syntax.specs.Tm.{Tm, var, num, app, items}
+use Rattle.scasp_syntax.specs.WellFormed.{is_below}
+use Rattle.scasp_cert.specs.Certificate.{Certificate}
+use Rattle.scasp_cert.specs.Trees.{Tree, Trees, Branch, Branches, pos_tree, neg_tree, loop_tree, seen_tree, test_tree, no_tree, tree, split, void, leaf, head, no_branch, branch, listed}
+
+abbrev pub is_variable : Tm → Bool
+is_variable (var x) = true
+is_variable (num q) = false
+is_variable (app f ts) = false
+
+-- the terms that the lines of positive literals list for the variables of their rules
+abbrev mutual
+  pub listed_by : Tree → List Tm
+  listed_by (pos_tree a rule ts children) = items ts ++ listed_below children
+  listed_by (neg_tree a covers) = listed_in covers
+  listed_by (loop_tree lit at) = []
+  listed_by (seen_tree lit at) = []
+  listed_by (test_tree con hint) = []
+
+  pub listed_below : Trees → List Tm
+  listed_below no_tree = []
+  listed_below (tree t ts) = listed_by t ++ listed_below ts
+
+  pub listed_at : Branch → List Tm
+  listed_at (split con first second) = listed_at first ++ listed_at second
+  listed_at (void hint) = []
+  listed_at (leaf item children) = listed_below children
+  listed_at (head children) = listed_below children
+
+  pub listed_in : Branches → List Tm
+  listed_in no_branch = []
+  listed_in (branch rule b bs) = listed_at b ++ listed_in bs
+
+-- The variables from the length of the sample on are universal. A certificate is flat where each listed term has none of them or
+-- is one by itself.
+abbrev pub is_flat : Certificate → Bool
+is_flat c =
+    list_all (λ t. is_below (length (items c.sample)) t || is_variable t)
+    (listed_below (listed c.trees) ++ flat_map (λ k. listed_at k.1) c.checks)
