@@ -1,9 +1,11 @@
 -- Bodies of ground clauses, literal by literal.
 use Rattle.std.proofs.Common.{◌≡◌, ◌∷◌, ◌∙◌, Bool, true, false, ◌&&◌, not, cond, List, [], refl, ap, sym, inl, inr, map}
 use Rattle.std.specs.List.{list_all, filter}
-use Rattle.std.proofs.lemmas.Bool.{and_parts, and_from, or_parts, or_from, not-true, not_from_false, cond-true, cond-false, cases_Bool}
+use Rattle.std.proofs.lemmas.Bool.{false≢true, and_parts, and_from, or_cases, or_parts, or_from, not-true, not_from_false, cond-true, cond-false, cases_Bool}
+use Rattle.scasp_syntax.specs.Same.{same_atom}
 use Rattle.scasp_syntax.specs.declared.atom.Atom.{Atom}
 use Rattle.scasp_syntax.specs.declared.atom.Lit.{Lit}
+use Rattle.scasp_syntax.proofs.SameLemmas.{atom_decided}
 use Rattle.scasp_model.specs.Atoms.{among, has_all}
 use Rattle.scasp_model.specs.Programs.{positive_atoms, is_blocked, is_positive}
 use Rattle.scasp_sound.specs.Support.{negated_atoms}
@@ -96,3 +98,18 @@ fires-wider s x y (l ∷ body) w h =
           ∙ sym (cond-false l.positive (among x l.atom) (not (among s l.atom)) e) ∙ q.0
     ] in
     and_from (fires s y l) (list_all (fires s y) body) here (fires-wider s x y body w q.1)
+
+-- no atom that a body negates is in s where s does not block it
+pub negated-out : (s : List Atom) (body : List Lit) (a : Atom) → is_blocked s body ≡ false → among (negated_atoms body) a ≡ true → among s a ≡ false
+negated-out s [] a b h = absurd (false≢true h)
+negated-out s (l ∷ body) a b h =
+    let q = or_parts (not l.positive && among s l.atom) (is_blocked s body) b in
+    elim (cases_Bool l.positive) [
+      | inl e ↦
+          negated-out s body a q.1 (ap (λ (xs : List Atom). among xs a) (sym (picked-false (λ k. not k.positive) l body (ap not e))) ∙ h)
+      | inr e ↦
+          elim (or_cases (same_atom a l.atom) (among (negated_atoms body) a) (ap (λ (xs : List Atom). among xs a) (sym (picked-true (λ k. not k.positive) l body (ap not e))) ∙ h)) [
+            | inl k ↦ ap (among s) ((atom_decided a l.atom).0 k) ∙ ap (λ z. not z && among s l.atom) (sym e) ∙ q.0
+            | inr k ↦ negated-out s body a q.1 k
+          ]
+    ]

@@ -8,7 +8,7 @@ use Rattle.scasp_model.specs.Atoms.{among}
 use Rattle.scasp_model.specs.Residual.{residual}
 use Rattle.scasp_model.specs.Stable.{Stable}
 use Rattle.scasp_sound.specs.Examples.{lit, rule, p, q, r, circle, entered, choice}
-use Rattle.scasp_sound.specs.Support.{Founded, by_rule, RestsBelow, Supports}
+use Rattle.scasp_sound.specs.Support.{Founded, by_rule, RestsBelow, Lower, Supports}
 use Rattle.scasp_sound.proofs.FoundedLemmas.{founded-by_rank}
 use Rattle.scasp_sound.proofs.JoinLemmas.{joined}
 use Rattle.scasp_sound.proofs.SupportLemmas.{Supports-tested}
@@ -34,7 +34,7 @@ circle-not supported = true≢false ((joined circle (p ∷ []) [] supported [] n
 entered-rank : Atom → ℕ
 entered-rank a = 5 - a.name
 
-rests_p : RestsBelow entered (p ∷ q ∷ []) (r ∷ []) entered-rank p
+rests_p : RestsBelow entered (p ∷ q ∷ []) (r ∷ []) (Lower entered-rank) p
 unfolding entered-rank
 rests_p =
     record {
@@ -44,7 +44,7 @@ rests_p =
       smaller = among-cases (λ b. entered-rank b < entered-rank p) q [] (omega arith) (among-none (λ b. entered-rank b < entered-rank p));
     }
 
-rests_q : RestsBelow entered (p ∷ q ∷ []) (r ∷ []) entered-rank q
+rests_q : RestsBelow entered (p ∷ q ∷ []) (r ∷ []) (Lower entered-rank) q
 rests_q =
     record {
       clause = rule (Some q) (lit false r ∷ []);
@@ -57,9 +57,9 @@ pub entered-supports : Supports entered (p ∷ q ∷ []) (r ∷ [])
 entered-supports =
     Supports-tested entered (p ∷ q ∷ []) (r ∷ []) refl
     (founded-by_rank entered (p ∷ q ∷ []) (r ∷ []) entered-rank
-    (among-cases (RestsBelow entered (p ∷ q ∷ []) (r ∷ []) entered-rank) p (q ∷ []) rests_p
-    (among-cases (RestsBelow entered (p ∷ q ∷ []) (r ∷ []) entered-rank) q [] rests_q
-    (among-none (RestsBelow entered (p ∷ q ∷ []) (r ∷ []) entered-rank)))))
+    (among-cases (RestsBelow entered (p ∷ q ∷ []) (r ∷ []) (Lower entered-rank)) p (q ∷ []) rests_p
+    (among-cases (RestsBelow entered (p ∷ q ∷ []) (r ∷ []) (Lower entered-rank)) q [] rests_q
+    (among-none (RestsBelow entered (p ∷ q ∷ []) (r ∷ []) (Lower entered-rank))))))
     refl
 
 choice-founded : Founded choice (q ∷ []) p

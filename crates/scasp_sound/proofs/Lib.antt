@@ -3,6 +3,7 @@ pub mod ExampleLemmas
 pub mod ExistenceLemmas
 pub mod FoundedLemmas
 pub mod JoinLemmas
+pub mod LeastInduction
 pub mod ListLemmas
 pub mod ReductLemmas
 pub mod ResidualLemmas

@@ -1,5 +1,5 @@
 -- Why a ground program has these atoms true and those false, before any model of it is known.
-use Rattle.std.specs.Prelude.{◌≡◌, ℕ, ◌<◌, not, IsTrue, List, ◌++◌, map, filter, Some, Contains}
+use Rattle.std.specs.Prelude.{◌≡◌, ℕ, ◌<◌, ◌⊎◌, ◌||◌, not, IsTrue, List, ◌++◌, map, filter, Some, Contains}
 use Rattle.std.specs.List.{list_any}
 use Rattle.scasp_syntax.specs.declared.atom.Atom.{Atom}
 use Rattle.scasp_syntax.specs.declared.atom.Lit.{Lit}
@@ -34,9 +34,21 @@ pub record Supports (g : List GroundClause) (t f : List Atom) : Type 0 where
 abbrev pub Joins : List GroundClause → List Atom → List Atom → Type 0
 Joins g t f = (m : List Atom) → Stable (residual t f g) m → Stable g (t ++ m)
 
--- a has a rule whose positive atoms are all among t and of smaller rank
-pub record RestsBelow (g : List GroundClause) (t f : List Atom) (rank : Atom → ℕ) (a : Atom) : Type 0 where
+-- a has a rule whose positive atoms are all among t and below it
+pub record RestsBelow (g : List GroundClause) (t f : List Atom) (Below : Atom → Atom → Type 0) (a : Atom) : Type 0 where
   pub clause : GroundClause
   pub rule : IsRuleFor g f a clause
   pub known : IsTrue (has_all t (positive_atoms clause.body))
-  pub smaller : (b : Atom) → IsTrue (among (positive_atoms clause.body) b) → rank b < rank a
+  pub smaller : (b : Atom) → IsTrue (among (positive_atoms clause.body) b) → Below b a
+
+-- below by a rank
+abbrev pub Lower : (Atom → ℕ) → Atom → Atom → Type 0
+Lower rank b a = rank b < rank a
+
+-- below by a first rank, or where that is the same by a second
+abbrev pub LowerInPair : (Atom → ℕ) → (Atom → ℕ) → Atom → Atom → Type 0
+LowerInPair first second b a = (first b < first a) ⊎ ((first b ≡ first a) × (second b < second a))
+
+-- each atom that a rule of g negates is among m or f
+abbrev pub NegatesWithin : List GroundClause → List Atom → List Atom → Type 0
+NegatesWithin g m f = (c : GroundClause) (a : Atom) → Contains g c → IsTrue (among (negated_atoms c.body) a) → IsTrue (among m a || among f a)

@@ -1,5 +1,5 @@
 //! What holds of atoms that a ground program supports.
-ghost use Rattle.std.specs.Prelude.{ℕ, ◌<◌, IsTrue, List, [], ◌∷◌};
+ghost use Rattle.std.specs.Prelude.{ℕ, IsTrue, List, [], ◌∷◌, not};
 ghost use Rattle.scasp_model.specs.Atoms.{among};
 ghost use Rattle.scasp_model.specs.Least.{least_model};
 ghost use Rattle.scasp_model.specs.Programs.{is_without_not};
@@ -9,7 +9,7 @@ ghost use Rattle.scasp_model.specs.Stable.{Stable};
 ghost use Rattle.scasp_model.specs.declared.program.GroundClause.{GroundClause as ThisClause};
 ghost use Rattle.scasp_sound.specs.Examples.{choice, circle, entered, p, q, r};
 ghost use Rattle.scasp_sound.specs.Existence.{HasStable, is_without_denials};
-ghost use Rattle.scasp_sound.specs.Support.{Founded, Joins, RestsBelow, Supports};
+ghost use Rattle.scasp_sound.specs.Support.{Founded, Joins, Lower, LowerInPair, NegatesWithin, RestsBelow, Supports};
 ghost use Rattle.scasp_syntax.specs.declared.atom.Atom.{Atom as ThisAtom};
 
 /// Where a program supports that the atoms `t` are true and the atoms `f` false, each stable model of
@@ -19,9 +19,17 @@ pub fn join()
 {}
 
 /// Where each atom of `t` has a rule whose positive atoms are in `t` and of smaller rank, and whose
-/// negated atoms are in `f`, each of them is founded.
+/// negated atoms are in `f`, each of them is founded. A rank may be a pair, whose first part counts first.
 pub fn ranks()
-    ensures { (g : List ThisClause) (t f : List ThisAtom) (rank : ThisAtom → ℕ) → ((a : ThisAtom) → IsTrue (among t a) → RestsBelow g t f rank a) → (a : ThisAtom) → IsTrue (among t a) → Founded g f a }
+    ensures one { (g : List ThisClause) (t f : List ThisAtom) (rank : ThisAtom → ℕ) → ((a : ThisAtom) → IsTrue (among t a) → RestsBelow g t f (Lower rank) a) → (a : ThisAtom) → IsTrue (among t a) → Founded g f a }
+    ensures pair { (g : List ThisClause) (t f : List ThisAtom) (first second : ThisAtom → ℕ) → ((a : ThisAtom) → IsTrue (among t a) → RestsBelow g t f (LowerInPair first second) a) → (a : ThisAtom) → IsTrue (among t a) → Founded g f a }
+{}
+
+/// What is founded is true in each stable model that has none of the false atoms; and each atom of a
+/// stable model is founded where the false atoms are all those that rules negate and the model lacks.
+pub fn foundedness()
+    ensures sound { (g : List ThisClause) (f m : List ThisAtom) → Stable g m → ((b : ThisAtom) → IsTrue (among f b) → IsTrue (not (among m b))) → (a : ThisAtom) → Founded g f a → IsTrue (among m a) }
+    ensures complete { (g : List ThisClause) (f m : List ThisAtom) → Stable g m → NegatesWithin g m f → (a : ThisAtom) → IsTrue (among m a) → Founded g f a }
 {}
 
 /// A program without `not` and denials has a stable model, and what known atoms leave of it is again
@@ -33,8 +41,8 @@ pub fn existence()
     ensures some { (g : List ThisClause) (t f : List ThisAtom) → IsTrue (is_without_not g) → IsTrue (is_without_denials g) → HasStable (residual t f g) }
 {}
 
-/// By hand: a rule that rests on its own head supports nothing, and one that can be entered by another
-/// way does; a choice between two atoms supports either, and the model of what is left joins it.
+/// By hand: `p :- p.` does not support p; a circle with a way in supports its atoms; of a choice between
+/// p and q the one is supported where the other is false, and the model of what is left joins it.
 pub fn small_programs()
     ensures circle { Supports circle (p ∷ []) [] → ⊥ }
     ensures entered { Supports entered (p ∷ q ∷ []) (r ∷ []) }
