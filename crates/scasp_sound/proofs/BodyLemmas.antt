@@ -1,6 +1,6 @@
 -- Bodies of ground clauses, literal by literal.
 use Rattle.std.proofs.Common.{◌≡◌, ◌∷◌, ◌∙◌, Bool, true, false, ◌&&◌, not, cond, List, [], refl, ap, sym, inl, inr, map}
-use Rattle.std.specs.List.{list_all, filter}
+use Rattle.std.specs.List.{Contains, list_all, filter}
 use Rattle.std.proofs.lemmas.Bool.{false≢true, and_parts, and_from, or_cases, or_parts, or_from, not-true, not_from_false, cond-true, cond-false, cases_Bool}
 use Rattle.scasp_syntax.specs.Same.{same_atom}
 use Rattle.scasp_syntax.specs.declared.atom.Atom.{Atom}
@@ -9,6 +9,7 @@ use Rattle.scasp_syntax.proofs.SameLemmas.{atom_decided}
 use Rattle.scasp_model.specs.Atoms.{among, has_all}
 use Rattle.scasp_model.specs.Programs.{positive_atoms, is_blocked, is_positive}
 use Rattle.scasp_sound.specs.Support.{negated_atoms}
+use Rattle.scasp_sound.proofs.ListLemmas.{Contains-here, Contains-there}
 
 -- the literal's atom is in x, or behind `not` it is not in s
 abbrev pub fires : List Atom → List Atom → Lit → Bool
@@ -111,5 +112,21 @@ negated-out s (l ∷ body) a b h =
           elim (or_cases (same_atom a l.atom) (among (negated_atoms body) a) (ap (λ (xs : List Atom). among xs a) (sym (picked-true (λ k. not k.positive) l body (ap not e))) ∙ h)) [
             | inl k ↦ ap (among s) ((atom_decided a l.atom).0 k) ∙ ap (λ z. not z && among s l.atom) (sym e) ∙ q.0
             | inr k ↦ negated-out s body a q.1 k
+          ]
+    ]
+
+-- an atom that a body negates stands in it
+pub negated-in : (body : List Lit) (a : Atom) → among (negated_atoms body) a ≡ true → (l : Lit) × Contains body l × (a ≡ l.atom)
+negated-in [] a h = absurd (false≢true h)
+negated-in (l ∷ body) a h =
+    let later : among (negated_atoms body) a ≡ true → (k : Lit) × Contains (l ∷ body) k × (a ≡ k.atom) =
+    λ j. (let p = negated-in body a j in (p.0, Contains-there l body p.0 p.1, p.2)) in
+    elim (cases_Bool l.positive) [
+      | inl e ↦
+          later (ap (λ (xs : List Atom). among xs a) (sym (picked-false (λ k. not k.positive) l body (ap not e))) ∙ h)
+      | inr e ↦
+          elim (or_cases (same_atom a l.atom) (among (negated_atoms body) a) (ap (λ (xs : List Atom). among xs a) (sym (picked-true (λ k. not k.positive) l body (ap not e))) ∙ h)) [
+            | inl k ↦ (l, Contains-here l body, (atom_decided a l.atom).0 k)
+            | inr k ↦ later k
           ]
     ]

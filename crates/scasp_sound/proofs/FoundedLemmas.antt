@@ -11,7 +11,7 @@ use Rattle.scasp_model.specs.Stable.{Stable}
 use Rattle.scasp_model.specs.declared.program.GroundClause.{GroundClause}
 use Rattle.scasp_model.proofs.AtomLemmas.{among-within, has_all_from}
 use Rattle.scasp_model.proofs.LeastLemmas.{least_model-closed}
-use Rattle.scasp_sound.specs.Support.{Founded, by_rule, RestsBelow, Lower, LowerInPair, NegatesWithin, negated_atoms}
+use Rattle.scasp_sound.specs.Support.{Founded, by_rule, RestsBelow, Lower, LowerInPair, negated_atoms}
 use Rattle.scasp_sound.proofs.BodyLemmas.{fires-from, unblocked, negated-none, negated-out}
 use Rattle.scasp_sound.proofs.LeastInduction.{least_model-induction}
 use Rattle.scasp_sound.proofs.ReductLemmas.{ClosedBy, closed-at, reduct-from}
@@ -85,7 +85,7 @@ founded-in_stable g f m s apart a h =
     (λ b i. not-true (among m b) (apart b i)) a h
 
 -- each atom of a stable model is founded
-pub stable-founded : (g : List GroundClause) (f m : List Atom) → Stable g m → NegatesWithin g m f → (a : Atom) → among m a ≡ true → Founded g f a
+pub stable-founded : (g : List GroundClause) (f m : List Atom) → Stable g m → ((c : GroundClause) (b : Atom) → Contains g c → among (negated_atoms c.body) b ≡ true → (among m b || among f b) ≡ true) → (a : Atom) → among m a ≡ true → Founded g f a
 stable-founded g f m s negates a h =
     least_model-induction (reduct m g) (Founded g f)
     (λ r i below.

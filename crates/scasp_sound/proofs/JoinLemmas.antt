@@ -14,10 +14,10 @@ use Rattle.scasp_model.specs.declared.program.GroundClause.{GroundClause}
 use Rattle.scasp_model.proofs.AtomLemmas.{among-append, among-within, has_all_from, SameAtoms-from_all}
 use Rattle.scasp_model.proofs.LeastLemmas.{least_model-closed}
 use Rattle.scasp_sound.specs.Support.{Supports, Joins}
-use Rattle.scasp_sound.proofs.BodyLemmas.{fires, fires-wider}
+use Rattle.scasp_sound.proofs.BodyLemmas.{fires}
 use Rattle.scasp_sound.proofs.FoundedLemmas.{founded-within}
 use Rattle.scasp_sound.proofs.ListLemmas.{list_all-from, list_all-member, list_any-from, list_any-none_from, list_any-none_member, Contains-filter, Contains-from_filter}
-use Rattle.scasp_sound.proofs.ReductLemmas.{ClosedBy, closed-at, least-within, least_model-head}
+use Rattle.scasp_sound.proofs.ReductLemmas.{ClosedBy, closed-at, stable-closed, least-within, least_model-head}
 use Rattle.scasp_sound.proofs.ResidualLemmas.{left, residual-has, residual-from, known_false-not, left-true, fires-known}
 
 module _ (g : List GroundClause) (t f : List Atom) (S : Supports g t f) (m : List Atom) (M : Stable (residual t f g) m) where
@@ -98,13 +98,6 @@ module _ (g : List GroundClause) (t f : List Atom) (S : Supports g t f) (m : Lis
       (least-within (residual t f g) m (least_model (reduct (t ++ m) g)) least-closed_left)
       (sym (M.least_of_reduct a) ∙ h)
 
-  -- m is closed under what is left
-  left-closed : ClosedBy (residual t f g) m m
-  left-closed d a i e w =
-      M.least_of_reduct a
-      ∙ closed-at (residual t f g) m (least_model (reduct m (residual t f g))) (least_model-closed (reduct m (residual t f g))) d a i e
-      (fires-wider m m (least_model (reduct m (residual t f g))) d.body (λ b h. sym (M.least_of_reduct b) ∙ h) w)
-
   -- the joined atoms are closed under the whole
   joined-closed : ClosedBy g (t ++ m) (t ++ m)
   joined-closed c a i e w =
@@ -116,7 +109,7 @@ module _ (g : List GroundClause) (t f : List Atom) (S : Supports g t f) (m : Lis
               | inl k ↦ absurd (true≢false (sym (S.refuted c a i e k) ∙ none))
               | inr k ↦
                   joined-m a
-                  (left-closed (left t f c) a
+                  (stable-closed (residual t f g) m M (left t f c) a
                   (residual-has g t f c i (ap (is_known t f) e ∙ or_from (among t a) (among f a) h k) none) e (true-left c w))
             ]
       ]

@@ -10,11 +10,12 @@ use Rattle.scasp_model.specs.Atoms.{among, has_all}
 use Rattle.scasp_model.specs.Least.{least_model, is_closed}
 use Rattle.scasp_model.specs.Programs.{positive_atoms, is_blocked}
 use Rattle.scasp_model.specs.Reduct.{rule_of, reduced, reduct}
+use Rattle.scasp_model.specs.Stable.{Stable}
 use Rattle.scasp_model.specs.declared.program.DefiniteRule.{DefiniteRule}
 use Rattle.scasp_model.specs.declared.program.GroundClause.{GroundClause}
 use Rattle.scasp_model.proofs.AtomLemmas.{among-within}
-use Rattle.scasp_model.proofs.LeastLemmas.{rounds-within}
-use Rattle.scasp_sound.proofs.BodyLemmas.{fires, fires-from, fires-parts}
+use Rattle.scasp_model.proofs.LeastLemmas.{least_model-closed, rounds-within}
+use Rattle.scasp_sound.proofs.BodyLemmas.{fires, fires-from, fires-parts, fires-wider}
 use Rattle.scasp_sound.proofs.ListLemmas.{Contains-none, Contains-here, Contains-there, Contains-cases, Contains-single, Contains-flat_map, Contains-from_flat_map, list_all-from, list_all-member}
 
 -- the test of `is_closed`
@@ -99,3 +100,10 @@ least_model-head g s a h =
     let q = head-among rs a (among-within (heads rs) (least_model rs) a (least-within g s (heads rs) closed) h) in
     let p = reduct-from g s q.0 q.1 in
     (p.0, p.1, p.3 ∙ ap (λ (b : Atom). Some b) q.2)
+
+-- a stable model has the head of each rule whose body is true in it
+pub stable-closed : (g : List GroundClause) (m : List Atom) → Stable g m → ClosedBy g m m
+stable-closed g m s c a i e w =
+    s.least_of_reduct a
+    ∙ closed-at g m (least_model (reduct m g)) (least_model-closed (reduct m g)) c a i e
+    (fires-wider m m (least_model (reduct m g)) c.body (λ b h. sym (s.least_of_reduct b) ∙ h) w)

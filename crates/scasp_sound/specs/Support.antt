@@ -49,6 +49,6 @@ Lower rank b a = rank b < rank a
 abbrev pub LowerInPair : (Atom → ℕ) → (Atom → ℕ) → Atom → Atom → Type 0
 LowerInPair first second b a = (first b < first a) ⊎ ((first b ≡ first a) × (second b < second a))
 
--- each atom that a rule of g negates is among m or f
-abbrev pub NegatesWithin : List GroundClause → List Atom → List Atom → Type 0
-NegatesWithin g m f = (c : GroundClause) (a : Atom) → Contains g c → IsTrue (among (negated_atoms c.body) a) → IsTrue (among m a || among f a)
+-- each atom that stands in a body of g is among t or among f
+abbrev pub BodiesWithin : List GroundClause → List Atom → List Atom → Type 0
+BodiesWithin g t f = (c : GroundClause) (l : Lit) → Contains g c → Contains c.body l → IsTrue (among t l.atom || among f l.atom)

@@ -9,7 +9,7 @@ ghost use Rattle.scasp_model.specs.Stable.{Stable};
 ghost use Rattle.scasp_model.specs.declared.program.GroundClause.{GroundClause as ThisClause};
 ghost use Rattle.scasp_sound.specs.Examples.{choice, circle, entered, p, q, r};
 ghost use Rattle.scasp_sound.specs.Existence.{HasStable, is_without_denials};
-ghost use Rattle.scasp_sound.specs.Support.{Founded, Joins, Lower, LowerInPair, NegatesWithin, RestsBelow, Supports};
+ghost use Rattle.scasp_sound.specs.Support.{BodiesWithin, Founded, Joins, Lower, LowerInPair, RestsBelow, Supports};
 ghost use Rattle.scasp_syntax.specs.declared.atom.Atom.{Atom as ThisAtom};
 
 /// Where a program supports that the atoms `t` are true and the atoms `f` false, each stable model of
@@ -25,11 +25,11 @@ pub fn ranks()
     ensures pair { (g : List ThisClause) (t f : List ThisAtom) (first second : ThisAtom → ℕ) → ((a : ThisAtom) → IsTrue (among t a) → RestsBelow g t f (LowerInPair first second) a) → (a : ThisAtom) → IsTrue (among t a) → Founded g f a }
 {}
 
-/// What is founded is true in each stable model that has none of the false atoms; and each atom of a
-/// stable model is founded where the false atoms are all those that rules negate and the model lacks.
-pub fn foundedness()
+/// What is founded is true in each stable model that has none of the false atoms. And each stable
+/// model is supported, with atoms that it lacks as the false ones, where the two have all atoms of bodies.
+pub fn support()
     ensures sound { (g : List ThisClause) (f m : List ThisAtom) → Stable g m → ((b : ThisAtom) → IsTrue (among f b) → IsTrue (not (among m b))) → (a : ThisAtom) → Founded g f a → IsTrue (among m a) }
-    ensures complete { (g : List ThisClause) (f m : List ThisAtom) → Stable g m → NegatesWithin g m f → (a : ThisAtom) → IsTrue (among m a) → Founded g f a }
+    ensures complete { (g : List ThisClause) (f m : List ThisAtom) → Stable g m → ((b : ThisAtom) → IsTrue (among f b) → IsTrue (not (among m b))) → BodiesWithin g m f → Supports g m f }
 {}
 
 /// A program without `not` and denials has a stable model, and what known atoms leave of it is again
