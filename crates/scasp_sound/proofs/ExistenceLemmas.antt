@@ -9,7 +9,9 @@ use Rattle.scasp_model.specs.Residual.{is_known_true, residual}
 use Rattle.scasp_model.specs.Stable.{Stable, are_true_in, is_violated, has_violation}
 use Rattle.scasp_model.specs.declared.program.GroundClause.{GroundClause}
 use Rattle.scasp_model.proofs.StableLemmas.{least_is_stable}
-use Rattle.scasp_sound.specs.Existence.{is_without_denials, HasStable}
+use Rattle.scasp_sound.specs.Existence.{is_without_denials, HasStable, Extends}
+use Rattle.scasp_sound.specs.Support.{Supports}
+use Rattle.scasp_sound.proofs.JoinLemmas.{joined}
 use Rattle.scasp_sound.proofs.ListLemmas.{list_all-from, list_all-member, list_any-none_from, Contains-from_filter}
 use Rattle.scasp_sound.proofs.ResidualLemmas.{left, residual-from}
 
@@ -47,3 +49,6 @@ residual-has_stable g t f p h = (
   least_model (definite (residual t f g)),
   least_is_stable-positive (residual t f g) (is_without_not-residual g t f p) (is_without_denials-residual g t f h),
 )
+
+pub supported-extends : (g : List GroundClause) (t f : List Atom) → is_without_not g ≡ true → is_without_denials g ≡ true → Supports g t f → Extends g t
+supported-extends g t f p h s = let q = residual-has_stable g t f p h in (q.0, joined g t f s q.0 q.1)

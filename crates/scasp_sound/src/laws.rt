@@ -8,7 +8,7 @@ ghost use Rattle.scasp_model.specs.Residual.{residual};
 ghost use Rattle.scasp_model.specs.Stable.{Stable};
 ghost use Rattle.scasp_model.specs.declared.program.GroundClause.{GroundClause as ThisClause};
 ghost use Rattle.scasp_sound.specs.Examples.{choice, circle, entered, p, q, r};
-ghost use Rattle.scasp_sound.specs.Existence.{HasStable, is_without_denials};
+ghost use Rattle.scasp_sound.specs.Existence.{Extends, HasStable, is_without_denials};
 ghost use Rattle.scasp_sound.specs.Support.{BodiesWithin, Founded, Joins, Lower, LowerInPair, RestsBelow, Supports};
 ghost use Rattle.scasp_syntax.specs.declared.atom.Atom.{Atom as ThisAtom};
 
@@ -33,12 +33,13 @@ pub fn support()
 {}
 
 /// A program without `not` and denials has a stable model, and what known atoms leave of it is again
-/// such a program. So what they leave of it has a stable model.
+/// such a program. So what they leave of it has a stable model, and atoms that it supports extend to one.
 pub fn existence()
     ensures least { (g : List ThisClause) → IsTrue (is_without_not g) → IsTrue (is_without_denials g) → Stable g (least_model (definite g)) }
     ensures without_not { (g : List ThisClause) (t f : List ThisAtom) → IsTrue (is_without_not g) → IsTrue (is_without_not (residual t f g)) }
     ensures without_denials { (g : List ThisClause) (t f : List ThisAtom) → IsTrue (is_without_denials g) → IsTrue (is_without_denials (residual t f g)) }
     ensures some { (g : List ThisClause) (t f : List ThisAtom) → IsTrue (is_without_not g) → IsTrue (is_without_denials g) → HasStable (residual t f g) }
+    ensures extends { (g : List ThisClause) (t f : List ThisAtom) → IsTrue (is_without_not g) → IsTrue (is_without_denials g) → Supports g t f → Extends g t }
 {}
 
 /// By hand: `p :- p.` does not support p; a circle with a way in supports its atoms; of a choice between

@@ -1,4 +1,4 @@
-use Rattle.scasp_sound.proofs.ExistenceLemmas.{least_is_stable-positive, is_without_not-residual, is_without_denials-residual, residual-has_stable}
+use Rattle.scasp_sound.proofs.ExistenceLemmas.{least_is_stable-positive, is_without_not-residual, is_without_denials-residual, residual-has_stable, supported-extends}
 use Rattle.scasp_sound.proofs.laws.existence.Goals as goal
 
 pub returns-clause-least : goal.returns-clause-least
@@ -12,3 +12,6 @@ returns-clause-without_denials c = is_without_denials-residual
 
 pub returns-clause-some : goal.returns-clause-some
 returns-clause-some c = residual-has_stable
+
+pub returns-clause-extends : goal.returns-clause-extends
+returns-clause-extends c = supported-extends
