@@ -1,0 +1,10 @@
+pub mod BodyLemmas
+pub mod ExampleLemmas
+pub mod ExistenceLemmas
+pub mod FoundedLemmas
+pub mod JoinLemmas
+pub mod LeastInduction
+pub mod ListLemmas
+pub mod ReductLemmas
+pub mod ResidualLemmas
+pub mod SupportLemmas
