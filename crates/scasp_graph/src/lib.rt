@@ -1,0 +1,9 @@
+//! How predicates depend on one another: odd loops, levels and signs.
+#![tactic(auto)]
+
+pub mod laws;
+mod map;
+#[cfg(test)]
+mod tests;
+
+pub use map::{MapFault, map_holds};
