@@ -1,13 +1,13 @@
 -- The instances of a program over a list of terms.
-use Rattle.std.specs.Prelude.{ℕ, zero, suc, Bool, true, ◌&&◌, not, List, [], ◌∷◌, map, filter, Option, None, Some}
+use Rattle.std.specs.Prelude.{ℕ, zero, suc, Bool, true, ◌&&◌, not, List, [], ◌∷◌, map, filter}
 use Rattle.std.specs.List.{list_all, list_any, flat_map}
 use Rattle.scasp_syntax.specs.Constraints.{is_number}
+use Rattle.scasp_syntax.specs.Instances.{atom_under, head_under}
 use Rattle.scasp_syntax.specs.RowTruth.{row_holds}
 use Rattle.scasp_syntax.specs.Same.{same_tm}
-use Rattle.scasp_syntax.specs.Tm.{Tm, var}
-use Rattle.scasp_syntax.specs.Values.{Sub, under, all_under, is_ground}
+use Rattle.scasp_syntax.specs.Tm.{Tm}
+use Rattle.scasp_syntax.specs.Values.{Sub, under, giving, is_ground}
 use Rattle.scasp_syntax.specs.View.{tm_of}
-use Rattle.scasp_syntax.specs.declared.atom.Atom.{Atom}
 use Rattle.scasp_syntax.specs.declared.atom.Lit.{Lit}
 use Rattle.scasp_syntax.specs.declared.clause.Clause.{Clause}
 use Rattle.scasp_syntax.specs.declared.clause.Item.{Item}
@@ -25,25 +25,12 @@ abbrev pub choices : List Tm → ℕ → List (List Tm)
 choices d zero = [] ∷ []
 choices d (suc n) = flat_map (λ t. map (λ ts. t ∷ ts) (choices d n)) d
 
--- the substitution that gives variable x the x-th of the terms, counted from 0
-abbrev pub giving : List Tm → Sub
-giving [] x = var x
-giving (t ∷ ts) zero = t
-giving (t ∷ ts) (suc x) = giving ts x
-
 -- whether the item, where it is a test, is true; a linear comparison is one of numbers
 abbrev pub is_test_true : Sub → Item → Bool
 is_test_true v (Call l) = true
 is_test_true v (Equal t s) = same_tm (under v (tm_of t)) (under v (tm_of s))
 is_test_true v (Differ t s) = not (same_tm (under v (tm_of t)) (under v (tm_of s)))
 is_test_true v (Linear l) = list_all (λ x. is_number (v x)) l.vars && row_holds v l.row
-
-abbrev pub atom_under : Sub → Atom → Atom
-atom_under v a = record { minus = a.minus; name = a.name; args = all_under v a.args }
-
-abbrev pub head_under : Sub → Option Atom → Option Atom
-head_under v None = None
-head_under v (Some a) = Some (atom_under v a)
 
 -- the literal that the item is, or none
 abbrev pub literal_under : Sub → Item → List Lit

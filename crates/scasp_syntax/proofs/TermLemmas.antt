@@ -1,10 +1,10 @@
 -- Lists of terms as plain values.
-use Rattle.std.proofs.Common.{◌≡◌, ◌≢◌, Bool, true, false, ◌&&◌, ℕ, zero, suc, ◌<◌, ◌≤◌, List, [], ◌∷◌, ◌++◌, length, get_or, map, take, slice_get, Option, Some, None, option_copied, is_some, nat_lt, IfSome, Bor, arith, refl, ap, sym, ◌∙◌}
+use Rattle.std.proofs.Common.{◌≡◌, ◌≢◌, Bool, true, false, ◌&&◌, ℕ, zero, suc, ◌-◌, ◌<◌, ◌≤◌, List, [], ◌∷◌, ◌++◌, length, get_or, map, take, slice_get, Option, Some, None, option_copied, is_some, nat_lt, IfSome, Bor, arith, refl, ap, sym, ◌∙◌}
 use Rattle.std.proofs.lemmas.Bool.Decides.{nat_tests}
 use Rattle.std.proofs.lemmas.List.{take_all}
 use Rattle.std.proofs.lemmas.Option.{slice_get_past, slice_get-get_or}
-use Rattle.scasp_syntax.specs.Tm.{Tm, Tms, nil, cons, items, listed, pushed, weight, weight_s}
-use Rattle.scasp_syntax.specs.Values.{Sub, under, all_under}
+use Rattle.scasp_syntax.specs.Tm.{Tm, Tms, var, nil, cons, items, listed, pushed, weight, weight_s}
+use Rattle.scasp_syntax.specs.Values.{Sub, under, all_under, giving}
 use Rattle.scasp_syntax.specs.Same.{same_tm, same_tms}
 use Rattle.scasp_syntax.specs.View.{tm_of, tms_of}
 use Rattle.scasp_syntax.specs.declared.term.Term.{Term}
@@ -74,3 +74,14 @@ same_tms-length (cons t ts) (cons u us) h = rw (same_tms-length ts us (λ e. h (
 pub tms_of-push : (ts : List Term) (t : Term) → tms_of (ts ++ t ∷ []) ≡ pushed (tms_of ts) (tm_of t)
 tms_of-push [] t = refl
 tms_of-push (u ∷ ts) t = ap (cons (tm_of u)) (tms_of-push ts t)
+
+-- what the values give to a variable among them, and to one behind them
+pub giving-at : (ts : List Tm) (x : ℕ) (t : Tm) → slice_get ts x ≡ Some t → giving ts x ≡ t
+giving-at [] x t e = cc
+giving-at (u ∷ ts) zero t e = cc
+giving-at (u ∷ ts) (suc x) t e = giving-at ts x t e
+
+pub giving-behind : (ts : List Tm) (x : ℕ) → slice_get ts x ≡ None → giving ts x ≡ var (x - length ts)
+giving-behind [] x e = ap var (omega arith)
+giving-behind (u ∷ ts) zero e = cc
+giving-behind (u ∷ ts) (suc x) e = giving-behind ts x e ∙ ap var (omega arith)

@@ -2,14 +2,18 @@
 use Rattle.std.specs.Prelude.{◌≡◌, ℕ, Bool, true, false, pos, negsuc, [], ◌∷◌, Some, None}
 use Rattle.std.proofs.Common.{refl}
 use Rattle.scasp_num.specs.declared.linear.Op.TheVariants as op
+use Rattle.scasp_num.specs.Linear.{Linear}
 use Rattle.scasp_syntax.specs.Constraints.{holds}
+use Rattle.scasp_syntax.specs.Flat.{flat_body, number_test}
 use Rattle.scasp_syntax.specs.Programs.{predicates, rules_of, pred_of}
 use Rattle.scasp_syntax.specs.Tm.{Tms, var, app, nil, cons, weight}
 use Rattle.scasp_syntax.specs.Values.{Sub, under, raised}
 use Rattle.scasp_syntax.specs.declared.atom.Atom.{Atom}
 use Rattle.scasp_syntax.specs.declared.clause.Clause.{Clause}
 use Rattle.scasp_syntax.specs.declared.clause.Item.{Item}
+use Rattle.scasp_syntax.specs.declared.clause.FlatItem.TheVariants as flat
 use Rattle.scasp_syntax.specs.declared.clause.Item.TheVariants.{Call}
+use Rattle.scasp_syntax.specs.declared.clause.Item.TheVariants as item
 use Rattle.scasp_syntax.specs.declared.clause.Query.{Query}
 use Rattle.scasp_syntax.specs.declared.con.Con.TheVariants as con
 use Rattle.scasp_syntax.specs.declared.program.Program.{Program}
@@ -65,3 +69,15 @@ shaped = refl
 -- 2*V0 - 1 < 0, where what is no number counts as 0
 compared : holds values (con.Row (record { coeffs = record { x = 0; c = pos 2 } ∷ []; constant = negsuc 0; op = op.Lt })) ≡ true
 compared = refl
+
+-- V0 #> 10, written with V1 as well, before the same and p(V0)
+abbrev above_ten : Linear
+above_ten = record { coeffs = record { x = 0; c = negsuc 0 } ∷ []; constant = pos 10; op = op.Lt }
+
+abbrev compared_item : Item
+compared_item = item.Linear (record { vars = 0 ∷ 1 ∷ []; row = above_ten })
+
+flattened :
+    flat_body (compared_item ∷ compared_item ∷ call true p0 ∷ [])
+    ≡ number_test 0 ∷ number_test 1 ∷ flat.Test (con.Row above_ten) ∷ flat.Test (con.Row above_ten) ∷ flat.Call (record { positive = true; atom = p0 }) ∷ []
+flattened = refl

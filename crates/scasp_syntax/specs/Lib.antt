@@ -1,6 +1,8 @@
 pub mod Constraints
 pub mod Examples
 pub mod Falls
+pub mod Flat
+pub mod Instances
 pub mod Programs
 pub mod RowTruth
 pub mod Same

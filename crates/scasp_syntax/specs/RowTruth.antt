@@ -1,6 +1,6 @@
 -- Whether a linear comparison holds under a valuation.
-use Rattle.std.specs.Prelude.{zero, suc, Bool, true, false, ◌||◌, not, ℤ, pos, negsuc, ◌+ℤ◌, ◌*ℤ◌, List, [], ◌∷◌}
-use Rattle.scasp_num.specs.Linear.{Linear}
+use Rattle.std.specs.Prelude.{Bool, true, false, ◌||◌, not, ℤ, pos, negsuc, ◌+ℤ◌, ◌*ℤ◌, List, [], ◌∷◌}
+use Rattle.scasp_num.specs.Linear.{Linear, is_zero}
 use Rattle.scasp_num.specs.declared.linear.Coeff.{Coeff}
 use Rattle.scasp_num.specs.declared.linear.Op.{Op}
 use Rattle.scasp_num.specs.declared.linear.Op.TheVariants as op
@@ -20,11 +20,6 @@ sum_under v constant (k ∷ ks) =
     let value = fraction_of (v k.x) in
     let rest = sum_under v constant ks in
     (((k.c *ℤ value.0) *ℤ rest.1) +ℤ (rest.0 *ℤ value.1), value.1 *ℤ rest.1)
-
-abbrev pub is_zero : ℤ → Bool
-is_zero (pos zero) = true
-is_zero (pos (suc n)) = false
-is_zero (negsuc n) = false
 
 abbrev pub is_negative : ℤ → Bool
 is_negative (pos n) = false

@@ -1,5 +1,5 @@
 -- Ground terms, substitutions and valuations.
-use Rattle.std.specs.Prelude.{ℕ, ◌+◌, Bool, true, false, ◌&&◌, IsTrue}
+use Rattle.std.specs.Prelude.{ℕ, zero, suc, ◌+◌, Bool, true, false, ◌&&◌, IsTrue, List, [], ◌∷◌}
 use Rattle.scasp_syntax.specs.Tm.{Tm, Tms, var, num, app, nil, cons}
 
 -- a term for each variable
@@ -20,6 +20,12 @@ abbrev mutual
 -- the substitution that raises each variable
 abbrev pub raised : ℕ → Sub
 raised by x = var (x + by)
+
+-- the substitution that gives variable x the x-th of the terms, counted from 0
+abbrev pub giving : List Tm → Sub
+giving [] x = var x
+giving (t ∷ ts) zero = t
+giving (t ∷ ts) (suc x) = giving ts x
 
 -- no variable stands in the term
 abbrev mutual

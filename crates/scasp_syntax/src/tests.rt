@@ -5,10 +5,12 @@ ghost use Rattle.scasp_syntax.specs.View.{tm_of};
 ghost use Rattle.scasp_syntax.specs.WellFormed.{is_clause_well_formed};
 
 use crate::{
-    Atom, Clause, Con, Duplicate, FlatItem, Hint, Item, Lit, PredMap, Program, Sequence, Term,
-    Terms, copy, rename, same, same_lit, size,
+    Atom, Clause, Con, Duplicate, FlatItem, Hint, Item, Lin, Lit, PredMap, Program, Sequence, Term,
+    Terms, are_ground, copy, flat, instance_atom, is_ground, rename, same, same_atom, same_lit,
+    size,
 };
 use scasp_name::{Memory, NameId};
+use scasp_num::{Op, Rat, RatPair, RatPairs, Row};
 use std::alloc::Global;
 use std::process::Abort;
 use std::test::Fail;
@@ -113,5 +115,61 @@ fn other_values_are_copied(rt: HostRuntime) -> Result<(), Fail> {
     let test = FlatItem::Test(Con::Num(Term::Var(0)));
     assert!(rt; matches!(&test.duplicate(alloc)?, FlatItem::Test(Con::Num(_))));
     assert!(rt; matches!(&Hint::Terms.duplicate(alloc)?, Hint::Terms));
+    Ok(())
+}
+
+/// The item `V0 #> 10`, written with V0 and V1, whose row is `-V0+10 #< 0`.
+fn above_ten(alloc: Global) -> Result<Item, Fail> {
+    let mut pairs = RatPairs::new(alloc);
+    pairs.push(RatPair {
+        x: 0,
+        value: Rat::new(-1, 1)?,
+    })?;
+    let mut vars = Sequence::new(alloc);
+    vars.push(0u64)?;
+    vars.push(1u64)?;
+    Ok(Item::Linear(Lin {
+        vars,
+        row: Row::normal(alloc, &pairs, &Rat::new(10, 1)?, Op::Lt)?,
+    }))
+}
+
+#[test]
+fn bodies_are_made_flat(rt: HostRuntime) -> Result<(), Fail> {
+    let alloc = rt.alloc();
+    let mut body = Sequence::new(alloc);
+    body.push(Item::Call(literal(alloc, true)?))?;
+    body.push(above_ten(alloc)?)?;
+    body.push(Item::Equal(Term::Var(0), Term::Var(1)))?;
+    body.push(above_ten(alloc)?)?;
+    let clause = Clause {
+        head: None,
+        body,
+        vars: 2,
+    };
+    let items = flat(alloc, &clause)?;
+    let items = items.as_slice();
+    assert_eq!(rt; items.len(), 6);
+    assert!(rt; matches!(&items[0], FlatItem::Call(_)));
+    assert!(rt; matches!(&items[1], FlatItem::Test(Con::Num(Term::Var(0)))));
+    assert!(rt; matches!(&items[2], FlatItem::Test(Con::Num(Term::Var(1)))));
+    assert!(rt; matches!(&items[3], FlatItem::Test(Con::Row(_))));
+    assert!(rt; matches!(&items[4], FlatItem::Test(Con::Eq(..))));
+    assert!(rt; matches!(&items[5], FlatItem::Test(Con::Row(_))));
+    Ok(())
+}
+
+#[test]
+fn atoms_are_instantiated(rt: HostRuntime) -> Result<(), Fail> {
+    let alloc = rt.alloc();
+    let open = literal(alloc, true)?.atom;
+    let mut values = Terms::new(alloc);
+    values.push(Term::Num(Rat::new(7, 2)?))?;
+    let closed = instance_atom(alloc, &open, &values)?;
+    assert!(rt; !are_ground(&open.args));
+    assert!(rt; are_ground(&closed.args));
+    assert!(rt; !same_atom(&open, &closed));
+    assert!(rt; same_atom(&open, &instance_atom(alloc, &open, &Terms::new(alloc))?));
+    assert!(rt; !is_ground(&Term::Var(0)));
     Ok(())
 }
