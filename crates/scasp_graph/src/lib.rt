@@ -3,7 +3,9 @@
 
 pub mod laws;
 mod map;
+mod occurrences;
 #[cfg(test)]
 mod tests;
 
 pub use map::{MapFault, map_holds};
+pub use occurrences::{Preds, predicates, same_pred};

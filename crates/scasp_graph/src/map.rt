@@ -1,24 +1,17 @@
 //! Whether a program keeps given levels and signs.
 ghost use Rattle.std.specs.Prelude.{◌≡◌, nat_eq, OnOk, IfErr};
 ghost use Rattle.std.specs.List.{list_any, list_all};
-ghost use Rattle.scasp_syntax.specs.Same.{same_pred};
 ghost use Rattle.scasp_syntax.specs.Programs.{pred_of};
 ghost use Rattle.scasp_graph.specs.Map.{entry_of, keeps_entry, keeps_item, keeps_below, keeps, map_faults, MapHolds};
 ghost use Rattle.scasp_graph.specs.Judged.{judged};
 
+use crate::occurrences::same_pred;
 use scasp_syntax::{Atom, Clause, Item, Items, Pred, PredMap, PredMaps, Program, RuleList};
 
 /// The first clause, counted from 1, that breaks a map.
 #[derive(Clone, Copy, Debug, PartialEq, Eq)]
 pub struct MapFault {
     pub rule: u64,
-}
-
-/// Whether the predicates are the same.
-fn same_pred(first: &Pred, second: &Pred) -> bool
-    ensures { result ≡ same_pred first.now second.now }
-{
-    first.minus == second.minus && first.name == second.name && first.arity == second.arity
 }
 
 /// The first entry of the predicate, or level 0 and `+`.
