@@ -1,0 +1,4 @@
+pub mod Map
+pub mod Examples
+pub mod Growing
+pub mod Judged
