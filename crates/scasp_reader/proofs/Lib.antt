@@ -9,3 +9,4 @@ pub mod Spelled
 pub mod Fronts
 pub mod Lexical
 pub mod Readings
+pub mod Propositions

@@ -7,3 +7,4 @@ pub mod Lexed
 pub mod Parse
 pub mod Reading
 pub mod Refusal
+pub mod Propositional
