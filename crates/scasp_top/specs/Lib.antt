@@ -5,3 +5,5 @@ pub mod Outputs
 pub mod Reports
 pub mod Codes
 pub mod Commands
+pub mod Examples
+pub mod RunExamples

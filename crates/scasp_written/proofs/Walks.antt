@@ -1,6 +1,6 @@
 use Rattle.std.specs.Prelude.{◌≡◌, ℕ, ◌+◌, zero, suc, ◌==◌, Bool, true, false, ◌&&◌, Option, Some, None, List, [], ◌∷◌, ◌++◌, refl}
-use Rattle.std.proofs.Common.{ap, sym, ◌∙◌, eq-eqb}
-use Rattle.scasp_written.specs.Machine.{Machine, Outcome, Found, answered, ended, spent, first_event, pick, cost, Finds}
+use Rattle.std.proofs.Common.{eq-eqb}
+use Rattle.scasp_written.specs.Machine.{Machine, Found, answered, ended, spent, first_event, pick, cost, Finds}
 
 eqb-refl-at : (a b : ℕ) → a ≡ b → (a == b) ≡ true
 eqb-refl-at a b e = eq-eqb a b e

@@ -3,3 +3,4 @@ pub mod Machine
 pub mod Run
 pub mod Views
 pub mod Searches
+pub mod Examples

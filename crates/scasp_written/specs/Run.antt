@@ -4,7 +4,7 @@ use Rattle.scasp_syntax.specs.declared.clause.Item.{Item}
 use Rattle.scasp_syntax.specs.declared.clause.Clause.{Clause}
 use Rattle.scasp_cert.specs.Certificate.{Certificate}
 use Rattle.scasp_cert.specs.Trees.{Tree}
-use Rattle.scasp_cert.specs.States.{State, Level, closed}
+use Rattle.scasp_cert.specs.States.{State, closed}
 use Rattle.scasp_written.specs.Successors.{next}
 use Rattle.scasp_written.specs.Machine.{Machine, Found, Finds}
 

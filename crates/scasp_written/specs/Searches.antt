@@ -3,7 +3,7 @@ use Rattle.scasp_syntax.specs.declared.clause.Item.{Item}
 use Rattle.scasp_syntax.specs.declared.clause.Clause.{Clause}
 use Rattle.scasp_cert.specs.Certificate.{Certificate, certificate_of}
 use Rattle.scasp_cert.specs.States.{State}
-use Rattle.scasp_written.specs.Machine.{Outcome, answered, ended, spent, overflowed, Found, Finds}
+use Rattle.scasp_written.specs.Machine.{Outcome, answered, ended, spent, overflowed, Finds}
 use Rattle.scasp_written.specs.Run.{search_for, start}
 use Rattle.scasp_written.specs.Views.{states_of}
 use Rattle.scasp_written.specs.declared.written.Event.{Event}
