@@ -1,3 +1,5 @@
 pub mod Accepted
+pub mod Examples
 pub mod Faults
 pub mod Judged
+pub mod Verdicts

@@ -2,7 +2,11 @@
 #![tactic(auto)]
 
 mod acceptance;
+pub mod laws;
 mod refusal;
+#[cfg(test)]
+mod tests;
+mod verdict;
 
-pub use acceptance::accept;
 pub use refusal::{CheckErr, Reason, Refusal};
+pub use verdict::{Verdict, check};

@@ -1,17 +1,15 @@
-use Rattle.std.proofs.Common.{◌≡◌, ◌⊎◌, inl, inr, ℕ, ◌≤◌, ◌<◌, Option, None, Some, IfSome, MatchOption, List, [], ◌∷◌, ◌++◌, length, refl, sym, ap, subst, ◌∙◌, arith}
-use Rattle.scasp_name.specs.Texts.{list_names}
-use Rattle.scasp_reader.specs.Reading.{program_in, Reading}
+use Rattle.std.proofs.Common.{◌≡◌, ◌⊎◌, inl, inr, ℕ, Option, None, Some, IfSome, MatchOption, List, [], ◌∷◌, ◌++◌, refl, sym, ap, subst, ◌∙◌, arith}
+use Rattle.scasp_reader.specs.Reading.{Reading}
 use Rattle.scasp_syntax.specs.Programs.{numbered}
 use Rattle.scasp_syntax.specs.declared.clause.Clause.{Clause}
 use Rattle.scasp_syntax.specs.declared.clause.Query.{Query}
 use Rattle.scasp_cert.specs.Certificate.{Certificate}
 use Rattle.scasp_io.specs.Bytes.{behind}
-use Rattle.scasp_io.specs.Counts.{Rose}
-use Rattle.scasp_written.specs.Machine.{Outcome, Found}
-use Rattle.scasp_written.specs.Run.{search_for, start, HasOneEvent}
+use Rattle.scasp_written.specs.Machine.{Outcome}
+use Rattle.scasp_written.specs.Run.{start, HasOneEvent}
 use Rattle.scasp_top.specs.Texts.{header_line, query_text, status_of, usage_line}
-use Rattle.scasp_top.specs.Runs.{Runs, RunsQuery, Meets}
-use Rattle.scasp_top.specs.Outputs.{Outputs, OutputsOf, IsTooLong, IsNoProgram, RunsText, OfFile, HasFileFault, Expects, no_command, of_bytes}
+use Rattle.scasp_top.specs.Runs.{Runs, RunsQuery, RunsRightly, Meets}
+use Rattle.scasp_top.specs.Outputs.{Outputs, OutputsOf, IsTooLong, IsNoProgram, RunsText, RunsRightText, OfFile, HasFileFault, Expects, no_command, of_bytes}
 use Rattle.scasp_top.specs.declared.program_run.TheConstants.{BUDGET}
 use Rattle.scasp_top.specs.declared.status.Status.{Status}
 use Rattle.scasp_top.specs.declared.status.Status.TheVariants.{Done, NoAnswer, Usage, Text, Read, Write, Spent, Overflow, Memory, Limit}
@@ -44,7 +42,7 @@ data Sort (bytes text : List ℕ) (status : Status) : Type 0 where
   outside : status ≡ Text → IsNoProgram bytes text → Sort bytes text status
   run : RunsText bytes text status → Sort bytes text status
 
-sort-of : (bytes text : List ℕ) (status : Status) → OutputsOf bytes text status → Sort bytes text status
+sort-of : (bytes text : List ℕ) (status : Status) → OutputsOf RunsText bytes text status → Sort bytes text status
 sort-of bytes text Limit h = too_long refl h
 sort-of bytes text Text h = outside refl h
 sort-of bytes text Done h = run h
@@ -73,15 +71,45 @@ sorts-one law bytes t t' s s' (run h) (too_long e' h') = absurd (omega (arith, h
 sorts-one law bytes t t' s s' (run h) (outside e' h') = cc (h.read, h'.outside)
 sorts-one law bytes t t' s s' (run h) (run h') = texts-one law bytes t t' s s' h h'
 
+-- a run whose answers are right is a run
+plain-query : (p : _) (names : List (List ℕ)) (query : Option Query) (text : List ℕ) (status : Status)
+    → MatchOption query ((text ≡ header_line) × (status ≡ NoAnswer)) (λ q. RunsRightly p names q text status)
+    → MatchOption query ((text ≡ header_line) × (status ≡ NoAnswer)) (λ q. RunsQuery names p.clauses q text status)
+plain-query p names None text status r = r
+plain-query p names (Some q) text status r = r.run
+
+plain-text : (bytes text : List ℕ) (status : Status) → RunsRightText bytes text status → RunsText bytes text status
+plain-text bytes text status r =
+    let run = plain-query r.program (r.reading).names (numbered (r.program).queries 1) text status r.run in
+    record {
+      within = r.within;
+      reading = r.reading;
+      read = r.read;
+      run = subst (λ (qs : List Query). Runs (r.reading).names (r.reading).clauses qs text status) r.queries
+          (subst (λ (cs : List Clause). Runs (r.reading).names cs (r.program).queries text status) r.clauses run);
+    }
+
+sort-right : (bytes text : List ℕ) (status : Status) → OutputsOf RunsRightText bytes text status → Sort bytes text status
+sort-right bytes text Limit h = too_long refl h
+sort-right bytes text Text h = outside refl h
+sort-right bytes text Done h = run (plain-text bytes text Done h)
+sort-right bytes text NoAnswer h = run (plain-text bytes text NoAnswer h)
+sort-right bytes text Spent h = run (plain-text bytes text Spent h)
+sort-right bytes text Overflow h = run (plain-text bytes text Overflow h)
+sort-right bytes text Usage h = absurd h
+sort-right bytes text Read h = absurd h
+sort-right bytes text Write h = absurd h
+sort-right bytes text Memory h = absurd h
+
 -- what was printed of a file's bytes is what they ask for
 settles : (law : HasOneEvent) → (file : Option (List ℕ)) (told : List ℕ → Option (List ℕ)) (t text : List ℕ) (s status : Status)
-    → OfFile file told (λ bytes. OutputsOf bytes t s) → Expects file told text status → (s ≡ status) × (t ≡ text)
+    → OfFile file told (λ bytes. OutputsOf RunsRightText bytes t s) → Expects file told text status → (s ≡ status) × (t ≡ text)
 settles law file told t text s status h (no_command none line usage) =
-    let P : Option (List ℕ) → Type 0 = λ f. OfFile f told (λ bytes. OutputsOf bytes t s) in absurd (subst P none h)
+    let P : Option (List ℕ) → Type 0 = λ f. OfFile f told (λ bytes. OutputsOf RunsRightText bytes t s) in absurd (subst P none h)
 settles law file told t text s status h (of_bytes name bytes is known asked) =
-    let P : Option (List ℕ) → Type 0 = λ f. OfFile f told (λ b. OutputsOf b t s) in
-    let Q : Option (List ℕ) → Type 0 = λ o. IfSome o (λ b. OutputsOf b t s) in
-    sorts-one law bytes t text s status (sort-of bytes t s (subst Q known (subst P is h))) (sort-of bytes text status asked)
+    let P : Option (List ℕ) → Type 0 = λ f. OfFile f told (λ b. OutputsOf RunsRightText b t s) in
+    let Q : Option (List ℕ) → Type 0 = λ o. IfSome o (λ b. OutputsOf RunsRightText b t s) in
+    sorts-one law bytes t text s status (sort-right bytes t s (subst Q known (subst P is h))) (sort-of bytes text status asked)
 
 -- and with the usage line no file is named
 usage-one : (file : Option (List ℕ)) (told : List ℕ → Option (List ℕ)) (t text : List ℕ) (status : Status)

@@ -1,2 +1,5 @@
-pub mod RunLemmas
+pub mod AcceptedAnswers
 pub mod CompleteLemmas
+pub mod PlainPrograms
+pub mod RightAnswers
+pub mod RunLemmas

@@ -1,4 +1,4 @@
-use Rattle.std.specs.Prelude.{ℕ, Option, None, Some, List, [], ◌∷◌, map, codes, if◌then◌else◌, string_bytes, String}
+use Rattle.std.specs.Prelude.{ℕ, Option, None, Some, List, [], ◌∷◌, codes, if◌then◌else◌}
 use Rattle.std.specs.Str.{bytes_eq}
 
 -- The grammar of the words of a command: `run` and a file. The file is what it names.

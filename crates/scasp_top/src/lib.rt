@@ -1,6 +1,7 @@
 //! The top call: from the words of a command and the bytes of files to the text that is printed.
 #![tactic(auto)]
 
+pub mod laws;
 mod output;
 mod program_run;
 mod status;

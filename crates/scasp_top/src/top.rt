@@ -4,7 +4,7 @@ ghost use Rattle.std.specs.Prelude.{◌≡◌, ◌≤◌, ◌⊎◌, ℕ, List, 
 ghost use Rattle.scasp_io.specs.Counts.{Rose};
 ghost use Rattle.scasp_io.specs.Lookup.{bytes_or_none};
 ghost use Rattle.scasp_top.specs.Words.{file_of};
-ghost use Rattle.scasp_top.specs.Outputs.{Outputs, OutputsOf, Expects, HasFileFault};
+ghost use Rattle.scasp_top.specs.Outputs.{Outputs, OutputsOf, RunsRightText, Expects, HasFileFault};
 ghost use Rattle.scasp_top.specs.declared.status.Status.{Status as OfStatus};
 ghost use Rattle.scasp_io.specs.Bytes.{behind};
 ghost use Rattle.scasp_top.specs.Reports.{Reports};
@@ -22,7 +22,7 @@ use std::alloc::Global;
 /// What is printed for the bytes of a program's text.
 fn answer_bytes(alloc: Global, bytes: &[u8]) -> Result<Output, Memory>
     requires { length bytes.now ≤ BYTE_LIMIT }
-    ensures { IfOk result (λ output. OutputsOf bytes.now output.text.items output.status) }
+    ensures { IfOk result (λ output. OutputsOf RunsRightText bytes.now output.text.items output.status) }
 {
     let mut names = Names::new(alloc)?;
     match read_program(alloc, bytes, &mut names) {
