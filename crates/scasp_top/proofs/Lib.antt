@@ -3,3 +3,4 @@ pub mod CompleteLemmas
 pub mod PlainPrograms
 pub mod RightAnswers
 pub mod RunLemmas
+pub mod PropositionalAnswers

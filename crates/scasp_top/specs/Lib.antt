@@ -7,3 +7,4 @@ pub mod Codes
 pub mod Commands
 pub mod Examples
 pub mod RunExamples
+pub mod WrittenAnswers
