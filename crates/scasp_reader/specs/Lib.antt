@@ -8,3 +8,4 @@ pub mod Parse
 pub mod Reading
 pub mod Refusal
 pub mod Propositional
+pub mod Examples
