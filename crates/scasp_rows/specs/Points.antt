@@ -1,5 +1,5 @@
 -- Rational points, and the rows that they meet.
-use Rattle.std.specs.Prelude.{◌≡◌, ℕ, Bool, true, false, ◌&&◌, not, ℤ, pos, int_lt, List, [], ◌∷◌}
+use Rattle.std.specs.Prelude.{◌≡◌, ◌≢◌, ℕ, Bool, true, false, ◌&&◌, not, ℤ, pos, int_lt, List, [], ◌∷◌}
 use Rattle.scasp_num.specs.declared.linear.Coeff.{Coeff}
 use Rattle.scasp_num.specs.declared.linear.Op.{Op}
 use Rattle.scasp_num.specs.declared.linear.Op.TheVariants as op
@@ -14,6 +14,14 @@ Point = ℕ → Number
 -- the point meets each of the rows
 abbrev pub MeetsAll : Point → List Linear → Type 0
 MeetsAll v rows = Each (Holds v) rows
+
+-- some point meets all the rows
+abbrev pub IsMet : List Linear → Type 0
+IsMet rows = (v : Point) × MeetsAll v rows
+
+-- none of the rows is a disequation
+abbrev pub NoDisequation : List Linear → Type 0
+NoDisequation rows = Each (λ (r : Linear). r.op ≢ op.Ne) rows
 
 -- the integer compares so with 0
 abbrev pub compares : Op → ℤ → Bool
