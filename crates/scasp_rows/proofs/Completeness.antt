@@ -63,12 +63,12 @@ made_without-ok x xs s t e f = by (first_equation x s.standing) refl e
         let r = solved-ok x xs p rest (record { standing = []; steps = s.steps; last = s.last }) t e fine (others-each (Fine (x ∷ xs)) x s.standing f) tt in (
           r.0,
           λ m d above zero after.
-          let n = pos (unsigned_abs (factor x p)) in
-          let z = turned (factor x p) (value m d p.row) in
-          let became = (r.1 m d above after).1 in
-          let all = others-back (Extends m d x n z) x s.standing p o (equation-extends m d x p is) (Each-map _ (Extends m d x n z) (λ q k. became-extends m d x p q is k) rest became) in
-          let size = solves-sized x p is in
-          (moved m n x z, d *ℤ n, times-pos d n above size, all-extended m d x xs n z s.standing zero f all),
+              let n = pos (unsigned_abs (factor x p)) in
+              let z = turned (factor x p) (value m d p.row) in
+              let became = (r.1 m d above after).1 in
+              let all = others-back (Extends m d x n z) x s.standing p o (equation-extends m d x p is) (Each-map _ (Extends m d x n z) (λ q k. became-extends m d x p q is k) rest became) in
+              let size = solves-sized x p is in
+              (moved m n x z, d *ℤ n, times-pos d n above size, all-extended m d x xs n z s.standing zero f all),
         )
     by None o e =
         let below = λ (r : Standing). has_sign sign.Below (factor x r) in
@@ -82,9 +82,9 @@ made_without-ok x xs s t e f = by (first_equation x s.standing) refl e
         let r = all_paired-ok x xs (filter below s.standing) (filter above s.standing) kept t e lows highs lacks in (
           r.0,
           λ m d positive none after.
-          let before = r.1 m d positive after in
-          let found = bounds-extend m d x xs s.standing f o before.0 before.1 in
-          (moved m found.0 x found.1, d *ℤ found.0, times-pos d found.0 positive found.2, all-extended m d x xs found.0 found.1 s.standing none f found.3),
+              let before = r.1 m d positive after in
+              let found = bounds-extend m d x xs s.standing f o before.0 before.1 in
+              (moved m found.0 x found.1, d *ℤ found.0, times-pos d found.0 positive found.2, all-extended m d x xs found.0 found.1 s.standing none f found.3),
         )
 
 limited-same : (s t : State) → limited s ≡ Ok t → s ≡ t
@@ -179,9 +179,9 @@ all_looked-ok xs n (r ∷ rs) s t e g h =
     let rest = all_looked-ok xs (n + 1) rs u.0 t u.2 g.1 look.0 in (
       rest.0,
       λ m d above after.
-      let later = rest.1 m d above after in
-      let before = look.1 m d above later.0 tt in
-      (before.0, (before.1, later.1)),
+          let later = rest.1 m d above after in
+          let before = look.1 m d above later.0 tt in
+          (before.0, (before.1, later.1)),
     )
 
 -- ---- rational points

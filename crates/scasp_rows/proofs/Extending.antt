@@ -180,17 +180,27 @@ solution m d x [] [] bl bu sl su h = (pos 1, pos 0, omega (arith, ints), tt, tt)
 solution m d x (l ∷ ls) [] bl bu sl su h =
     let u = tightest (IsLower x) m d x l ls bl sl in
     let t = u.0 in
-    let z = value m d t.row +ℤ size x t in
-    (size x t, z, u.2.sized, Each-map (λ q. (Bounding x q × IsLower x q) × ((value m d q.row *ℤ size x t) ≤ℤ (value m d t.row *ℤ size x q))) (Extends m d x (size x t) z)
-    (λ q k. below-compares q.row.op _ k.0.0.inequality k.0.0.comparing (subst (λ c. (value m d q.row *ℤ size x t +ℤ c *ℤ z) <ℤ pos 0) (sym k.0.1) (above-low (value m d q.row) (size x q) (value m d t.row) (size x t) k.0.0.sized u.2.sized k.1)))
-    (l ∷ ls) (Each-both (λ q. Bounding x q × IsLower x q) (λ q. (value m d q.row *ℤ size x t) ≤ℤ (value m d t.row *ℤ size x q)) (l ∷ ls) (Each-both (Bounding x) (IsLower x) (l ∷ ls) bl sl) u.3), tt)
+    let z = value m d t.row +ℤ size x t in (
+      size x t,
+      z,
+      u.2.sized,
+      Each-map (λ q. (Bounding x q × IsLower x q) × ((value m d q.row *ℤ size x t) ≤ℤ (value m d t.row *ℤ size x q))) (Extends m d x (size x t) z)
+          (λ q k. below-compares q.row.op _ k.0.0.inequality k.0.0.comparing (subst (λ c. (value m d q.row *ℤ size x t +ℤ c *ℤ z) <ℤ pos 0) (sym k.0.1) (above-low (value m d q.row) (size x q) (value m d t.row) (size x t) k.0.0.sized u.2.sized k.1)))
+          (l ∷ ls) (Each-both (λ q. Bounding x q × IsLower x q) (λ q. (value m d q.row *ℤ size x t) ≤ℤ (value m d t.row *ℤ size x q)) (l ∷ ls) (Each-both (Bounding x) (IsLower x) (l ∷ ls) bl sl) u.3),
+      tt,
+    )
 solution m d x [] (u ∷ us) bl bu sl su h =
     let v = tightest (IsUpper x) m d x u us bu su in
     let t = v.0 in
-    let z = neg_ℤ (value m d t.row +ℤ size x t) in
-    (size x t, z, v.2.sized, tt, Each-map (λ q. (Bounding x q × IsUpper x q) × ((value m d q.row *ℤ size x t) ≤ℤ (value m d t.row *ℤ size x q))) (Extends m d x (size x t) z)
-    (λ q k. below-compares q.row.op _ k.0.0.inequality k.0.0.comparing (subst (λ c. (value m d q.row *ℤ size x t +ℤ c *ℤ z) <ℤ pos 0) (sym k.0.1) (below-high (value m d q.row) (size x q) (value m d t.row) (size x t) k.0.0.sized v.2.sized k.1)))
-    (u ∷ us) (Each-both (λ q. Bounding x q × IsUpper x q) (λ q. (value m d q.row *ℤ size x t) ≤ℤ (value m d t.row *ℤ size x q)) (u ∷ us) (Each-both (Bounding x) (IsUpper x) (u ∷ us) bu su) v.3))
+    let z = neg_ℤ (value m d t.row +ℤ size x t) in (
+      size x t,
+      z,
+      v.2.sized,
+      tt,
+      Each-map (λ q. (Bounding x q × IsUpper x q) × ((value m d q.row *ℤ size x t) ≤ℤ (value m d t.row *ℤ size x q))) (Extends m d x (size x t) z)
+          (λ q k. below-compares q.row.op _ k.0.0.inequality k.0.0.comparing (subst (λ c. (value m d q.row *ℤ size x t +ℤ c *ℤ z) <ℤ pos 0) (sym k.0.1) (below-high (value m d q.row) (size x q) (value m d t.row) (size x t) k.0.0.sized v.2.sized k.1)))
+          (u ∷ us) (Each-both (λ q. Bounding x q × IsUpper x q) (λ q. (value m d q.row *ℤ size x t) ≤ℤ (value m d t.row *ℤ size x q)) (u ∷ us) (Each-both (Bounding x) (IsUpper x) (u ∷ us) bu su) v.3),
+    )
 solution m d x (l ∷ ls) (u ∷ us) bl bu sl su h =
     let f = tightest (λ l. Each (Meeting m d x l) (u ∷ us)) m d x l ls bl h in
     let low = f.0 in
@@ -203,14 +213,17 @@ solution m d x (l ∷ ls) (u ∷ us) bl bu sl su h =
     let above = times-pos a b g.2.sized f.2.sized in
     let twice : pos 0 <ℤ e = omega (arith, ints, above) in
     let lows = Each-both (λ q. Bounding x q × IsLower x q) (λ q. Meeting m d x q high × ((value m d q.row *ℤ size x low) ≤ℤ (value m d low.row *ℤ size x q))) (l ∷ ls) (Each-both (Bounding x) (IsLower x) (l ∷ ls) bl sl) (Each-both (λ q. Meeting m d x q high) (λ q. (value m d q.row *ℤ size x low) ≤ℤ (value m d low.row *ℤ size x q)) (l ∷ ls) g.1.1 f.3) in
-    let highs = Each-both (λ q. Bounding x q × IsUpper x q) (λ q. Meeting m d x low q × ((value m d q.row *ℤ size x high) ≤ℤ (value m d high.row *ℤ size x q))) (u ∷ us) (Each-both (Bounding x) (IsUpper x) (u ∷ us) bu su) (Each-both (λ q. Meeting m d x low q) (λ q. (value m d q.row *ℤ size x high) ≤ℤ (value m d high.row *ℤ size x q)) (u ∷ us) f.1 g.3) in
-    (e, z, twice,
-    Each-map (λ q. (Bounding x q × IsLower x q) × (Meeting m d x q high × ((value m d q.row *ℤ size x low) ≤ℤ (value m d low.row *ℤ size x q)))) (Extends m d x e z)
-    (λ q k. subst (λ c. Compares q.row.op (value m d q.row *ℤ e +ℤ c *ℤ z)) (sym k.0.1) (middle-low q.row.op (value m d q.row) (size x q) (value m d low.row) b (value m d high.row) a k.0.0.inequality k.0.0.comparing g.2.sized f.2.sized k.1.0.low k.1.1))
-    (l ∷ ls) lows,
-    Each-map (λ q. (Bounding x q × IsUpper x q) × (Meeting m d x low q × ((value m d q.row *ℤ size x high) ≤ℤ (value m d high.row *ℤ size x q)))) (Extends m d x e z)
-    (λ q k. subst (λ c. Compares q.row.op (value m d q.row *ℤ e +ℤ c *ℤ z)) (sym k.0.1) (middle-high q.row.op (value m d q.row) (size x q) (value m d low.row) b (value m d high.row) a k.0.0.inequality k.0.0.comparing g.2.sized f.2.sized (subst (Compares q.row.op) (turn (size x q) (value m d low.row) b (value m d q.row)) k.1.0.high) k.1.1))
-    (u ∷ us) highs)
+    let highs = Each-both (λ q. Bounding x q × IsUpper x q) (λ q. Meeting m d x low q × ((value m d q.row *ℤ size x high) ≤ℤ (value m d high.row *ℤ size x q))) (u ∷ us) (Each-both (Bounding x) (IsUpper x) (u ∷ us) bu su) (Each-both (λ q. Meeting m d x low q) (λ q. (value m d q.row *ℤ size x high) ≤ℤ (value m d high.row *ℤ size x q)) (u ∷ us) f.1 g.3) in (
+      e,
+      z,
+      twice,
+      Each-map (λ q. (Bounding x q × IsLower x q) × (Meeting m d x q high × ((value m d q.row *ℤ size x low) ≤ℤ (value m d low.row *ℤ size x q)))) (Extends m d x e z)
+          (λ q k. subst (λ c. Compares q.row.op (value m d q.row *ℤ e +ℤ c *ℤ z)) (sym k.0.1) (middle-low q.row.op (value m d q.row) (size x q) (value m d low.row) b (value m d high.row) a k.0.0.inequality k.0.0.comparing g.2.sized f.2.sized k.1.0.low k.1.1))
+          (l ∷ ls) lows,
+      Each-map (λ q. (Bounding x q × IsUpper x q) × (Meeting m d x low q × ((value m d q.row *ℤ size x high) ≤ℤ (value m d high.row *ℤ size x q)))) (Extends m d x e z)
+          (λ q k. subst (λ c. Compares q.row.op (value m d q.row *ℤ e +ℤ c *ℤ z)) (sym k.0.1) (middle-high q.row.op (value m d q.row) (size x q) (value m d low.row) b (value m d high.row) a k.0.0.inequality k.0.0.comparing g.2.sized f.2.sized (subst (Compares q.row.op) (turn (size x q) (value m d low.row) b (value m d q.row)) k.1.0.high) k.1.1))
+          (u ∷ us) highs,
+    )
   where
     turn : (k B b A : ℤ) → k *ℤ B +ℤ b *ℤ A ≡ b *ℤ A +ℤ k *ℤ B
     turn k B b A = omega (arith, ints)

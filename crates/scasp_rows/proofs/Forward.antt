@@ -131,8 +131,8 @@ looked-ok P r later s t e h f = by (is_false r.row) refl (is_constant r.row) ref
         let same = same_state s t e in (
           subst (λ (u : State). Each P u.standing) same h,
           λ m d above after rest.
-          let standing = subst (λ (u : State). Met m d u.standing) (sym same) after in
-          (standing, any-same m d r (s.standing ++ later) k (Each-append (λ o. same_row o.row r.row ≡ true → Meets m d o.row) s.standing later (Each-map (λ (o : Standing). Meets m d o.row) (λ o. same_row o.row r.row ≡ true → Meets m d o.row) (λ o g _. g) s.standing standing) rest)),
+              let standing = subst (λ (u : State). Met m d u.standing) (sym same) after in
+              (standing, any-same m d r (s.standing ++ later) k (Each-append (λ o. same_row o.row r.row ≡ true → Meets m d o.row) s.standing later (Each-map (λ (o : Standing). Meets m d o.row) (λ o. same_row o.row r.row ≡ true → Meets m d o.row) (λ o g _. g) s.standing standing) rest)),
         )
     by false i false j false k e =
         let same = same_state (record { standing = s.standing ++ r ∷ []; steps = s.steps; last = s.last }) t e in (
@@ -255,9 +255,9 @@ solved-ok x xs p (q ∷ qs) s t e f g h =
         let r = first c (Each-append (Lacks x xs) s.standing (q ∷ []) h (fine-less x xs q g.0 (zero_is (factor x q) z), tt)) in (
           r.0,
           λ m d above after.
-          let before = r.1 m d above after in
-          let both = Each-left' (λ (o : Standing). Meets m d o.row) s.standing q before.0 in
-          (both.0, (record { kept = λ _. both.1; made = λ n. absurd (let no : true ≡ false = sym z ∙ n in cc) }, before.1)),
+              let before = r.1 m d above after in
+              let both = Each-left' (λ (o : Standing). Meets m d o.row) s.standing q before.0 in
+              (both.0, (record { kept = λ _. both.1; made = λ n. absurd (let no : true ≡ false = sym z ∙ n in cc) }, before.1)),
         )
     by false z c first second =
         let a = factor x p in
@@ -273,11 +273,11 @@ solved-ok x xs p (q ∷ qs) s t e f g h =
         let r = second u.0 u.2 look.0 in (
           r.0,
           λ m d above after.
-          let later = r.1 m d above after in
-          let rest = Each-map (Became m d x p) (λ (o : Standing). same_row o.row row.0 ≡ true → Meets m d o.row)
-          (λ (o : Standing) (w : Became m d x p o) (same : same_row o.row row.0 ≡ true). w.kept (ap is_zero (ap (λ (l : Linear). coefficient x l.coeffs) (row-same o.row row.0 same) ∙ new-zero))) qs later.1 in
-          let before = look.1 m d above later.0 rest in
-          (before.0, (record { kept = λ n. absurd (let no : true ≡ false = sym n ∙ z in cc); made = λ _. (row_sum-meets (size_over a k) q.row (against a b k) p.row row.0 row.1 m d).0 before.1 }, later.1)),
+              let later = r.1 m d above after in
+              let rest = Each-map (Became m d x p) (λ (o : Standing). same_row o.row row.0 ≡ true → Meets m d o.row)
+              (λ (o : Standing) (w : Became m d x p o) (same : same_row o.row row.0 ≡ true). w.kept (ap is_zero (ap (λ (l : Linear). coefficient x l.coeffs) (row-same o.row row.0 same) ∙ new-zero))) qs later.1 in
+              let before = look.1 m d above later.0 rest in
+              (before.0, (record { kept = λ n. absurd (let no : true ≡ false = sym n ∙ z in cc); made = λ _. (row_sum-meets (size_over a k) q.row (against a b k) p.row row.0 row.1 m d).0 before.1 }, later.1)),
         )
 
 -- ---- by bounds
@@ -307,9 +307,9 @@ paired-ok x xs l (u ∷ us) s t e f g h =
     let r = paired-ok x xs l us v.0 t v.2 f g.1 look.0 in (
       r.0,
       λ m d above after.
-      let later = r.1 m d above after in
-      let before = look.1 m d above later.0 tt in
-      (before.0, ((row_sum-meets S l.row T u.row row.0 row.1 m d).0 before.1, later.1)),
+          let later = r.1 m d above after in
+          let before = look.1 m d above later.0 tt in
+          (before.0, ((row_sum-meets S l.row T u.row row.0 row.1 m d).0 before.1, later.1)),
     )
 
 pub all_paired-ok : (x : ℕ) (xs : List ℕ) (ls us : List Standing) (s t : State) → all_paired x ls us s ≡ Ok t → Each (Lower x xs) ls → Each (Upper x xs) us → Each (Lacks x xs) s.standing → Each (Lacks x xs) t.standing × ((m : ℕ → ℤ) (d : ℤ) → pos 0 <ℤ d → Met m d t.standing → Met m d s.standing × Each (λ l. Each (Between m d x l) us) ls)
@@ -320,7 +320,7 @@ all_paired-ok x xs (l ∷ ls) us s t e f g h =
     let r = all_paired-ok x xs ls us v.0 t v.2 f.1 g first.0 in (
       r.0,
       λ m d above after.
-      let later = r.1 m d above after in
-      let before = first.1 m d above later.0 in
-      (before.0, (before.1, later.1)),
+          let later = r.1 m d above after in
+          let before = first.1 m d above later.0 in
+          (before.0, (before.1, later.1)),
     )

@@ -123,6 +123,7 @@ row_sum-coefficient a p b q row e hp hq n y none = zero-by (joined p.op q.op) (c
         let f2 : b *ℤ (coefficient y q.coeffs *ℤ z) ≡ (b *ℤ coefficient y q.coeffs) *ℤ z = sym (*ℤ_assoc b (coefficient y q.coeffs) z) in
         let right : a *ℤ value (only y z) (pos 0) p +ℤ b *ℤ value (only y z) (pos 0) q ≡ pos 0 =
         (λ i. (ap (λ v. a *ℤ v) vp ∙ f1) i +ℤ (ap (λ v. b *ℤ v) vq ∙ f2) i) ∙ sym (+ℤ-*ℤ (a *ℤ coefficient y p.coeffs) (b *ℤ coefficient y q.coeffs) z) ∙ ap (λ c. c *ℤ z) none ∙ zero-*ℤ z in
-        let m = row_sum-meets a p b q row e (only y z) (pos 0) in
-        (λ h. subst (Compares o) right (m.0 (subst (λ u. Compares u (value (only y z) (pos 0) row)) (sym is) (subst (Compares o) (sym left) h))),
-        λ h. subst (Compares o) left (subst (λ u. Compares u (value (only y z) (pos 0) row)) is (m.1 (subst (Compares o) (sym right) h))))
+        let m = row_sum-meets a p b q row e (only y z) (pos 0) in (
+          λ h. subst (Compares o) right (m.0 (subst (λ u. Compares u (value (only y z) (pos 0) row)) (sym is) (subst (Compares o) (sym left) h))),
+          λ h. subst (Compares o) left (subst (λ u. Compares u (value (only y z) (pos 0) row)) is (m.1 (subst (Compares o) (sym right) h))),
+        )

@@ -76,7 +76,15 @@ fn made(
     ensures { Ends result (made a p.now b q.now later.now state) }
 {
     let row = row_sum(alloc, a, &p.row, b, &q.row)?;
-    let state = with_step(state, Step { a, p: p.number, b, q: q.number })?;
+    let state = with_step(
+        state,
+        Step {
+            a,
+            p: p.number,
+            b,
+            q: q.number,
+        },
+    )?;
     let number = state.last;
     looked(state, Standing { number, row }, later)
 }
@@ -99,13 +107,7 @@ fn replaced(
 }
 
 /// Makes the row without `x` of a lower row and an upper row.
-fn met(
-    alloc: Global,
-    x: u64,
-    l: &Standing,
-    u: &Standing,
-    state: State,
-) -> Result<State, Halt>
+fn met(alloc: Global, x: u64, l: &Standing, u: &Standing, state: State) -> Result<State, Halt>
     ensures { Ends result (met x l.now u.now state) }
 {
     let b = factor(x, l);
@@ -115,12 +117,7 @@ fn met(
 }
 
 /// The rows in which the coefficient of `x` compares so with 0.
-fn rows_with(
-    alloc: Global,
-    sign: Sign,
-    x: u64,
-    rows: &[Standing],
-) -> Result<StandingRows, Memory>
+fn rows_with(alloc: Global, sign: Sign, x: u64, rows: &[Standing]) -> Result<StandingRows, Memory>
     ensures { IfOk result (λ kept. kept ≡ rows_with sign x rows.now) }
 {
     let mut kept = StandingRows::new(alloc);
@@ -216,7 +213,13 @@ fn all_paired(
 }
 
 /// Sets the rows with `x` aside, where the equation has it.
-fn by_equation(alloc: Global, x: u64, p: &Standing, rows: &[Standing], cleared: State) -> Result<State, Halt>
+fn by_equation(
+    alloc: Global,
+    x: u64,
+    p: &Standing,
+    rows: &[Standing],
+    cleared: State,
+) -> Result<State, Halt>
     ensures { Ends result (solved x p.now (others x rows.now) cleared) }
 {
     let rest = others(alloc, x, rows)?;
@@ -224,13 +227,23 @@ fn by_equation(alloc: Global, x: u64, p: &Standing, rows: &[Standing], cleared: 
 }
 
 /// Sets the rows with `x` aside, where no equation has it.
-fn by_bounds(alloc: Global, x: u64, rows: &[Standing], steps: Steps, last: u64) -> Result<State, Halt>
+fn by_bounds(
+    alloc: Global,
+    x: u64,
+    rows: &[Standing],
+    steps: Steps,
+    last: u64,
+) -> Result<State, Halt>
     ensures { Ends result (by_bounds x rows.now steps last) }
 {
     let standing = rows_with(alloc, Sign::Zero, x, rows)?;
     let lowers = rows_with(alloc, Sign::Below, x, rows)?;
     let uppers = rows_with(alloc, Sign::Above, x, rows)?;
-    let kept = State { standing, steps, last };
+    let kept = State {
+        standing,
+        steps,
+        last,
+    };
     all_paired(alloc, x, lowers.as_slice(), uppers.as_slice(), kept)
 }
 
@@ -238,11 +251,19 @@ fn by_bounds(alloc: Global, x: u64, rows: &[Standing], steps: Steps, last: u64) 
 fn made_without(alloc: Global, x: u64, state: State) -> Result<State, Halt>
     ensures { Ends result (made_without x state) }
 {
-    let State { standing, steps, last } = state;
+    let State {
+        standing,
+        steps,
+        last,
+    } = state;
     let rows = standing.as_slice();
     match first_equation(x, rows) {
         Some(p) => {
-            let cleared = State { standing: StandingRows::new(alloc), steps, last };
+            let cleared = State {
+                standing: StandingRows::new(alloc),
+                steps,
+                last,
+            };
             by_equation(alloc, x, p, rows, cleared)
         }
         None => by_bounds(alloc, x, rows, steps, last),

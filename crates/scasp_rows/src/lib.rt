@@ -12,4 +12,4 @@ mod tests;
 pub mod verdict;
 
 pub use steps::{StepErr, step};
-pub use verdict::{LinErr, Verdict, eliminate};
+pub use verdict::{LinErr, Verdict, eliminate, is_free_of_disequations};

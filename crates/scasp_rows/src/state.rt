@@ -118,5 +118,8 @@ impl From<AllocError> for Halt {
 pub(crate) fn copy(r: &Standing) -> Result<Standing, Memory>
     ensures { IfOk result (λ s. s ≡ r.now) }
 {
-    Ok(Standing { number: r.number, row: r.row.clone()? })
+    Ok(Standing {
+        number: r.number,
+        row: r.row.clone()?,
+    })
 }

@@ -1,12 +1,12 @@
 //! Whether rational values meet all rows, by the elimination of their variables.
-ghost use Rattle.std.specs.Prelude.{◌≡◌, ◌↔◌, IfOk};
+ghost use Rattle.std.specs.Prelude.{◌≡◌, ◌↔◌, IfOk, IsTrue};
 ghost use Rattle.scasp_rows.specs.Points.{IsMet, NoDisequation};
 ghost use Rattle.scasp_rows.specs.Steps.{ReachesFalse};
 ghost use Rattle.scasp_rows.specs.Verdicts.{IfUnsat, Says, verdict_of};
 
 use crate::elimination::elimination;
 use crate::state::Halt;
-use scasp_num::{Rows, Steps};
+use scasp_num::{Op, Rows, Steps};
 use std::alloc::Global;
 use thiserror::Error;
 
@@ -42,5 +42,26 @@ pub fn eliminate(alloc: Global, rows: &Rows) -> Result<Verdict, LinErr>
         Err(Halt::Unsat(steps)) => Ok(Verdict::Unsat(steps)),
         Err(Halt::Overflow) => Err(LinErr::Overflow),
         Err(Halt::Memory) => Err(LinErr::Memory),
+    }
+}
+
+/// Whether none of the rows is a disequation, as `eliminate` needs.
+pub fn is_free_of_disequations(rows: &Rows) -> bool
+    ensures { IsTrue result ↔ NoDisequation rows.now }
+{
+    for row in rows.as_slice() {
+        if is_disequation(row.op()) {
+            return false;
+        }
+    }
+    true
+}
+
+fn is_disequation(op: Op) -> bool
+    ensures { IsTrue result ↔ (op ≡ Op.Ne) }
+{
+    match op {
+        Op::Ne => true,
+        Op::Eq | Op::Lt | Op::Le => false,
     }
 }
