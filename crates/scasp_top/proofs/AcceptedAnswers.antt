@@ -2,7 +2,7 @@
 use Rattle.std.proofs.Common.{◌≡◌, ◌∙◌, ℕ, zero, suc, ◌+◌, ◌==◌, Bool, true, false, ◌&&◌, not, List, [], ◌∷◌, ◌++◌, Option, None, Some, map, slice_get, refl, ap, sym, subst, inl, inr, arith}
 use Rattle.std.specs.List.{Contains}
 use Rattle.std.proofs.lemmas.Bool.{cases_Bool, cond-true, cond-false}
-use Rattle.std.proofs.lemmas.List.{append-nil}
+use Rattle.std.proofs.lemmas.List.{append-nil, append_assoc, map-append}
 use Rattle.std.proofs.lemmas.List.Elements.{Contains-append_cases}
 use Rattle.scasp_syntax.specs.Flat.{flat_body}
 use Rattle.scasp_syntax.specs.Programs.{numbered}
@@ -31,14 +31,6 @@ accepted-push clauses [] [] d t h k = (k, tt)
 accepted-push clauses [] (u ∷ ts) d t h k = absurd h
 accepted-push clauses (e ∷ dues) [] d t h k = absurd h
 accepted-push clauses (e ∷ dues) (u ∷ ts) d t h k = (h.0, accepted-push clauses dues ts d t h.1 k)
-
-map-append : {A B : Type 0} → (f : A → B) (xs ys : List A) → map f (xs ++ ys) ≡ map f xs ++ map f ys
-map-append f [] ys = refl
-map-append f (x ∷ xs) ys = ap (λ z. f x ∷ z) (map-append f xs ys)
-
-append-one : {A : Type 0} → (xs : List A) (y : A) (zs : List A) → (xs ++ y ∷ []) ++ zs ≡ xs ++ y ∷ zs
-append-one [] y zs = refl
-append-one (x ∷ xs) y zs = ap (λ l. x ∷ l) (append-one xs y zs)
 
 none_left : (names : List ℕ) → [] ≡ map call_of names → names ≡ []
 none_left [] e = refl
@@ -104,7 +96,7 @@ module _ (clauses : List Clause) (plain : (c : Clause) → Contains clauses c �
       (record {
         front = op.front ++ op.head ∷ [];
         rest = op.rest;
-        parts = op.parts ∙ sym (append-one op.front op.head op.rest);
+        parts = op.parts ∙ sym (append_assoc op.front (op.head ∷ []) op.rest);
         left = op.left;
         shown = subst (λ (z : List FlatItem). AreAccepted clauses [] z (listed ((o.outer).done ++ pos_tree o.atom o.rule o.terms (listed done) ∷ [])))
             (sym (map-append due op.front (op.head ∷ [])))

@@ -1,0 +1,11 @@
+pub mod Lists
+pub mod Ranges
+pub mod Sums
+pub mod Reaching
+pub mod Shares
+pub mod Soundness
+pub mod Bounds
+pub mod Values
+pub mod Forward
+pub mod Extending
+pub mod Completeness

@@ -1,0 +1,4 @@
+-- Laws of lists, by names that code can cite.
+use Rattle.std.proofs.lemmas.List.Folds.{list_any-append}
+
+pub ruleset appended = (list_any-append)

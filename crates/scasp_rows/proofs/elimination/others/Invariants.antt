@@ -1,0 +1,7 @@
+use Rattle.std.proofs.Common.{◌≡◌, drop, ◌++◌, ◌+◌, []}
+use Rattle.std.specs.Prelude.{filter, if◌then◌else◌}
+use Rattle.scasp_rows.specs.Elimination.{first_equation, others, rows_with, solved, paired, all_paired, eliminated, all_looked, placed, with_terms, variables}
+use Rattle.scasp_rows.proofs.elimination.others.Given as goal
+
+abbrev pub invariant-loop-r : goal.invariant-loop-r
+invariant-loop-r l = l.kept ++ (if l.is_found then drop l.r-index l.rows else others l.x (drop l.r-index l.rows)) ≡ others l.x l.rows

@@ -1,0 +1,7 @@
+use Rattle.std.proofs.Common.{◌≡◌, drop, ◌++◌, ◌+◌, []}
+use Rattle.std.specs.Prelude.{filter, if◌then◌else◌}
+use Rattle.scasp_rows.specs.Elimination.{first_equation, others, rows_with, solved, paired, all_paired, eliminated, all_looked, placed, with_terms, variables}
+use Rattle.scasp_rows.proofs.elimination.rows_with.Given as goal
+
+abbrev pub invariant-loop-r : goal.invariant-loop-r
+invariant-loop-r l = l.kept ++ rows_with l.sign l.x (drop l.r-index l.rows) ≡ rows_with l.sign l.x l.rows

@@ -1,0 +1,18 @@
+use Rattle.std.proofs.Common.{◌≡◌, Bool, true, ℤ, Some, subst, sym, ◌∙◌, to_z, of_z}
+use Rattle.std.specs.Int.{w128}
+use Rattle.std.specs.Prelude.{◌&&◌}
+use Rattle.std.proofs.lemmas.Int.{to_z-of_z}
+use Rattle.scasp_num.specs.declared.linear.Op.{Op}
+use Rattle.scasp_rows.specs.Steps.{row_sum, may_scale, may_step}
+use Rattle.scasp_rows.proofs.Sums.{step-holds, both-true}
+use Rattle.scasp_rows.proofs.steps.step.Goals as goal
+
+pub returns-in-Ok-clause-holds : goal.returns-in-Ok-clause-holds
+returns-in-Ok-clause-holds c =
+    let a = c.ranges.a in
+    let b = c.ranges.b in
+    let p = c.args.p.now in
+    let q = c.args.q.now in
+    let first : true ≡ may_scale c.args.a p.op = sym c.if-not-may_scale.false ∙ simp to_z-of_z at c.may_scale.ensures ∙ (λ i. may_scale c.args.a (c.op.ensures.value i)) in
+    let second : true ≡ may_scale c.args.b q.op = sym c.if-not-may_scale-2.false ∙ simp to_z-of_z at c.may_scale-else-not-may_scale.ensures ∙ (λ i. may_scale c.args.b (c.op-else-not-may_scale.ensures.value i)) in
+    step-holds c.args.a p c.args.b q c.in-Ok.row (both-true (sym first) (sym second)) (simp to_z-of_z at c.in-Ok.ensures.exact)

@@ -1,0 +1,6 @@
+pub mod Points
+pub mod Steps
+pub mod Halting
+pub mod Elimination
+pub mod Verdicts
+pub mod Examples

@@ -1,0 +1,125 @@
+//! The rows that stand in an elimination.
+ghost use Rattle.std.specs.Prelude.{◌≡◌, [], ◌∷◌, ◌++◌, IfOk, OnOk, OnErr};
+
+use scasp_num::{Memory, Row, RowErr, Steps};
+use std::alloc::{AllocError, Global};
+use std::marker::Model;
+
+/// A row that stands, with its number: the given rows have the first numbers, from 1, and each row that a
+/// step makes the next one.
+#[derive(Clone, Debug, Drop)]
+pub struct Standing {
+    pub number: u64,
+    pub row: Row,
+}
+
+/// A list of rows that stand.
+#[derive(Debug, Drop)]
+pub struct StandingRows {
+    list: Vec<Standing>,
+}
+
+impl Model for StandingRows {
+    ghost use Rattle.std.specs.Prelude.{List};
+    ghost use Rattle.scasp_rows.specs.declared.state.Standing.{Standing};
+
+    ghost Value = { List Standing };
+
+    ghost view = { λ a. a.list.items };
+}
+
+impl StandingRows {
+    /// The empty list; it takes no memory.
+    pub fn new(alloc: Global) -> Self
+        ensures { result ≡ [] }
+    {
+        StandingRows {
+            list: Vec::new(alloc),
+        }
+    }
+
+    pub fn as_slice(&self) -> &[Standing]
+        ensures { result.now ≡ self.now }
+    {
+        self.list.as_slice()
+    }
+
+    /// Puts a row at the end.
+    pub fn push(&mut self, item: Standing) -> Result<(), Memory>
+        ensures ok { OnOk result (self.new ≡ self.old ++ item ∷ []) }
+        ensures err { OnErr result (self.new ≡ self.old) }
+    {
+        self.list.push(item)?;
+        Ok(())
+    }
+}
+
+/// The rows that stand, the steps made so far, and how many rows there are: the given ones and one for each
+/// step.
+#[derive(Debug, Drop)]
+pub struct State {
+    pub standing: StandingRows,
+    pub steps: Steps,
+    pub last: u64,
+}
+
+/// Why an elimination ends before all variables are gone.
+#[derive(Debug, Drop)]
+pub enum Halt {
+    /// The steps reach a false constant row.
+    Unsat(Steps),
+    /// An integer is too large, or too many rows stand.
+    Overflow,
+    Memory,
+}
+
+/// How a number compares with 0.
+#[derive(Clone, Copy, Debug, PartialEq, Eq)]
+pub enum Sign {
+    Below,
+    Zero,
+    Above,
+}
+
+impl From<Memory> for Halt {
+    ghost use Rattle.scasp_rows.specs.declared.state.Halt.TheVariants as halts;
+
+    ghost from_gives = { λ _ e. e ≡ halts.Memory };
+
+    fn from(_error: Memory) -> Self {
+        Halt::Memory
+    }
+}
+
+impl From<RowErr> for Halt {
+    ghost use Rattle.scasp_rows.specs.Halting.{IsHalt};
+
+    ghost from_gives = { IsHalt };
+
+    fn from(error: RowErr) -> Self {
+        match error {
+            RowErr::Overflow => Halt::Overflow,
+            RowErr::Memory => Halt::Memory,
+        }
+    }
+}
+
+impl From<AllocError> for Halt {
+    ghost use Rattle.scasp_rows.specs.declared.state.Halt.TheVariants as halts;
+
+    ghost from_gives = { λ _ e. e ≡ halts.Memory };
+
+    fn from(_error: AllocError) -> Self {
+        Halt::Memory
+    }
+}
+
+/// A copy of a row that stands.
+pub(crate) fn copy(r: &Standing) -> Result<Standing, Memory>
+    ensures { IfOk result (λ s. s ≡ r.now) }
+{
+    Ok(Standing {
+        number: r.number,
+        row: r.row.clone()?,
+    })
+}
