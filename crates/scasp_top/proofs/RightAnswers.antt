@@ -1,71 +1,75 @@
 -- Each answer that the search meets first, for a program that was read, is right.
-use Rattle.std.proofs.Common.{◌≡◌, ◌∙◌, ℕ, List, [], Some, map, refl, ap, sym, subst}
-use Rattle.std.specs.List.{Contains}
+use Rattle.std.proofs.Common.{◌≡◌, ◌∙◌, ℕ, Bool, true, ◌&&◌, ◌==◌, is_some, IsTrue, List, [], ◌∷◌, Option, None, Some, map, refl, ap, sym, subst}
+use Rattle.std.specs.List.{Contains, list_all}
+use Rattle.std.proofs.lemmas.Bool.{and_parts, and_from}
 use Rattle.scasp_syntax.specs.Programs.{numbered}
+use Rattle.scasp_syntax.specs.declared.atom.Atom.{Atom}
 use Rattle.scasp_syntax.specs.declared.clause.Clause.{Clause}
-use Rattle.scasp_syntax.specs.declared.clause.FlatItem.{FlatItem}
+use Rattle.scasp_syntax.specs.declared.clause.Item.{Item}
+use Rattle.scasp_syntax.specs.declared.clause.Item.TheVariants.{Call, Equal, Differ, Linear}
 use Rattle.scasp_syntax.specs.declared.clause.Query.{Query}
+use Rattle.scasp_syntax.specs.declared.predicate_map.PredMap.{PredMap}
 use Rattle.scasp_syntax.specs.declared.program.Program.{Program}
 use Rattle.scasp_cert.specs.Certificate.{Certificate}
-use Rattle.scasp_cert.specs.Trees.{listed}
-use Rattle.scasp_checker.specs.Accepted.{Accepts, AreAccepted}
+use Rattle.scasp_checker.specs.Accepted.{Accepts}
+use Rattle.scasp_checker.specs.Verdicts.{covered}
 use Rattle.scasp_checker.proofs.Soundness.{accepted-good, map-extendable}
-use Rattle.scasp_graph.specs.Map.{MapHolds}
+use Rattle.scasp_graph.specs.Map.{MapHolds, map_faults, is_positive_item, is_positive_rule}
 use Rattle.scasp_graph.proofs.MapLemmas.{empty_map_holds}
-use Rattle.scasp_reader.specs.Meaning.{call_of, query_from}
+use Rattle.scasp_reader.specs.Propositional.{has_plain_head, is_plain_call, are_plain_calls, has_no_argument, is_propositional_rule, is_propositional_query, are_propositional}
 use Rattle.scasp_reader.specs.Reading.{Reading, program_in}
+use Rattle.scasp_reader.proofs.Propositions.{reading-propositional}
+use Rattle.scasp_sound.proofs.ListLemmas.{list_all-from, list_all-member}
 use Rattle.scasp_written.specs.Machine.{Outcome, answered, ended, spent, overflowed}
 use Rattle.scasp_top.specs.Runs.{Meets, IsRight, AnswersRightly, AnswersAreRight}
 use Rattle.scasp_top.specs.declared.program_run.TheConstants.{BUDGET}
-use Rattle.scasp_top.proofs.AcceptedAnswers.{answers-shown, IsShown}
-use Rattle.scasp_top.proofs.PlainPrograms.{IsPlain, flat-plain, plain-map, reading-plain, reading-query}
+use Rattle.scasp_top.proofs.PropositionalAnswers.{answers-accepted}
 
-module _ (p : Program) (plain : (c : Clause) → Contains p.clauses c → IsPlain c) where
-  shown-accepted : (query : ℕ) (goals : List ℕ) (c : Certificate) → numbered p.queries query ≡ Some (query_from (map call_of goals)) → IsShown p.clauses plain goals query c → Accepts p c
-  shown-accepted query goals c named shown =
-      subst (λ (k : Certificate). Accepts p k) (sym shown.1)
-      (record {
-        query = query_from (map call_of goals);
-        named = named;
-        each_variable = refl;
-        no_variable = refl;
-        nothing_given = refl;
-        trees = subst (λ (z : List FlatItem). AreAccepted p.clauses [] z (listed shown.0)) (sym (flat-plain [] goals)) shown.2;
-        no_check = refl;
-        no_clash = refl;
-        sample = refl;
-        no_map = refl;
-      })
+-- a propositional rule is a rule without `not`
+plain-call : (item : Item) → is_plain_call item ≡ true → is_positive_item item ≡ true
+plain-call (Call l) e = (and_parts l.positive (has_no_argument l.atom.args) e).0
+plain-call (Equal t s) e = refl
+plain-call (Differ t s) e = refl
+plain-call (Linear l) e = refl
 
-  map-kept : MapHolds p [] []
-  map-kept = (empty_map_holds p).1 (plain-map p.clauses plain)
+plain-calls : (body : List Item) → are_plain_calls body ≡ true → list_all is_positive_item body ≡ true
+plain-calls body e = list_all-from is_positive_item body (λ item i. plain-call item (list_all-member is_plain_call body item e i))
 
-  shown-right : (query : ℕ) (goals : List ℕ) (c : Certificate) → numbered p.queries query ≡ Some (query_from (map call_of goals)) → IsShown p.clauses plain goals query c → IsRight p c
-  shown-right query goals c named shown =
-      let accepted = shown-accepted query goals c named shown in
-      record {
-        accepted = accepted;
-        map = subst (λ (k : Certificate). MapHolds p (map (λ j. j.0) k.checks) k.map) (sym shown.1) map-kept;
-        good = (accepted-good p c accepted, map-extendable p c map-kept);
-      }
+plain-head : (head : Option Atom) → has_plain_head head ≡ true → is_some head ≡ true
+plain-head None e = cc
+plain-head (Some a) e = refl
 
-  event-right : (goals : List ℕ) (event : Outcome Certificate) → numbered p.queries 1 ≡ Some (query_from (map call_of goals))
-      → Meets p.clauses 1 (query_from (map call_of goals)) event → AnswersRightly p event
-  event-right goals (answered c) named meets =
-      shown-right 1 goals c named
-      (answers-shown p.clauses plain goals 1 BUDGET 0 (record { event = answered c; calls = meets.0; rest = meets.1 }) c meets.2 refl)
-  event-right goals ended named meets = tt
-  event-right goals spent named meets = tt
-  event-right goals overflowed named meets = tt
+propositional-positive : (c : Clause) → is_propositional_rule c ≡ true → is_positive_rule c ≡ true
+propositional-positive c e =
+    let p = and_parts (has_plain_head c.head && are_plain_calls c.body) (c.vars == 0) e in
+    let q = and_parts (has_plain_head c.head) (are_plain_calls c.body) p.0 in
+    and_from (is_some c.head) (list_all is_positive_item c.body) (plain-head c.head q.0) (plain-calls c.body q.1)
+
+propositional-map : (p : Program) → IsTrue (are_propositional p.clauses p.queries) → MapHolds p [] []
+propositional-map p e =
+    let q = and_parts (list_all is_propositional_rule p.clauses) (list_all is_propositional_query p.queries) e in
+    (empty_map_holds p).1 (list_all-from is_positive_rule p.clauses (λ c i. propositional-positive c (list_all-member is_propositional_rule p.clauses c q.0 i)))
+
+accepted-right : (p : Program) (c : Certificate) → MapHolds p [] [] → Accepts p c → IsRight p c
+accepted-right p c kept accepted =
+    let none : covered c ≡ [] = ap (map (λ k. k.0)) accepted.no_check in
+    record {
+      accepted = accepted;
+      map = ap (λ ns. map_faults p ns c.map) none ∙ ap (λ (ms : List PredMap). map_faults p [] ms) accepted.no_map ∙ kept;
+      good = (accepted-good p c accepted, map-extendable p c kept);
+    }
+
+event-right : (p : Program) (query : Query) (event : Outcome Certificate) → IsTrue (are_propositional p.clauses p.queries)
+    → numbered p.queries 1 ≡ Some query → Meets p.clauses 1 query event → AnswersRightly p event
+event-right p query (answered c) plain named meets =
+    accepted-right p c (propositional-map p plain) (answers-accepted p plain 1 query named BUDGET meets.0 meets.1 c meets.2)
+event-right p query ended plain named meets = tt
+event-right p query spent plain named meets = tt
+event-right p query overflowed plain named meets = tt
 
 pub answers-right : (names : List (List ℕ)) (bytes : List ℕ) (reading : Reading) (p : Program)
     → program_in names bytes ≡ Some reading → p.clauses ≡ reading.clauses → p.queries ≡ reading.queries → AnswersAreRight p
 answers-right names bytes reading p read clauses queries =
-    let plain : (c : Clause) → Contains p.clauses c → IsPlain c =
-    λ c i. reading-plain names bytes reading read c (subst (λ (cs : List Clause). Contains cs c) clauses i) in
-    let one = reading-query names bytes reading read in
-    let goals : List ℕ = one.0 in
-    let first : numbered p.queries 1 ≡ Some (query_from (map call_of goals)) = ap (λ (qs : List Query). numbered qs 1) (queries ∙ one.1) in
-    λ query asked event meets.
-    let same : query ≡ query_from (map call_of goals) = cc in
-    event-right p plain goals event first (subst (λ (q : Query). Meets p.clauses 1 q event) same meets)
+    let plain : IsTrue (are_propositional p.clauses p.queries) =
+    ap (λ (cs : List Clause). are_propositional cs p.queries) clauses ∙ ap (are_propositional reading.clauses) queries ∙ reading-propositional names bytes reading read in
+    λ query named event meets. event-right p query event plain named meets
