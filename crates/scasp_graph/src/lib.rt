@@ -12,5 +12,5 @@ mod occurrences;
 mod tests;
 
 pub use analysis::{Analysis, analyse};
-pub use map::{MapFault, map_holds};
+pub use map::{MapFault, has_number, map_holds};
 pub use occurrences::{Preds, predicates, same_pred};
