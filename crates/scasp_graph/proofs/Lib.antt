@@ -1,2 +1,11 @@
+pub mod AnalysisLemmas
+pub mod CheckedLemmas
+pub mod ComponentLemmas
+pub mod EntryLemmas
+pub mod GraphLemmas
+pub mod LevelLemmas
 pub mod MapLemmas
+pub mod ReachLemmas
+pub mod NumberingLemmas
 pub mod PredLemmas
+pub mod WalkLemmas

@@ -12,7 +12,7 @@ use Rattle.scasp_syntax.specs.declared.atom.Pred.{Pred}
 use Rattle.scasp_syntax.specs.declared.program.Program.{Program}
 use Rattle.scasp_graph.specs.Growing.{grown, with_pred, query_preds}
 
-bool_is : (a b : Bool) → same_bool a b ≡ true → a ≡ b
+pub bool_is : (a b : Bool) → same_bool a b ≡ true → a ≡ b
 bool_is true b e = sym e
 bool_is false true e = cc
 bool_is false false e = refl

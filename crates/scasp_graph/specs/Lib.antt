@@ -1,4 +1,13 @@
-pub mod Map
+pub mod Analyses
+pub mod Components
 pub mod Examples
+pub mod Graphs
 pub mod Growing
 pub mod Judged
+pub mod Levels
+pub mod Map
+pub mod Numbering
+pub mod OddRules
+pub mod RightMap
+pub mod Searching
+pub mod Walks

@@ -1,10 +1,25 @@
 //! What holds of maps.
-ghost use Rattle.std.specs.Prelude.{◌↔◌, IsTrue, []};
+ghost use Rattle.std.specs.Prelude.{◌≡◌, ◌↔◌, ℕ, Bool, IsTrue, [], not};
 ghost use Rattle.std.specs.List.{list_all};
 ghost use Rattle.scasp_syntax.specs.declared.program.Program.{Program as ThisProgram};
+ghost use Rattle.scasp_syntax.specs.Same.{same_bool};
+ghost use Rattle.scasp_syntax.specs.declared.atom.Pred.{Pred as ThisPred};
+ghost use Rattle.scasp_graph.specs.Analyses.{IsAnalysis, checked};
 ghost use Rattle.scasp_graph.specs.Map.{MapHolds, is_positive_rule};
+ghost use Rattle.scasp_graph.specs.Walks.{Walk, Depends};
+ghost use Rattle.scasp_graph.specs.declared.analysis.Analysis.{Analysis as ThisAnalysis};
 
 /// Where nothing is covered, the empty map holds exactly where each clause is a rule without negated literals.
 pub fn empty_map_holds_for_positive_rules()
     ensures { (p : ThisProgram) → MapHolds p [] [] ↔ IsTrue (list_all is_positive_rule p.clauses) }
+{}
+
+/// The map of a program's analysis holds where its denials and its odd rules are covered.
+pub fn analysed_map_holds()
+    ensures { (p : ThisProgram) (a : ThisAnalysis) → IsAnalysis p a → MapHolds p (checked p a.odd_rules) a.map }
+{}
+
+/// One walk after another is a walk, which is odd where one of the two is and the other is not.
+pub fn walks_join()
+    ensures { (p : ThisProgram) (q r s : ThisPred) (b c : Bool) → Walk (Depends p) q r b → Walk (Depends p) r s c → Walk (Depends p) q s (not (same_bool b c)) }
 {}

@@ -1,11 +1,16 @@
 //! How predicates depend on one another: odd loops, levels and signs.
 #![tactic(auto)]
 
+mod analysis;
+mod components;
+mod graph;
 pub mod laws;
+mod levels;
 mod map;
 mod occurrences;
 #[cfg(test)]
 mod tests;
 
-pub use map::{MapFault, map_holds};
+pub use analysis::{Analysis, analyse};
+pub use map::{MapFault, has_number, map_holds};
 pub use occurrences::{Preds, predicates, same_pred};

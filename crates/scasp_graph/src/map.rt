@@ -71,7 +71,7 @@ fn keeps_below(map: &PredMaps, head: &Option<Atom>, body: &Items) -> bool
 }
 
 /// Whether the number is in the list.
-fn has_number(numbers: &RuleList, number: u64) -> bool
+pub fn has_number(numbers: &RuleList, number: u64) -> bool
     ensures { result ≡ list_any (nat_eq number) numbers.now }
 {
     numbers.as_slice().iter().any(|other| number == *other)

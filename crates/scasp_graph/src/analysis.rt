@@ -1,0 +1,211 @@
+//! The odd rules, levels and signs of a program.
+ghost use Rattle.std.specs.Prelude.{◌≡◌, ◌+◌, [], ◌∷◌, ◌++◌, map, true, false, nat_eq, slice_index_or, IfOk, OnOk, length};
+ghost use Rattle.std.specs.List.{flat_map, list_any};
+ghost use Rattle.scasp_syntax.specs.Programs.{pred_of, body_preds, predicates};
+ghost use Rattle.scasp_graph.specs.Analyses.{IsAnalysis};
+ghost use Rattle.scasp_graph.specs.Components.{turned, root_of};
+ghost use Rattle.scasp_graph.specs.Numbering.{place_in, numbered_edge, root_in, entry_at, entries_from, is_odd_body, odd_from};
+ghost use Rattle.scasp_graph.specs.Walks.{item_dependencies, clause_dependencies, dependencies};
+
+use crate::components::{Member, find_components};
+use crate::graph::{Edge, Graph};
+use crate::levels::{find_levels, find_odd};
+use crate::occurrences::{Preds, predicates, same_pred};
+use scasp_name::Memory;
+use scasp_syntax::{
+    Atom, Clause, Item, Items, Pred, PredMap, PredMaps, Program, RuleList, Sequence,
+};
+use std::alloc::Global;
+
+/// The odd rules of a program by their numbers, counted from 1, and its map: a level and a sign for each predicate,
+/// in order of first occurrence.
+///
+/// A predicate depends on those in the bodies of its rules. A rule is odd where it stands in a loop through its head
+/// with an odd number of negations. A level is 0 for a component that depends on no other, else one more than the
+/// greatest level that it depends on. In a component without such a loop the first predicate has `+` and the others
+/// follow the parity of negations; in one with such a loop all have `+`.
+#[derive(Debug, Drop)]
+pub struct Analysis {
+    pub odd_rules: RuleList,
+    pub map: PredMaps,
+}
+
+/// The first place of the predicate, or the length of the list.
+fn place_in(preds: &Preds, pred: &Pred) -> usize
+    ensures { result ≡ place_in preds.now pred.now }
+{
+    for (place, other) in preds.as_slice().iter().enumerate() {
+        if same_pred(pred, other) {
+            return place;
+        }
+    }
+    preds.len()
+}
+
+/// Puts an edge at the end for each literal of a rule's body.
+fn push_edges(preds: &Preds, head: &Atom, body: &Items, edges: &mut Vec<Edge>) -> Result<(), Memory>
+    ensures { OnOk result (edges.new.items ≡ edges.old.items ++ map (numbered_edge preds.now) (flat_map (item_dependencies (pred_of head.now)) body.now)) }
+{
+    let from = place_in(preds, &head.pred());
+    for item in body.as_slice() {
+        match item {
+            Item::Call(literal) => edges.push(Edge {
+                from,
+                to: place_in(preds, &literal.atom.pred()),
+                negated: !literal.positive,
+            })?,
+            Item::Equal(_, _) | Item::Differ(_, _) | Item::Linear(_) => {}
+        }
+    }
+    Ok(())
+}
+
+/// The edges of the program between the places of its predicates.
+fn edges_of(alloc: Global, program: &Program, preds: &Preds) -> Result<Vec<Edge>, Memory>
+    ensures { IfOk result (λ edges. edges.items ≡ map (numbered_edge preds.now) (dependencies program.now)) }
+{
+    let mut edges = Vec::new(alloc);
+    for clause in program.clauses.as_slice() {
+        if let Some(head) = &clause.head {
+            push_edges(preds, head, &clause.body, &mut edges)?;
+        }
+    }
+    Ok(edges)
+}
+
+/// The edges, each turned round.
+fn turned(alloc: Global, edges: &[Edge]) -> Result<Vec<Edge>, Memory>
+    ensures { IfOk result (λ other. other.items ≡ map turned edges.now) }
+{
+    let mut other = Vec::new(alloc);
+    for edge in edges {
+        other.push(Edge {
+            from: edge.to,
+            to: edge.from,
+            negated: edge.negated,
+        })?;
+    }
+    Ok(other)
+}
+
+/// The root of the predicate's component.
+fn root_in(preds: &Preds, members: &[Member], pred: &Pred) -> usize
+    ensures { result ≡ root_in preds.now members.now pred.now }
+{
+    match members.get(place_in(preds, pred)) {
+        Some(member) => member.root,
+        None => 0,
+    }
+}
+
+/// Whether the component of this root is odd.
+fn is_odd(odd: &[bool], root: usize) -> bool
+    ensures { result ≡ slice_index_or odd.now root false }
+{
+    match odd.get(root) {
+        Some(odd) => *odd,
+        None => false,
+    }
+}
+
+/// Whether a predicate of the body is in the component of this root.
+fn has_root(preds: &Preds, members: &[Member], root: usize, body: &Items) -> bool
+    ensures { result ≡ list_any (λ q. nat_eq (root_in preds.now members.now q) root) (body_preds body.now) }
+{
+    for item in body.as_slice() {
+        match item {
+            Item::Call(literal) => {
+                if root_in(preds, members, &literal.atom.pred()) == root {
+                    return true;
+                }
+            }
+            Item::Equal(_, _) | Item::Differ(_, _) | Item::Linear(_) => {}
+        }
+    }
+    false
+}
+
+/// Whether the clause is a rule in an odd component with a predicate of that component in its body.
+fn is_odd_clause(preds: &Preds, members: &[Member], odd: &[bool], clause: &Clause) -> bool
+    ensures { result ≡ is_odd_body preds.now members.now odd.now clause.now.head clause.now.body }
+{
+    match &clause.head {
+        None => false,
+        Some(head) => {
+            let root = root_in(preds, members, &head.pred());
+            is_odd(odd, root) && has_root(preds, members, root, &clause.body)
+        }
+    }
+}
+
+/// The numbers of the odd rules.
+fn odd_rules_of(
+    alloc: Global,
+    program: &Program,
+    preds: &Preds,
+    members: &[Member],
+    odd: &[bool],
+) -> Result<RuleList, Memory>
+    ensures { IfOk result (λ numbers. numbers ≡ odd_from preds.now members.now odd.now 1 program.now.clauses) }
+{
+    let mut numbers = Sequence::new(alloc);
+    for (place, clause) in program.clauses.as_slice().iter().enumerate() {
+        if is_odd_clause(preds, members, odd, clause) {
+            numbers.push(place as u64 + 1)?;
+        }
+    }
+    Ok(numbers)
+}
+
+/// The entry of the predicate at this place.
+fn entry_at(members: &[Member], levels: &[u64], odd: &[bool], place: usize, pred: Pred) -> PredMap
+    ensures { result ≡ entry_at members.now levels.now odd.now place pred }
+{
+    let member = match members.get(place) {
+        Some(member) => *member,
+        None => Member {
+            root: 0,
+            parity: false,
+            rank: 0,
+        },
+    };
+    let level = match levels.get(member.root) {
+        Some(level) => *level,
+        None => 0,
+    };
+    let plus = is_odd(odd, member.root) || !member.parity;
+    PredMap { pred, level, plus }
+}
+
+/// The entries of all predicates in order.
+fn map_of(
+    alloc: Global,
+    preds: &Preds,
+    members: &[Member],
+    levels: &[u64],
+    odd: &[bool],
+) -> Result<PredMaps, Memory>
+    ensures { IfOk result (λ entries. entries ≡ entries_from members.now levels.now odd.now 0 preds.now) }
+{
+    let mut entries = Sequence::new(alloc);
+    for (place, pred) in preds.as_slice().iter().enumerate() {
+        entries.push(entry_at(members, levels, odd, place, *pred))?;
+    }
+    Ok(entries)
+}
+
+/// The odd rules and the map of the program.
+pub fn analyse(alloc: Global, program: &Program) -> Result<Analysis, Memory>
+    ensures { IfOk result (λ a. IsAnalysis program.now a) }
+{
+    let preds = predicates(alloc, program)?;
+    let edges = edges_of(alloc, program, &preds)?;
+    let behind = Graph::new(alloc, preds.len(), turned(alloc, &edges)?)?;
+    let ahead = Graph::new(alloc, preds.len(), edges)?;
+    let members = find_components(alloc, &ahead, &behind)?;
+    let levels = find_levels(alloc, &ahead.edges, &members)?;
+    let odd = find_odd(alloc, &ahead.edges, &members)?;
+    let odd_rules = odd_rules_of(alloc, program, &preds, &members, &odd)?;
+    let map = map_of(alloc, &preds, &members, &levels, &odd)?;
+    Ok(Analysis { odd_rules, map })
+}
