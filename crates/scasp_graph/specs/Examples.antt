@@ -1,7 +1,7 @@
 -- Small cases of the definitions, computed.
 use Rattle.std.specs.Prelude.{◌≡◌, ℕ, Bool, true, false, List, [], ◌∷◌, Some, None}
 use Rattle.std.proofs.Common.{refl}
-use Rattle.scasp_syntax.specs.Programs.{pred_of}
+use Rattle.scasp_syntax.specs.Programs.{pred_of, predicates}
 use Rattle.scasp_syntax.specs.Tm.{nil}
 use Rattle.scasp_syntax.specs.declared.atom.Atom.{Atom}
 use Rattle.scasp_syntax.specs.declared.clause.Clause.{Clause}
@@ -9,7 +9,11 @@ use Rattle.scasp_syntax.specs.declared.clause.Item.{Item}
 use Rattle.scasp_syntax.specs.declared.clause.Item.TheVariants.{Call}
 use Rattle.scasp_syntax.specs.declared.predicate_map.PredMap.{PredMap}
 use Rattle.scasp_syntax.specs.declared.program.Program.{Program}
+use Rattle.scasp_graph.specs.Analyses.{checked}
 use Rattle.scasp_graph.specs.Map.{map_faults}
+use Rattle.scasp_graph.specs.OddRules.{IsOddRule}
+use Rattle.scasp_graph.specs.RightMap.{comes_before}
+use Rattle.scasp_graph.specs.Walks.{stays, goes, dependencies}
 
 abbrev p : Atom
 p = record { minus = false; name = 2; args = nil }
@@ -61,3 +65,65 @@ higher_in_body = refl
 
 holds : map_faults denied (2 ∷ []) (entry p 1 true ∷ []) ≡ []
 holds = refl
+
+-- the edges of p :- not q. q :- not p.
+edges : dependencies even ≡ record { from = pred_of p; to = pred_of q; negated = true } ∷ record { from = pred_of q; to = pred_of p; negated = true } ∷ []
+edges = refl
+
+-- a denial makes no edge
+no_edge_of_a_denial : dependencies denied ≡ record { from = pred_of p; to = pred_of p; negated = false } ∷ record { from = pred_of p; to = pred_of q; negated = false } ∷ []
+no_edge_of_a_denial = refl
+
+checked_clauses : checked denied (1 ∷ []) ≡ 1 ∷ 2 ∷ []
+checked_clauses = refl
+
+earlier : comes_before (predicates even) (pred_of p) (pred_of q) ≡ true
+earlier = refl
+
+not_earlier : comes_before (predicates even) (pred_of q) (pred_of p) ≡ false
+not_earlier = refl
+
+-- p :- not p.
+abbrev odd : Program
+odd = record { clauses = rule p (literal false p ∷ []) ∷ []; queries = []; well_formed = refl }
+
+odd_by_itself : IsOddRule odd 1
+odd_by_itself =
+    record {
+      rule = rule p (literal false p ∷ []);
+      stands = refl;
+      head = p;
+      head_is = refl;
+      below = pred_of p;
+      in_body = refl;
+      back = (false, stays (pred_of p));
+      odd = goes (pred_of p) (pred_of p) (pred_of p) true false (0, refl) (stays (pred_of p));
+    }
+
+abbrev r : Atom
+r = record { minus = false; name = 4; args = nil }
+
+abbrev s : Atom
+s = record { minus = false; name = 5; args = nil }
+
+-- p :- q. q :- r, s. r :- not q. s :- p. The walk p, q, r, q, s, p has one negated edge.
+abbrev long : Program
+long = record { clauses = rule p (literal true q ∷ []) ∷ rule q (literal true r ∷ literal true s ∷ []) ∷ rule r (literal false q ∷ []) ∷ rule s (literal true p ∷ []) ∷ []; queries = []; well_formed = refl }
+
+odd_by_a_long_walk : IsOddRule long 1
+odd_by_a_long_walk =
+    record {
+      rule = rule p (literal true q ∷ []);
+      stands = refl;
+      head = p;
+      head_is = refl;
+      below = pred_of q;
+      in_body = refl;
+      back = (false, goes (pred_of q) (pred_of s) (pred_of p) false false (2, refl) (goes (pred_of s) (pred_of p) (pred_of p) false false (4, refl) (stays (pred_of p))));
+      odd =
+          goes (pred_of p) (pred_of q) (pred_of p) false true (0, refl)
+          (goes (pred_of q) (pred_of r) (pred_of p) false true (1, refl)
+          (goes (pred_of r) (pred_of q) (pred_of p) true false (3, refl)
+          (goes (pred_of q) (pred_of s) (pred_of p) false false (2, refl)
+          (goes (pred_of s) (pred_of p) (pred_of p) false false (4, refl) (stays (pred_of p))))));
+    }
