@@ -224,11 +224,23 @@ pub fn sample(alloc: Global, rows: &Rows, differ: &RowLists) -> Result<Option<Po
     }
 }
 
-/// Whether the rows are disequations alone, as the parts that `sample` needs.
-pub fn are_disequations(parts: &Rows) -> bool
+/// Whether all parts of the disequations are so, as `sample` needs.
+pub fn are_disequations(differ: &RowLists) -> bool
+    ensures { IsTrue result ↔ Each OnlyDisequations differ.now }
+{
+    for parts in differ.as_slice() {
+        if !have_disequations(parts.as_slice()) {
+            return false;
+        }
+    }
+    true
+}
+
+/// Whether the rows are disequations alone.
+fn have_disequations(parts: &[Row]) -> bool
     ensures { IsTrue result ↔ OnlyDisequations parts.now }
 {
-    for row in parts.as_slice() {
+    for row in parts {
         if !is_disequation(row.op()) {
             return false;
         }
