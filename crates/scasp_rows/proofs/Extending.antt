@@ -30,7 +30,7 @@ pub extended : (m : ℕ → ℤ) (d : ℤ) (x : ℕ) (e z : ℤ) (r : Standing) 
 extended m d x e z r h n c = subst (Compares r.row.op) (sym (value-at m d e x z r.row h n.ascending)) c
 
 -- a row without x stays met
-kept-extends : (m : ℕ → ℤ) (d : ℤ) (x : ℕ) (e z : ℤ) (r : Standing) → pos 0 <ℤ e → is_zero (factor x r) ≡ true → Meets m d r.row → Extends m d x e z r
+pub kept-extends : (m : ℕ → ℤ) (d : ℤ) (x : ℕ) (e z : ℤ) (r : Standing) → pos 0 <ℤ e → is_zero (factor x r) ≡ true → Meets m d r.row → Extends m d x e z r
 kept-extends m d x e z r h f c =
     let none : factor x r *ℤ z ≡ pos 0 = ap (λ y. y *ℤ z) (zero_is (factor x r) f) ∙ zero-*ℤ z in
     let same : value m d r.row *ℤ e ≡ value m d r.row *ℤ e +ℤ factor x r *ℤ z = omega (arith, ints, none) in
@@ -235,7 +235,7 @@ solution m d x (l ∷ ls) (u ∷ us) bl bu sl su h =
       swapped low vs f.1 (Each-map (λ q. Each (Meeting m d x q) (v ∷ vs)) (λ q. Each (Meeting m d x q) vs) (λ q k. k.1) (l ∷ ls) g),
     )
 
-from-filter : (P : Standing → Type 0) (p : Standing → Bool) (rs : List Standing) → Each P (filter p rs) → Each (λ r. p r ≡ true → P r) rs
+pub from-filter : (P : Standing → Type 0) (p : Standing → Bool) (rs : List Standing) → Each P (filter p rs) → Each (λ r. p r ≡ true → P r) rs
 from-filter P p [] h = tt
 from-filter P p (r ∷ rs) h = by (p r) refl h (from-filter P p rs)
   where
@@ -243,7 +243,7 @@ from-filter P p (r ∷ rs) h = by (p r) refl h (from-filter P p rs)
     by true e h rest = ((λ _. h.0), rest h.1)
     by false e h rest = ((λ t. absurd (let no : true ≡ false = sym t ∙ e in cc)), rest h)
 
-one-sign : (P : Type 0) (z : ℤ) → (int_lt z (pos 0) ≡ true → P) → (is_zero z ≡ true → P) → (int_lt (pos 0) z ≡ true → P) → P
+pub one-sign : (P : Type 0) (z : ℤ) → (int_lt z (pos 0) ≡ true → P) → (is_zero z ≡ true → P) → (int_lt (pos 0) z ≡ true → P) → P
 one-sign P (pos zero) f g h = g refl
 one-sign P (pos (suc n)) f g h = h (lt_ltb (omega arith))
 one-sign P (negsuc n) f g h = f refl
@@ -268,7 +268,7 @@ no-equation x (r ∷ rs) e = by (solves x r) refl e (no-equation x rs)
     by true f e rest = cc
     by false f e rest = (f, rest e)
 
-bounding : (x : ℕ) (xs : List ℕ) (r : Standing) → Fine (x ∷ xs) r → factor x r ≢ pos 0 → solves x r ≡ false → Bounding x r
+pub bounding : (x : ℕ) (xs : List ℕ) (r : Standing) → Fine (x ∷ xs) r → factor x r ≢ pos 0 → solves x r ≡ false → Bounding x r
 bounding x xs r f n s = record {
   inequality = by (is_equation r.row.op) (is_zero (factor x r)) refl s;
   comparing = f.comparing;

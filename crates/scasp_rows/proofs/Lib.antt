@@ -9,3 +9,10 @@ pub mod Values
 pub mod Forward
 pub mod Extending
 pub mod Completeness
+pub mod Solving
+pub mod Choosing
+pub mod Pointing
+pub mod Combining
+pub mod Independence
+pub mod Greedy
+pub mod Sampling

@@ -21,7 +21,7 @@ use Rattle.scasp_num.proofs.Meaning.{compares-scaled}
 use Rattle.scasp_num.proofs.Valuations.{Holds-Meets, denominator-exists}
 use Rattle.scasp_num.proofs.NormalForms.{normal_form-IsNormal}
 use Rattle.scasp_num.proofs.Wholes.{normal_of-meets, summed-Rises, whole-Ascends, whole-range}
-use Rattle.scasp_rows.specs.Points.{Point}
+use Rattle.scasp_rows.specs.Points.{RationalPoint}
 use Rattle.scasp_rows.specs.Steps.{whole, times, terms_sum, constant_sum, joined, row_sum, may_scale, may_step}
 
 -- what a row compares with 0 where the variables have the values m x / d
@@ -33,7 +33,7 @@ abbrev pub scaled : ℤ → List Coeff → List Coeff
 scaled a [] = []
 scaled a (k ∷ ks) = record { x = k.x; c = a *ℤ k.c } ∷ scaled a ks
 
-scaled-weighted : (m : ℕ → ℤ) (a : ℤ) (ks : List Coeff) → weighted m (scaled a ks) ≡ a *ℤ weighted m ks
+pub scaled-weighted : (m : ℕ → ℤ) (a : ℤ) (ks : List Coeff) → weighted m (scaled a ks) ≡ a *ℤ weighted m ks
 scaled-weighted m a [] = sym (*ℤ-zero a)
 scaled-weighted m a (k ∷ ks) = (λ i. *ℤ_assoc a k.c (m k.x) i +ℤ scaled-weighted m a ks i) ∙ sym (*ℤ-+ℤ a (k.c *ℤ m k.x) (weighted m ks))
 
@@ -41,10 +41,10 @@ weighted-append : (m : ℕ → ℤ) (ks js : List Coeff) → weighted m (ks ++ j
 weighted-append m [] js = sym (+ℤ_idl (weighted m js))
 weighted-append m (k ∷ ks) js = ap (λ w. k.c *ℤ m k.x +ℤ w) (weighted-append m ks js) ∙ sym (+ℤ_assoc (k.c *ℤ m k.x) (weighted m ks) (weighted m js))
 
-whole-times : (q : Number) (z : ℤ) → Some q ≡ whole z → IsTimes (pos 1) q z
+pub whole-times : (q : Number) (z : ℤ) → Some q ≡ whole z → IsTimes (pos 1) q z
 whole-times q z e = sym (lowest-exact q z (pos 1) e)
 
-times-are : (a : ℤ) (ks : List Coeff) (out : List RatPair) → Some out ≡ times a ks → AreTimes (pos 1) out (scaled a ks)
+pub times-are : (a : ℤ) (ks : List Coeff) (out : List RatPair) → Some out ≡ times a ks → AreTimes (pos 1) out (scaled a ks)
 times-are a [] out e = subst (λ (o : List RatPair). AreTimes (pos 1) o []) (let same : [] ≡ out = cc in same) tt
 times-are a (k ∷ ks) out e =
     let p = bind-some (whole (a *ℤ k.c)) (λ product. times a ks >>= (λ rest. Some (record { x = k.x; value = product } ∷ rest))) out e in
@@ -168,7 +168,7 @@ Each-append P [] ys e f = f
 Each-append P (x ∷ xs) ys e f = (e.0, Each-append P xs ys e.1 f)
 
 -- a point that meets both rows meets their sum
-pub step-holds : (a : ℤ) (p : Linear) (b : ℤ) (q row : Linear) → may_step a p b q ≡ true → Some row ≡ row_sum a p b q → (v : Point) → Holds v p → Holds v q → Holds v row
+pub step-holds : (a : ℤ) (p : Linear) (b : ℤ) (q row : Linear) → may_step a p b q ≡ true → Some row ≡ row_sum a p b q → (v : RationalPoint) → Holds v p → Holds v q → Holds v row
 step-holds a p b q row s e v g h =
     let rest = p.coeffs ++ q.coeffs in
     let c = denominator-exists v (row.coeffs ++ rest) in
@@ -205,7 +205,7 @@ pub record IsNormalOf (o : Op) (row : Linear) : Type 0 where
   pub constant_range : InRange constant
   pub made : row ≡ normal_form (record { coeffs = coeffs; constant = constant; op = o })
 
-normal_of-parts : (pairs : List RatPair) (q : Number) (o : Op) (row : Linear) → Some row ≡ normal_of pairs q o → IsNormalOf o row
+pub normal_of-parts : (pairs : List RatPair) (q : Number) (o : Op) (row : Linear) → Some row ≡ normal_of pairs q o → IsNormalOf o row
 unfolding normal_of
 normal_of-parts pairs q o row e =
     let f = λ (coeffs : List Coeff) (constant : ℤ). Some (normal_form (record { coeffs = coeffs; constant = constant; op = o })) in
@@ -222,7 +222,7 @@ normal_of-parts pairs q o row e =
       made = some-same {x = row} {y = normal_form (record { coeffs = w.0; constant = c.0; op = o })} c.2;
     }
 
-normal_form-op : (r : Linear) → (normal_form r).op ≡ r.op
+pub normal_form-op : (r : Linear) → (normal_form r).op ≡ r.op
 unfolding normal_form
 normal_form-op r = refl
 
@@ -231,12 +231,16 @@ normal_of-op pairs q o row e =
     let p = normal_of-parts pairs q o row e in
     ap (λ (r : Linear). r.op) p.made ∙ normal_form-op (record { coeffs = p.coeffs; constant = p.constant; op = o })
 
+pub normal_of-IsNormal : (pairs : List RatPair) (q : Number) (o : Op) (row : Linear) → Some row ≡ normal_of pairs q o → IsNormal row
+normal_of-IsNormal pairs q o row e =
+    let n = normal_of-parts pairs q o row e in
+    subst IsNormal (sym n.made) (normal_form-IsNormal (record { coeffs = n.coeffs; constant = n.constant; op = o }) n.ascending n.constant_range n.range)
+
 -- the sum of two rows is in normal form
 pub row_sum-IsNormal : (a : ℤ) (p : Linear) (b : ℤ) (q row : Linear) → Some row ≡ row_sum a p b q → IsNormal row
 row_sum-IsNormal a p b q row e =
     let s = row_sum-IsSum a p b q row e in
-    let n = normal_of-parts (s.left ++ s.right) s.constant (joined p.op q.op) row s.made in
-    subst IsNormal (sym n.made) (normal_form-IsNormal (record { coeffs = n.coeffs; constant = n.constant; op = joined p.op q.op }) n.ascending n.constant_range n.range)
+    normal_of-IsNormal (s.left ++ s.right) s.constant (joined p.op q.op) row s.made
 
 -- the sum of two rows that are no disequations is none
 pub row_sum-op : (a : ℤ) (p : Linear) (b : ℤ) (q row : Linear) → Some row ≡ row_sum a p b q → p.op ≢ op.Ne → q.op ≢ op.Ne → row.op ≢ op.Ne

@@ -3,4 +3,6 @@ pub mod Steps
 pub mod Halting
 pub mod Elimination
 pub mod Verdicts
+pub mod Samples
+pub mod Sampled
 pub mod Examples

@@ -8,16 +8,16 @@ use Rattle.scasp_num.specs.Linear.{Linear, Each, is_zero}
 use Rattle.scasp_num.specs.Values.{Holds}
 
 -- a rational number for each variable
-abbrev pub Point : Type 0
-Point = ℕ → Number
+abbrev pub RationalPoint : Type 0
+RationalPoint = ℕ → Number
 
 -- the point meets each of the rows
-abbrev pub MeetsAll : Point → List Linear → Type 0
+abbrev pub MeetsAll : RationalPoint → List Linear → Type 0
 MeetsAll v rows = Each (Holds v) rows
 
 -- some point meets all the rows
 abbrev pub IsMet : List Linear → Type 0
-IsMet rows = (v : Point) × MeetsAll v rows
+IsMet rows = (v : RationalPoint) × MeetsAll v rows
 
 -- none of the rows is a disequation
 abbrev pub NoDisequation : List Linear → Type 0

@@ -130,7 +130,7 @@ fn rows_with(alloc: Global, sign: Sign, x: u64, rows: &[Standing]) -> Result<Sta
 }
 
 /// The first equation with `x`.
-fn first_equation(x: u64, rows: &[Standing]) -> Option<&Standing>
+pub(crate) fn first_equation(x: u64, rows: &[Standing]) -> Option<&Standing>
     ensures { option_copied result ≡ first_equation x rows.now }
 {
     for r in rows {
@@ -282,7 +282,7 @@ fn limited(state: State) -> Result<State, Halt>
 
 /// Eliminates `x`.
 #[tactic(auto, unfolding(crate::specs::Elimination::without))]
-fn without(alloc: Global, x: u64, state: State) -> Result<State, Halt>
+pub(crate) fn without(alloc: Global, x: u64, state: State) -> Result<State, Halt>
     ensures { Ends result (without x state) }
 {
     limited(made_without(alloc, x, state)?)
@@ -308,7 +308,7 @@ fn given(row: &Row, number: u64, state: State) -> Result<State, Halt>
 }
 
 /// Looks at the given rows in order.
-fn all_looked(rows: &[Row], start: State) -> Result<State, Halt>
+pub(crate) fn all_looked(rows: &[Row], start: State) -> Result<State, Halt>
     ensures { Ends result (all_looked 1 rows.now start) }
 {
     let mut state = start;
@@ -353,7 +353,7 @@ fn with_terms(alloc: Global, terms: &[Coeff], start: Vec<u64>) -> Result<Vec<u64
 }
 
 /// The variables of the rows, ascending.
-fn variables(alloc: Global, rows: &[Row]) -> Result<Vec<u64>, Memory>
+pub(crate) fn variables(alloc: Global, rows: &[Row]) -> Result<Vec<u64>, Memory>
     ensures value { IfOk result (λ all. all.items ≡ variables [] rows.now) }
     ensures normal { OnOk result (Each IsNormal rows.now) }
 {
@@ -364,18 +364,24 @@ fn variables(alloc: Global, rows: &[Row]) -> Result<Vec<u64>, Memory>
     Ok(all)
 }
 
+/// The state in which the given rows are looked at.
+pub(crate) fn started(alloc: Global, rows: &[Row]) -> State
+    ensures { result ≡ record { standing = []; steps = []; last = length rows.now } }
+{
+    State {
+        standing: StandingRows::new(alloc),
+        steps: Steps::new(alloc),
+        last: rows.len() as u64,
+    }
+}
+
 /// Eliminates all variables of the rows.
 #[tactic(auto, unfolding(crate::specs::Elimination::elimination))]
 pub(crate) fn elimination(alloc: Global, rows: &[Row]) -> Result<State, Halt>
     ensures exact { Ends result (elimination rows.now) }
     ensures normal { OnOk result (Each IsNormal rows.now) }
 {
-    let start = State {
-        standing: StandingRows::new(alloc),
-        steps: Steps::new(alloc),
-        last: rows.len() as u64,
-    };
-    let state = all_looked(rows, start)?;
+    let state = all_looked(rows, started(alloc, rows))?;
     let variables = variables(alloc, rows)?;
     eliminated(alloc, variables.as_slice(), state)
 }

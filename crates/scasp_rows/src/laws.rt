@@ -1,16 +1,18 @@
 //! Laws of the definitions, as functions that do nothing.
-ghost use Rattle.std.specs.Prelude.{◌≡◌, ◌≢◌, List, Ok, Err};
+ghost use Rattle.std.specs.Prelude.{◌≡◌, ◌↔◌, List, Ok, Err};
 ghost use Rattle.scasp_num.specs.declared.hints.Step.{Step};
+ghost use Rattle.scasp_num.specs.declared.linear.RatPair.{RatPair};
 ghost use Rattle.scasp_num.specs.Linear.{Each, IsNormal, Linear};
-ghost use Rattle.scasp_rows.specs.Points.{IsMet, MeetsAll, NoDisequation, Point};
+ghost use Rattle.scasp_rows.specs.Points.{IsMet, MeetsAll, NoDisequation, RationalPoint};
 ghost use Rattle.scasp_rows.specs.Steps.{ReachesFalse};
 ghost use Rattle.scasp_rows.specs.Elimination.{elimination};
+ghost use Rattle.scasp_rows.specs.Samples.{MeetsBoth, MeetsSome, OnlyDisequations, point_of, value_in};
 ghost use Rattle.scasp_rows.specs.declared.state.Halt.TheVariants as halts;
 ghost use Rattle.scasp_rows.specs.declared.state.State.{State};
 
 /// Rows from which steps reach a false constant row are met by no point.
 pub fn false_row_reached()
-    ensures { (rows : List Linear) (steps : List Step) (v : Point) → ReachesFalse rows steps → ¬ MeetsAll v rows }
+    ensures { (rows : List Linear) (steps : List Step) (v : RationalPoint) → ReachesFalse rows steps → ¬ MeetsAll v rows }
 {}
 
 /// Where the elimination ends as unsatisfiable, its steps reach a false constant row.
@@ -21,4 +23,17 @@ pub fn unsat_reached()
 /// Where the elimination goes through, some point meets all the rows.
 pub fn sat_met()
     ensures { (rows : List Linear) (s : State) → Each IsNormal rows → NoDisequation rows → elimination rows ≡ Ok s → IsMet rows }
+{}
+
+/// A point found for rows meets them.
+pub fn point_met()
+    ensures { (rows : List Linear) (point : List RatPair) → Each IsNormal rows → NoDisequation rows → point_of rows ≡ Ok point → MeetsAll (value_in point) rows }
+{}
+
+/// One disequation at a time is enough: rows and disequations, each the list of its parts, are met by one point
+/// exactly where some point meets the rows, and for each single disequation some point meets the rows and a
+/// part of it. For a convex set that lies inside a union of finitely many hyperplanes lies inside one.
+pub fn one_at_a_time()
+    ensures { (rows : List Linear) (differ : List (List Linear)) → NoDisequation rows → Each OnlyDisequations differ → ((v : RationalPoint) × MeetsBoth v rows differ)
+        ↔ (IsMet rows × Each (λ parts. (v : RationalPoint) × MeetsAll v rows × MeetsSome v parts) differ) }
 {}

@@ -1,15 +1,19 @@
 //! Linear rows over the rationals: the sum of two rows with multipliers, lists of such steps that lead to a
-//! contradiction, and the elimination of variables, which decides whether rational values meet all rows.
+//! contradiction, the elimination of variables, which decides whether rational values meet all rows, and
+//! points that meet rows and disequations.
 #![tactic(auto)]
 
+mod backward;
 mod elimination;
 pub mod laws;
 mod rows;
+pub mod samples;
 pub mod state;
 pub mod steps;
 #[cfg(test)]
 mod tests;
 pub mod verdict;
 
+pub use samples::{Point, RowLists, are_disequations, sample};
 pub use steps::{StepErr, step};
 pub use verdict::{LinErr, Verdict, eliminate, is_free_of_disequations};

@@ -3,7 +3,7 @@ ghost use Rattle.std.specs.Prelude.{◌≡◌, ◌*ℤ◌, IfOk};
 ghost use Rattle.std.specs.Result.{result_ok};
 ghost use Rattle.scasp_num.specs.Linear.{Gives, IsNormal};
 ghost use Rattle.scasp_num.specs.Values.{Holds};
-ghost use Rattle.scasp_rows.specs.Points.{Point};
+ghost use Rattle.scasp_rows.specs.Points.{RationalPoint};
 ghost use Rattle.scasp_rows.specs.Steps.{AddsTimes, Answers, constant_sum, joined, may_scale, row_sum, step_of, terms_sum, times, whole};
 
 use scasp_num::{Coeff, Op, Overflow, Rat, RatPair, RatPairs, Row, RowErr};
@@ -27,7 +27,7 @@ pub enum StepErr {
 /// lies outside -M..M, where M is 2^127 - 1.
 pub fn step(alloc: Global, a: i128, p: &Row, b: i128, q: &Row) -> Result<Row, StepErr>
     ensures exact { Answers result (step_of a p.now b q.now) }
-    ensures holds { IfOk result (λ row. (v : Point) → Holds v p.now → Holds v q.now → Holds v row) }
+    ensures holds { IfOk result (λ row. (v : RationalPoint) → Holds v p.now → Holds v q.now → Holds v row) }
     ensures normal { IfOk result IsNormal }
 {
     if !may_scale(a, p.op()) || !may_scale(b, q.op()) {
@@ -64,7 +64,7 @@ fn joined(p: Op, q: Op) -> Op
 }
 
 /// The product, as a number.
-fn whole_product(a: i128, c: i128) -> Result<Rat, Overflow>
+pub(crate) fn whole_product(a: i128, c: i128) -> Result<Rat, Overflow>
     ensures { result_ok result ≡ whole (a *ℤ c) }
 {
     match a.checked_mul(c) {
@@ -74,7 +74,7 @@ fn whole_product(a: i128, c: i128) -> Result<Rat, Overflow>
 }
 
 /// Puts `a` times each of the terms behind the pairs.
-fn push_times(pairs: &mut RatPairs, a: i128, terms: &[Coeff]) -> Result<(), RowErr>
+pub(crate) fn push_times(pairs: &mut RatPairs, a: i128, terms: &[Coeff]) -> Result<(), RowErr>
     ensures { AddsTimes pairs.old pairs.new result (times a terms.now) }
 {
     for k in terms {

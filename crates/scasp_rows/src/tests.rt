@@ -1,5 +1,8 @@
 //! Calls whose expected values were computed with Python's whole numbers and `fractions`.
-use crate::{LinErr, StepErr, Verdict, eliminate, is_free_of_disequations, step};
+use crate::{
+    LinErr, Point, RowLists, StepErr, Verdict, are_disequations, eliminate,
+    is_free_of_disequations, sample, step,
+};
 use scasp_num::{Op, Rat, RatPair, RatPairs, Row, Rows, Steps};
 use std::alloc::Global;
 use std::test::Fail;
@@ -1088,6 +1091,572 @@ static DECIDINGS: [Deciding; 29] = [
     },
 ];
 
+enum Sampled {
+    None,
+    Point(&'static [(u64, (i128, i128))]),
+    Overflow,
+}
+
+/// Rows and the parts of disequations, and the point that is found.
+struct Sampling {
+    rows: &'static [Given],
+    differ: &'static [&'static [Given]],
+    want: Sampled,
+}
+
+static SAMPLINGS: [Sampling; 28] = [
+    Sampling {
+        rows: &[
+            Given {
+                terms: &[(0, -1)],
+                constant: 3,
+                op: Op::Lt,
+            },
+            Given {
+                terms: &[(0, 1)],
+                constant: -5,
+                op: Op::Lt,
+            },
+        ],
+        differ: &[],
+        want: Sampled::Point(&[(0, (4, 1))]),
+    },
+    Sampling {
+        rows: &[
+            Given {
+                terms: &[(0, -1)],
+                constant: 3,
+                op: Op::Lt,
+            },
+            Given {
+                terms: &[(0, 1)],
+                constant: -5,
+                op: Op::Lt,
+            },
+        ],
+        differ: &[&[Given {
+            terms: &[(0, 1)],
+            constant: -4,
+            op: Op::Ne,
+        }]],
+        want: Sampled::Point(&[(0, (7, 2))]),
+    },
+    Sampling {
+        rows: &[
+            Given {
+                terms: &[(0, 85070591730234615865843651857942052864), (1, 3)],
+                constant: -1,
+                op: Op::Eq,
+            },
+            Given {
+                terms: &[(0, 5), (1, -1)],
+                constant: -2,
+                op: Op::Eq,
+            },
+        ],
+        differ: &[],
+        want: Sampled::Overflow,
+    },
+    Sampling {
+        rows: &[
+            Given {
+                terms: &[(0, 4), (1, 3)],
+                constant: -1,
+                op: Op::Eq,
+            },
+            Given {
+                terms: &[(0, 5), (1, -1)],
+                constant: -2,
+                op: Op::Eq,
+            },
+        ],
+        differ: &[],
+        want: Sampled::Point(&[(0, (7, 19)), (1, (-3, 19))]),
+    },
+    Sampling {
+        rows: &[
+            Given {
+                terms: &[(0, 1)],
+                constant: -3,
+                op: Op::Le,
+            },
+            Given {
+                terms: &[(0, -1)],
+                constant: 3,
+                op: Op::Le,
+            },
+        ],
+        differ: &[&[Given {
+            terms: &[(0, 1)],
+            constant: -3,
+            op: Op::Ne,
+        }]],
+        want: Sampled::None,
+    },
+    Sampling {
+        rows: &[
+            Given {
+                terms: &[(0, 1)],
+                constant: -3,
+                op: Op::Le,
+            },
+            Given {
+                terms: &[(0, -1)],
+                constant: 3,
+                op: Op::Le,
+            },
+        ],
+        differ: &[&[
+            Given {
+                terms: &[(0, 1)],
+                constant: -3,
+                op: Op::Ne,
+            },
+            Given {
+                terms: &[(1, 1)],
+                constant: 0,
+                op: Op::Ne,
+            },
+        ]],
+        want: Sampled::Point(&[(0, (3, 1)), (1, (-1, 1))]),
+    },
+    Sampling {
+        rows: &[
+            Given {
+                terms: &[(0, 1)],
+                constant: -3,
+                op: Op::Le,
+            },
+            Given {
+                terms: &[(0, -1)],
+                constant: 3,
+                op: Op::Le,
+            },
+        ],
+        differ: &[],
+        want: Sampled::Point(&[(0, (3, 1))]),
+    },
+    Sampling {
+        rows: &[
+            Given {
+                terms: &[(0, -1)],
+                constant: 0,
+                op: Op::Le,
+            },
+            Given {
+                terms: &[(0, 1)],
+                constant: -1,
+                op: Op::Le,
+            },
+        ],
+        differ: &[
+            &[Given {
+                terms: &[(0, 1)],
+                constant: 0,
+                op: Op::Ne,
+            }],
+            &[Given {
+                terms: &[(0, 1)],
+                constant: -1,
+                op: Op::Ne,
+            }],
+        ],
+        want: Sampled::Point(&[(0, (1, 2))]),
+    },
+    Sampling {
+        rows: &[],
+        differ: &[
+            &[Given {
+                terms: &[(3, 1)],
+                constant: -3,
+                op: Op::Ne,
+            }],
+            &[Given {
+                terms: &[(3, 1), (5, 2)],
+                constant: 1,
+                op: Op::Ne,
+            }],
+        ],
+        want: Sampled::Point(&[(3, (-2, 1)), (5, (0, 1))]),
+    },
+    Sampling {
+        rows: &[Given {
+            terms: &[(0, 1)],
+            constant: -3,
+            op: Op::Lt,
+        }],
+        differ: &[],
+        want: Sampled::Point(&[(0, (2, 1))]),
+    },
+    Sampling {
+        rows: &[Given {
+            terms: &[(0, -2)],
+            constant: 3,
+            op: Op::Lt,
+        }],
+        differ: &[],
+        want: Sampled::Point(&[(0, (5, 2))]),
+    },
+    Sampling {
+        rows: &[Given {
+            terms: &[(0, 1), (1, -1)],
+            constant: 0,
+            op: Op::Eq,
+        }],
+        differ: &[&[Given {
+            terms: &[(0, 1), (1, -1)],
+            constant: 0,
+            op: Op::Ne,
+        }]],
+        want: Sampled::None,
+    },
+    Sampling {
+        rows: &[
+            Given {
+                terms: &[(0, 1), (1, -1)],
+                constant: 0,
+                op: Op::Le,
+            },
+            Given {
+                terms: &[(1, 1), (2, -1)],
+                constant: 0,
+                op: Op::Le,
+            },
+            Given {
+                terms: &[(0, -1), (2, 1)],
+                constant: 0,
+                op: Op::Le,
+            },
+        ],
+        differ: &[&[
+            Given {
+                terms: &[(0, 1), (2, -1)],
+                constant: 0,
+                op: Op::Ne,
+            },
+            Given {
+                terms: &[(1, 1)],
+                constant: -2,
+                op: Op::Ne,
+            },
+        ]],
+        want: Sampled::Point(&[(0, (1, 1)), (1, (1, 1)), (2, (1, 1))]),
+    },
+    Sampling {
+        rows: &[Given {
+            terms: &[],
+            constant: 1,
+            op: Op::Lt,
+        }],
+        differ: &[&[Given {
+            terms: &[(0, 1)],
+            constant: 0,
+            op: Op::Ne,
+        }]],
+        want: Sampled::None,
+    },
+    Sampling {
+        rows: &[Given {
+            terms: &[],
+            constant: 0,
+            op: Op::Eq,
+        }],
+        differ: &[&[Given {
+            terms: &[],
+            constant: 0,
+            op: Op::Ne,
+        }]],
+        want: Sampled::None,
+    },
+    Sampling {
+        rows: &[],
+        differ: &[&[]],
+        want: Sampled::None,
+    },
+    Sampling {
+        rows: &[],
+        differ: &[&[Given {
+            terms: &[],
+            constant: 1,
+            op: Op::Ne,
+        }]],
+        want: Sampled::Point(&[]),
+    },
+    Sampling {
+        rows: &[
+            Given {
+                terms: &[(0, 170141183460469231731687303715884105727), (1, -1)],
+                constant: 0,
+                op: Op::Eq,
+            },
+            Given {
+                terms: &[(1, 170141183460469231731687303715884105727), (2, -1)],
+                constant: 0,
+                op: Op::Eq,
+            },
+            Given {
+                terms: &[(2, 1)],
+                constant: -1,
+                op: Op::Eq,
+            },
+        ],
+        differ: &[],
+        want: Sampled::Overflow,
+    },
+    Sampling {
+        rows: &[
+            Given {
+                terms: &[(0, 1)],
+                constant: -170141183460469231731687303715884105727,
+                op: Op::Le,
+            },
+            Given {
+                terms: &[(0, -1)],
+                constant: 170141183460469231731687303715884105726,
+                op: Op::Le,
+            },
+            Given {
+                terms: &[(0, 2), (1, -2)],
+                constant: 1,
+                op: Op::Eq,
+            },
+        ],
+        differ: &[],
+        want: Sampled::Overflow,
+    },
+    Sampling {
+        rows: &[Given {
+            terms: &[(0, -1)],
+            constant: 170141183460469231731687303715884105727,
+            op: Op::Le,
+        }],
+        differ: &[],
+        want: Sampled::Overflow,
+    },
+    Sampling {
+        rows: &[
+            Given {
+                terms: &[(1, 1), (2, 2)],
+                constant: -1,
+                op: Op::Lt,
+            },
+            Given {
+                terms: &[(1, 2), (2, -3)],
+                constant: 3,
+                op: Op::Le,
+            },
+            Given {
+                terms: &[(0, 2), (2, -3)],
+                constant: 2,
+                op: Op::Le,
+            },
+            Given {
+                terms: &[(0, 2), (1, 2), (2, 2)],
+                constant: -3,
+                op: Op::Eq,
+            },
+        ],
+        differ: &[&[Given {
+            terms: &[(1, 2), (2, -1)],
+            constant: 2,
+            op: Op::Ne,
+        }]],
+        want: Sampled::Point(&[(0, (19, 4)), (1, (-29, 4)), (2, (4, 1))]),
+    },
+    Sampling {
+        rows: &[
+            Given {
+                terms: &[(0, -3), (1, 1)],
+                constant: 0,
+                op: Op::Le,
+            },
+            Given {
+                terms: &[],
+                constant: -1,
+                op: Op::Le,
+            },
+            Given {
+                terms: &[(0, 2), (1, 3)],
+                constant: 3,
+                op: Op::Eq,
+            },
+            Given {
+                terms: &[(0, -1), (1, -3)],
+                constant: -4,
+                op: Op::Lt,
+            },
+        ],
+        differ: &[&[Given {
+            terms: &[(0, 2), (1, -1)],
+            constant: 0,
+            op: Op::Ne,
+        }]],
+        want: Sampled::Point(&[(0, (4, 11)), (1, (-41, 33))]),
+    },
+    Sampling {
+        rows: &[
+            Given {
+                terms: &[(0, -3), (2, -3)],
+                constant: -2,
+                op: Op::Lt,
+            },
+            Given {
+                terms: &[(0, -3), (1, 1), (2, 2)],
+                constant: -1,
+                op: Op::Le,
+            },
+        ],
+        differ: &[&[Given {
+            terms: &[(0, 1), (1, 1)],
+            constant: -1,
+            op: Op::Ne,
+        }]],
+        want: Sampled::Point(&[(0, (1, 3)), (1, (0, 1)), (2, (0, 1))]),
+    },
+    Sampling {
+        rows: &[
+            Given {
+                terms: &[],
+                constant: -1,
+                op: Op::Le,
+            },
+            Given {
+                terms: &[(0, -3), (1, -1)],
+                constant: -1,
+                op: Op::Le,
+            },
+            Given {
+                terms: &[(0, 1), (1, 1)],
+                constant: -1,
+                op: Op::Eq,
+            },
+            Given {
+                terms: &[(0, 1), (1, 2)],
+                constant: -3,
+                op: Op::Le,
+            },
+        ],
+        differ: &[&[Given {
+            terms: &[(1, 2)],
+            constant: 1,
+            op: Op::Ne,
+        }]],
+        want: Sampled::Point(&[(0, (5, 2)), (1, (-3, 2))]),
+    },
+    Sampling {
+        rows: &[
+            Given {
+                terms: &[(0, 1), (1, -2)],
+                constant: 2,
+                op: Op::Eq,
+            },
+            Given {
+                terms: &[(0, 1)],
+                constant: 4,
+                op: Op::Lt,
+            },
+        ],
+        differ: &[&[Given {
+            terms: &[(0, 1)],
+            constant: -2,
+            op: Op::Ne,
+        }]],
+        want: Sampled::Point(&[(0, (-6, 1)), (1, (-2, 1))]),
+    },
+    Sampling {
+        rows: &[
+            Given {
+                terms: &[(1, 1), (2, 2)],
+                constant: -3,
+                op: Op::Eq,
+            },
+            Given {
+                terms: &[(0, -3), (1, -2)],
+                constant: -3,
+                op: Op::Le,
+            },
+            Given {
+                terms: &[(0, 3), (2, -3)],
+                constant: 1,
+                op: Op::Le,
+            },
+        ],
+        differ: &[&[Given {
+            terms: &[(0, 1), (2, -1)],
+            constant: 0,
+            op: Op::Ne,
+        }]],
+        want: Sampled::Point(&[(0, (13, 2)), (1, (-11, 1)), (2, (7, 1))]),
+    },
+    Sampling {
+        rows: &[
+            Given {
+                terms: &[(0, 3), (1, -2)],
+                constant: 2,
+                op: Op::Lt,
+            },
+            Given {
+                terms: &[(0, -1), (1, -2), (2, -3)],
+                constant: -3,
+                op: Op::Le,
+            },
+            Given {
+                terms: &[(1, 1), (2, -2)],
+                constant: 2,
+                op: Op::Le,
+            },
+            Given {
+                terms: &[(0, 1), (1, 3)],
+                constant: 3,
+                op: Op::Le,
+            },
+        ],
+        differ: &[&[Given {
+            terms: &[(0, 2), (2, -1)],
+            constant: 0,
+            op: Op::Ne,
+        }]],
+        want: Sampled::Point(&[(0, (-1987, 600)), (1, (-337, 400)), (2, (34, 25))]),
+    },
+    Sampling {
+        rows: &[
+            Given {
+                terms: &[(0, 1), (1, -1)],
+                constant: -1,
+                op: Op::Lt,
+            },
+            Given {
+                terms: &[(0, 3), (1, -3)],
+                constant: 4,
+                op: Op::Le,
+            },
+            Given {
+                terms: &[(1, -2)],
+                constant: 3,
+                op: Op::Le,
+            },
+            Given {
+                terms: &[(0, -3), (1, 2)],
+                constant: -4,
+                op: Op::Lt,
+            },
+        ],
+        differ: &[&[
+            Given {
+                terms: &[(1, 1)],
+                constant: -1,
+                op: Op::Ne,
+            },
+            Given {
+                terms: &[],
+                constant: 1,
+                op: Op::Ne,
+            },
+        ]],
+        want: Sampled::Point(&[(0, (3, 4)), (1, (5, 2))]),
+    },
+];
+
 fn whole(z: i128) -> Result<Rat, Fail> {
     match Rat::new(z, 1) {
         Ok(number) => Ok(number),
@@ -1201,6 +1770,48 @@ fn many_rows(rt: HostRuntime) -> Result<(), Fail> {
         assert!(rt; is_free_of_disequations(&rows));
         let answer = eliminate(rt.alloc(), &rows);
         assert!(rt; is_decided(&answer, want));
+    }
+    Ok(())
+}
+
+fn lists(alloc: Global, given: &[&[Given]]) -> Result<RowLists, Fail> {
+    let mut lists = RowLists::new(alloc);
+    for parts in given {
+        lists.push(rows(alloc, parts)?)?;
+    }
+    Ok(lists)
+}
+
+fn is_point(point: &Point, want: &[(u64, (i128, i128))]) -> bool {
+    let point = point.as_slice();
+    if point.len() != want.len() {
+        return false;
+    }
+    for (p, (x, (num, den))) in point.iter().zip(want) {
+        if p.x != *x || p.value.num() != *num || p.value.den() != *den {
+            return false;
+        }
+    }
+    true
+}
+
+fn is_sampled(answer: &Result<Option<Point>, LinErr>, want: &Sampled) -> bool {
+    match (answer, want) {
+        (Ok(None), Sampled::None) => true,
+        (Ok(Some(point)), Sampled::Point(given)) => is_point(point, given),
+        (Err(LinErr::Overflow), Sampled::Overflow) => true,
+        _ => false,
+    }
+}
+
+#[test]
+fn points(rt: HostRuntime) -> Result<(), Fail> {
+    for case in &SAMPLINGS {
+        let rows = rows(rt.alloc(), case.rows)?;
+        let differ = lists(rt.alloc(), case.differ)?;
+        assert!(rt; is_free_of_disequations(&rows) && are_disequations(&differ));
+        let answer = sample(rt.alloc(), &rows, &differ);
+        assert!(rt; is_sampled(&answer, &case.want));
     }
     Ok(())
 }

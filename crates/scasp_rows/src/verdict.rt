@@ -57,7 +57,7 @@ pub fn is_free_of_disequations(rows: &Rows) -> bool
     true
 }
 
-fn is_disequation(op: Op) -> bool
+pub(crate) fn is_disequation(op: Op) -> bool
     ensures { IsTrue result ↔ (op ≡ Op.Ne) }
 {
     match op {
