@@ -1,19 +1,18 @@
 -- The number chosen for a variable meets the rows with it.
-use Rattle.std.proofs.Common.{◌≡◌, ◌≢◌, ◌⊎◌, inl, inr, ℕ, zero, suc, ◌<◌, ◌≤◌, ◌==◌, Bool, true, false, not, ℤ, pos, negsuc, ◌+ℤ◌, ◌*ℤ◌, neg_ℤ, ◌<ℤ◌, ◌≤ℤ◌, unsigned_abs, Some, None, Option, List, [], ◌∷◌, ◌++◌, refl, sym, ap, subst, ◌∙◌, arith}
-use Rattle.std.specs.Prelude.{if◌then◌else◌, int_lt, filter}
-use Rattle.std.proofs.lemmas.Int.{ints, by_lt_z}
+use Rattle.std.proofs.Common.{◌≡◌, ◌≢◌, ◌⊎◌, inl, inr, ℕ, Bool, true, false, ℤ, pos, ◌+ℤ◌, ◌*ℤ◌, neg_ℤ, ◌<ℤ◌, ◌≤ℤ◌, Some, None, Option, List, [], ◌∷◌, refl, sym, ap, subst, ◌∙◌, arith}
+use Rattle.std.specs.Prelude.{if◌then◌else◌}
+use Rattle.std.proofs.lemmas.Int.{ints}
 use Rattle.std.proofs.Math.IntN.{*ℤ_comm, *ℤ-zero, zero-*ℤ, neg_ℤ-neg_ℤ}
 use Rattle.scasp_num.specs.declared.linear.RatPair.{RatPair}
 use Rattle.scasp_num.specs.declared.linear.Op.{Op}
 use Rattle.scasp_num.specs.declared.linear.Op.TheVariants as op
 use Rattle.scasp_num.specs.Number.{Number, IsFraction}
-use Rattle.scasp_num.specs.Arithmetic.{◌>>=◌, sum_of, difference_of, quotient_of, negation_of}
-use Rattle.scasp_num.specs.Linear.{Linear, Each, is_zero, Compares, Meets}
+use Rattle.scasp_num.specs.Arithmetic.{◌>>=◌, sum_of, difference_of, negation_of}
+use Rattle.scasp_num.specs.Linear.{Each, Compares}
 use Rattle.scasp_num.proofs.Integers.{*ℤ_assoc, *ℤ-+ℤ, +ℤ-*ℤ, *ℤ_right_comm, *ℤ-cancel, neg-*ℤ}
 use Rattle.scasp_num.proofs.Numbers.{times-pos, some-same}
 use Rattle.scasp_num.proofs.Exact.{bind-some, sum_of-exact, difference_of-is}
 use Rattle.scasp_num.proofs.Meaning.{compares-scaled}
-use Rattle.scasp_num.proofs.NormalForms.{Each-map}
 use Rattle.scasp_rows.specs.declared.state.Sign.{Sign}
 use Rattle.scasp_rows.specs.declared.state.Sign.TheVariants as sign
 use Rattle.scasp_rows.specs.declared.state.Standing.{Standing}
@@ -23,7 +22,7 @@ use Rattle.scasp_rows.specs.Samples.{is_less, tighter, bound_with, bound, middle
 use Rattle.scasp_rows.proofs.Sums.{value}
 use Rattle.scasp_rows.proofs.Bounds.{below-compares, fractions-chain}
 use Rattle.scasp_rows.proofs.Extending.{Extends, Bounding, Meeting, IsLower, IsUpper, size}
-use Rattle.scasp_rows.proofs.Solving.{Less, AtMost, less-by, most-less, less-most, fraction-sum, whole-fraction, over-is, sum-at}
+use Rattle.scasp_rows.proofs.Solving.{Less, AtMost, less-by, fraction-sum, whole-fraction, over-is, sum-at}
 
 -- ---- the chosen numbers
 

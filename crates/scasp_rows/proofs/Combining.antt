@@ -1,8 +1,8 @@
 -- Sums of points: n times the values of one point and those of another meet the rows that both meet, and for a
 -- large n also what the first one meets strictly.
-use Rattle.std.proofs.Common.{◌≡◌, ◌≢◌, ◌⊎◌, inl, inr, ℕ, zero, suc, ◌+◌, ◌*◌, ◌<◌, ◌≤◌, Bool, true, false, not, ℤ, pos, negsuc, ◌+ℤ◌, ◌*ℤ◌, neg_ℤ, ◌<ℤ◌, ◌≤ℤ◌, unsigned_abs, Some, None, Option, List, [], ◌∷◌, ◌++◌, refl, sym, ap, subst, ◌∙◌, arith}
+use Rattle.std.proofs.Common.{◌≡◌, ◌≢◌, ◌⊎◌, inl, inr, ℕ, zero, suc, ◌+◌, ◌*◌, ◌<◌, ◌≤◌, ℤ, pos, negsuc, ◌+ℤ◌, ◌*ℤ◌, neg_ℤ, ◌<ℤ◌, unsigned_abs, List, [], ◌∷◌, refl, sym, ap, subst, ◌∙◌, arith}
 use Rattle.std.proofs.lemmas.Int.{ints}
-use Rattle.std.proofs.Math.IntN.{*ℤ_comm, *ℤ-zero, zero-*ℤ, pos-*ℤ-pos}
+use Rattle.std.proofs.Math.IntN.{*ℤ_comm, *ℤ-zero, zero-*ℤ}
 use Rattle.scasp_num.specs.declared.linear.Coeff.{Coeff}
 use Rattle.scasp_num.specs.declared.linear.Op.{Op}
 use Rattle.scasp_num.specs.declared.linear.Op.TheVariants as op
@@ -12,7 +12,7 @@ use Rattle.scasp_num.proofs.Integers.{*ℤ_assoc, *ℤ-+ℤ, +ℤ-*ℤ, *ℤ_rig
 use Rattle.scasp_num.proofs.Meaning.{compares-scaled}
 use Rattle.scasp_num.proofs.NormalForms.{Each-map}
 use Rattle.scasp_rows.specs.Points.{NoDisequation}
-use Rattle.scasp_rows.specs.Steps.{joined, may_scale}
+use Rattle.scasp_rows.specs.Steps.{joined}
 use Rattle.scasp_rows.proofs.Sums.{value, Compares-joined}
 
 -- n times the one values and the others

@@ -1,8 +1,6 @@
 -- Where the elimination goes through, some point meets all the rows.
-use Rattle.std.proofs.Common.{◌≡◌, ◌≢◌, ℕ, zero, suc, ◌+◌, ◌<◌, ◌==◌, nat_lt, Bool, true, false, ℤ, pos, negsuc, ◌+ℤ◌, ◌*ℤ◌, ◌<ℤ◌, unsigned_abs, int_div, Some, None, Option, Result, Ok, Err, List, [], ◌∷◌, ◌++◌, length, refl, sym, ap, subst, ◌∙◌, arith}
+use Rattle.std.proofs.Common.{◌≡◌, ◌≢◌, ℕ, ◌+◌, ◌<◌, ◌==◌, nat_lt, Bool, true, false, ℤ, pos, ◌*ℤ◌, ◌<ℤ◌, unsigned_abs, int_div, Some, None, Option, Ok, Err, List, [], ◌∷◌, length, refl, sym, ap, subst, ◌∙◌, arith}
 use Rattle.std.specs.Prelude.{if◌then◌else◌, ◌||◌, filter}
-use Rattle.std.specs.List.{list_any}
-use Rattle.std.specs.Int.{◌∣◌}
 use Rattle.std.proofs.lemmas.Bool.{eqb-true}
 use Rattle.std.proofs.lemmas.Bool.Decides.{nat_tests}
 use Rattle.std.proofs.lemmas.Int.{ints}
@@ -19,18 +17,17 @@ use Rattle.scasp_num.proofs.Numbers.{times-pos, unsigned_abs-over, unsigned_abs-
 use Rattle.scasp_num.proofs.Exact.{over-times}
 use Rattle.scasp_num.proofs.NormalForms.{Each-map, zero_is}
 use Rattle.scasp_num.proofs.Valuations.{Holds-Meets}
-use Rattle.scasp_rows.specs.declared.state.Halt.{Halt}
 use Rattle.scasp_rows.specs.declared.state.Halt.TheVariants as halt
 use Rattle.scasp_rows.specs.declared.state.Sign.TheVariants as sign
 use Rattle.scasp_rows.specs.declared.state.Standing.{Standing}
 use Rattle.scasp_rows.specs.declared.state.State.{State}
 use Rattle.scasp_rows.specs.Points.{RationalPoint, MeetsAll, IsMet, NoDisequation, is_constant}
-use Rattle.scasp_rows.specs.Elimination.{and_then, looked, factor, solves, first_equation, others, solved, has_sign, rows_with, by_equation, by_bounds, made_without, limited, without, eliminated, placed, with_terms, variables, all_looked, elimination}
+use Rattle.scasp_rows.specs.Elimination.{looked, factor, solves, first_equation, others, has_sign, rows_with, by_equation, made_without, limited, without, eliminated, placed, with_terms, variables, all_looked, elimination}
 use Rattle.scasp_rows.proofs.Sums.{value}
 use Rattle.scasp_rows.proofs.Shares.{turned}
 use Rattle.scasp_rows.proofs.Values.{moved, zeroed, zeroed-at, zeroed-value}
 use Rattle.scasp_rows.proofs.Soundness.{first_equation-solves, first_equation-each, others-each, filter-passes, Each-filter}
-use Rattle.scasp_rows.proofs.Forward.{Met, Became, Between, has, Fine, Lacks, Lower, Upper, fine-less, and_then-ok, same_state, looked-ok, solved-ok, all_paired-ok}
+use Rattle.scasp_rows.proofs.Forward.{Met, Became, Between, has, Fine, Lacks, fine-less, and_then-ok, same_state, looked-ok, solved-ok, all_paired-ok}
 use Rattle.scasp_rows.proofs.Extending.{Extends, extended, solves-sized, equation-extends, became-extends, bounds-extend, Each-both}
 
 -- some values m x / d meet the rows

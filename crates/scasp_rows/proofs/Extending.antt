@@ -1,26 +1,25 @@
 -- A point for the rows without x extends to x: by the equation's value, or between the bounds.
-use Rattle.std.proofs.Common.{◌≡◌, ◌≢◌, ◌⊎◌, inl, inr, ℕ, zero, suc, ◌<◌, Bool, true, false, not, ◌&&◌, ℤ, pos, negsuc, ◌+ℤ◌, ◌*ℤ◌, neg_ℤ, ◌<ℤ◌, ◌≤ℤ◌, unsigned_abs, Some, None, Option, List, [], ◌∷◌, ◌++◌, refl, sym, ap, subst, ◌∙◌, arith, cond}
+use Rattle.std.proofs.Common.{◌≡◌, ◌≢◌, ℕ, zero, suc, Bool, true, false, not, ◌&&◌, ℤ, pos, negsuc, ◌+ℤ◌, ◌*ℤ◌, neg_ℤ, ◌<ℤ◌, ◌≤ℤ◌, unsigned_abs, Some, None, List, [], ◌∷◌, refl, sym, ap, subst, ◌∙◌, arith, cond}
 use Rattle.std.specs.Prelude.{if◌then◌else◌, int_lt, filter}
 use Rattle.std.proofs.lemmas.Bool.{and_parts}
 use Rattle.std.proofs.lemmas.Int.{ints, by_lt_z}
-use Rattle.std.proofs.Math.IntN.{*ℤ_comm, zero-*ℤ}
+use Rattle.std.proofs.Math.IntN.{zero-*ℤ}
 use Rattle.scasp_num.specs.declared.linear.Op.{Op}
 use Rattle.scasp_num.specs.declared.linear.Op.TheVariants as op
-use Rattle.scasp_num.specs.Linear.{Linear, Each, IsNormal, is_zero, Compares, Meets}
+use Rattle.scasp_num.specs.Linear.{Each, IsNormal, is_zero, Compares, Meets}
 use Rattle.scasp_num.proofs.Numbers.{times-pos, unsigned_abs-pos, lt_ltb}
 use Rattle.scasp_num.proofs.Meaning.{compares-scaled}
 use Rattle.scasp_num.proofs.NormalForms.{Each-map, zero_is}
-use Rattle.scasp_rows.specs.declared.state.Sign.{Sign}
 use Rattle.scasp_rows.specs.declared.state.Sign.TheVariants as sign
 use Rattle.scasp_rows.specs.declared.state.Standing.{Standing}
 use Rattle.scasp_rows.specs.Steps.{joined}
-use Rattle.scasp_rows.specs.Elimination.{factor, is_equation, solves, first_equation, others, share, size_over, against, has_sign, rows_with}
+use Rattle.scasp_rows.specs.Elimination.{factor, is_equation, solves, first_equation, share, size_over, against, has_sign, rows_with}
 use Rattle.scasp_rows.proofs.Sums.{value}
 use Rattle.scasp_rows.proofs.Shares.{turned, share-above, share-dvd_left, share-dvd_right, size_over-times, against-times}
-use Rattle.scasp_rows.proofs.Bounds.{lowered, below-compares, middle-low, middle-high, above-low, below-high, fractions-chain, solved-equation, solved-row, met-rows}
+use Rattle.scasp_rows.proofs.Bounds.{below-compares, middle-low, middle-high, above-low, below-high, fractions-chain, solved-equation, solved-row, met-rows}
 use Rattle.scasp_rows.proofs.Values.{moved, value-at}
 use Rattle.scasp_rows.proofs.Soundness.{ne_zero, not_true, below-nonzero, above-nonzero, filter-passes, Each-filter}
-use Rattle.scasp_rows.proofs.Forward.{Met, Fine, Lower, Upper, Between, Became, below-size, above-size}
+use Rattle.scasp_rows.proofs.Forward.{Met, Fine, Between, Became, below-size, above-size}
 
 -- the row is met where x has the value z/e in place of 0
 abbrev pub Extends : (ℕ → ℤ) → ℤ → ℕ → ℤ → ℤ → Standing → Type 0

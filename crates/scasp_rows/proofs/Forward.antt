@@ -1,9 +1,8 @@
 -- What the parts of an elimination keep where they go through, and which rows are met where the later ones are.
-use Rattle.std.proofs.Common.{◌≡◌, ◌≢◌, ◌⊎◌, inl, inr, ℕ, zero, suc, ◌+◌, ◌<◌, ◌==◌, Bool, true, false, not, ◌&&◌, ℤ, pos, negsuc, ◌+ℤ◌, ◌*ℤ◌, neg_ℤ, ◌<ℤ◌, ◌≤ℤ◌, unsigned_abs, Some, None, Option, Result, Ok, Err, List, [], ◌∷◌, ◌++◌, length, nat_lt, refl, sym, ap, subst, ◌∙◌, arith}
+use Rattle.std.proofs.Common.{◌≡◌, ◌≢◌, ℕ, ◌+◌, ◌<◌, ◌==◌, Bool, true, false, not, ◌&&◌, ℤ, pos, negsuc, ◌+ℤ◌, ◌*ℤ◌, neg_ℤ, ◌<ℤ◌, unsigned_abs, Some, None, Option, Result, Ok, Err, List, [], ◌∷◌, ◌++◌, refl, sym, ap, subst, ◌∙◌, arith}
 use Rattle.std.specs.Prelude.{if◌then◌else◌, int_lt, ◌||◌}
 use Rattle.std.specs.List.{list_any}
 use Rattle.std.specs.Ordering.{int_eq}
-use Rattle.std.specs.Bool.{Decides}
 use Rattle.std.proofs.lemmas.Bool.{and_parts, eqb-true}
 use Rattle.std.proofs.lemmas.Bool.Decides.{Decides-int_eq}
 use Rattle.std.proofs.lemmas.Int.{ints}
@@ -18,12 +17,11 @@ use Rattle.scasp_num.proofs.Meaning.{compares-scaled}
 use Rattle.scasp_num.proofs.NormalForms.{Each-map, zero_is}
 use Rattle.scasp_rows.specs.declared.state.Halt.{Halt}
 use Rattle.scasp_rows.specs.declared.state.Halt.TheVariants as halt
-use Rattle.scasp_rows.specs.declared.state.Sign.TheVariants as sign
 use Rattle.scasp_rows.specs.declared.state.Standing.{Standing}
 use Rattle.scasp_rows.specs.declared.state.State.{State}
 use Rattle.scasp_rows.specs.Points.{compares, is_constant, is_false}
 use Rattle.scasp_rows.specs.Steps.{joined, row_sum}
-use Rattle.scasp_rows.specs.Elimination.{and_then, same_op, same_terms, same_row, looked, sum_looked, made, factor, is_equation, solves, first_equation, others, share, size_over, against, replaced, solved, has_sign, rows_with, met, paired, all_paired, by_bounds, by_equation, made_without, limited, without, eliminated}
+use Rattle.scasp_rows.specs.Elimination.{and_then, same_op, same_terms, same_row, looked, sum_looked, made, factor, share, size_over, against, replaced, solved, met, paired, all_paired}
 use Rattle.scasp_rows.proofs.Sums.{value, Each-append, joined-comparing, row_sum-IsNormal, row_sum-op, row_sum-meets}
 use Rattle.scasp_rows.proofs.Shares.{turned, share-above, share-dvd_left, share-dvd_right, size_over-times, against-times}
 use Rattle.scasp_rows.proofs.Bounds.{cancelled, solved-equation, met-rows}

@@ -1,8 +1,7 @@
 -- The rows that are chosen for the disequations, one by one.
-use Rattle.std.proofs.Common.{◌≡◌, ◌≢◌, ◌⊎◌, inl, inr, ◌↔◌, ℕ, zero, suc, ◌+◌, ◌<◌, ◌≤◌, Bool, true, false, not, ℤ, pos, negsuc, ◌+ℤ◌, ◌*ℤ◌, neg_ℤ, ◌<ℤ◌, ◌≤ℤ◌, unsigned_abs, Some, None, Option, Result, Ok, Err, List, [], ◌∷◌, ◌++◌, refl, sym, ap, subst, ◌∙◌, arith}
+use Rattle.std.proofs.Common.{◌≡◌, ◌≢◌, ◌⊎◌, inl, inr, ◌↔◌, ℕ, zero, suc, ℤ, pos, negsuc, ◌+ℤ◌, ◌*ℤ◌, ◌<ℤ◌, Some, None, Option, Result, Ok, Err, List, [], ◌∷◌, ◌++◌, refl, sym, ap, subst, ◌∙◌, arith}
 use Rattle.std.proofs.lemmas.Int.{ints}
-use Rattle.std.proofs.Math.IntN.{*ℤ_comm, *ℤ-zero, zero-*ℤ}
-use Rattle.scasp_num.specs.declared.linear.Coeff.{Coeff}
+use Rattle.std.proofs.Math.IntN.{*ℤ-zero}
 use Rattle.scasp_num.specs.declared.linear.RatPair.{RatPair}
 use Rattle.scasp_num.specs.declared.linear.Op.{Op}
 use Rattle.scasp_num.specs.declared.linear.Op.TheVariants as op
@@ -11,7 +10,7 @@ use Rattle.scasp_num.specs.Number.{Number}
 use Rattle.scasp_num.specs.Arithmetic.{◌>>=◌}
 use Rattle.scasp_num.specs.Linear.{Linear, Each, IsNormal, weighted, Compares, Meets}
 use Rattle.scasp_num.specs.Sums.{normal_of}
-use Rattle.scasp_num.proofs.Integers.{*ℤ_assoc, *ℤ-+ℤ, +ℤ-*ℤ}
+use Rattle.scasp_num.proofs.Integers.{*ℤ_assoc, *ℤ-+ℤ}
 use Rattle.scasp_num.proofs.Numbers.{some-same}
 use Rattle.scasp_num.proofs.Exact.{bind-some}
 use Rattle.scasp_num.proofs.NormalForms.{Each-map}
@@ -21,7 +20,7 @@ use Rattle.scasp_rows.specs.declared.state.Halt.TheVariants as halt
 use Rattle.scasp_rows.specs.declared.state.State.{State}
 use Rattle.scasp_rows.specs.Points.{NoDisequation}
 use Rattle.scasp_rows.specs.Steps.{whole, times}
-use Rattle.scasp_rows.specs.Elimination.{and_then, elimination}
+use Rattle.scasp_rows.specs.Elimination.{elimination}
 use Rattle.scasp_rows.specs.Samples.{strict, alternatives, unless_unsat, first_met, first_of, if_some, with_all}
 use Rattle.scasp_rows.proofs.Sums.{value, scaled, scaled-weighted, times-are, whole-times, normal_of-op, normal_of-IsNormal, Each-left, Each-right, Each-append}
 use Rattle.scasp_rows.proofs.Reaching.{false_reached}
@@ -29,8 +28,8 @@ use Rattle.scasp_rows.proofs.Soundness.{unsat_reached}
 use Rattle.scasp_rows.proofs.Completeness.{sat-values, point_by, point-meets}
 use Rattle.scasp_rows.proofs.Extending.{Each-both}
 use Rattle.scasp_rows.proofs.Pointing.{then-ok}
-use Rattle.scasp_rows.proofs.Combining.{mixed, mixed-value, mixed-above, all-mixed, nonzero-mixed, below-mixed, larger}
-use Rattle.scasp_rows.proofs.Independence.{SomeNonzero, Smaller, all-values, each-second}
+use Rattle.scasp_rows.proofs.Combining.{mixed, mixed-value, mixed-above, all-mixed, below-mixed, larger}
+use Rattle.scasp_rows.proofs.Independence.{SomeNonzero, all-values, each-second}
 
 -- ---- one alternative
 

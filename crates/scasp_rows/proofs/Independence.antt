@@ -1,37 +1,16 @@
 -- Rows and disequations: one at a time is enough, and what is chosen for each is met.
-use Rattle.std.proofs.Common.{◌≡◌, ◌≢◌, ◌⊎◌, inl, inr, ◌↔◌, ℕ, zero, suc, ◌+◌, ◌<◌, ◌≤◌, Bool, true, false, not, ℤ, pos, negsuc, ◌+ℤ◌, ◌*ℤ◌, neg_ℤ, ◌<ℤ◌, ◌≤ℤ◌, unsigned_abs, Some, None, Option, Result, Ok, Err, List, [], ◌∷◌, ◌++◌, refl, sym, ap, subst, ◌∙◌, arith}
-use Rattle.std.specs.Prelude.{if◌then◌else◌}
-use Rattle.std.proofs.lemmas.Int.{ints}
-use Rattle.std.proofs.Math.IntN.{*ℤ_comm, *ℤ-zero, zero-*ℤ}
+use Rattle.std.proofs.Common.{◌≢◌, ◌⊎◌, inl, inr, ◌↔◌, ℕ, ◌<◌, ℤ, pos, ◌+ℤ◌, ◌*ℤ◌, ◌<ℤ◌, unsigned_abs, List, [], ◌∷◌, ◌++◌, sym, subst, ◌∙◌}
 use Rattle.scasp_num.specs.declared.linear.Coeff.{Coeff}
-use Rattle.scasp_num.specs.declared.linear.RatPair.{RatPair}
 use Rattle.scasp_num.specs.declared.linear.Op.{Op}
-use Rattle.scasp_num.specs.declared.linear.Op.TheVariants as op
-use Rattle.scasp_num.specs.declared.hints.Step.{Step}
-use Rattle.scasp_num.specs.Number.{Number, IsFraction}
-use Rattle.scasp_num.specs.Arithmetic.{◌>>=◌}
-use Rattle.scasp_num.specs.Linear.{Linear, Each, IsNormal, weighted, Compares, Meets}
-use Rattle.scasp_num.specs.Values.{Holds, HaveDenominator}
-use Rattle.scasp_num.specs.Sums.{normal_of, IsTimes, AreTimes}
-use Rattle.scasp_num.proofs.Integers.{*ℤ_assoc, *ℤ-+ℤ, +ℤ-*ℤ}
-use Rattle.scasp_num.proofs.Numbers.{some-same}
-use Rattle.scasp_num.proofs.Exact.{bind-some}
-use Rattle.scasp_num.proofs.NormalForms.{Each-map}
+use Rattle.scasp_num.specs.Number.{IsFraction}
+use Rattle.scasp_num.specs.Linear.{Linear, Each, Compares, Meets}
+use Rattle.scasp_num.specs.Values.{HaveDenominator}
 use Rattle.scasp_num.proofs.Valuations.{Holds-Meets, denominator-exists}
-use Rattle.scasp_num.proofs.Wholes.{normal_of-meets}
-use Rattle.scasp_rows.specs.declared.state.Halt.{Halt}
-use Rattle.scasp_rows.specs.declared.state.Halt.TheVariants as halt
-use Rattle.scasp_rows.specs.declared.state.State.{State}
 use Rattle.scasp_rows.specs.Points.{RationalPoint, MeetsAll, IsMet, NoDisequation}
-use Rattle.scasp_rows.specs.Steps.{whole, times}
-use Rattle.scasp_rows.specs.Elimination.{and_then, elimination}
-use Rattle.scasp_rows.specs.Samples.{MeetsSome, MeetsBoth, OnlyDisequations, strict, alternatives, unless_unsat, first_met, first_of, if_some, with_all}
-use Rattle.scasp_rows.proofs.Sums.{value, scaled, scaled-weighted, times-are, whole-times, normal_of-op, normal_of-IsNormal, Each-left, Each-right, Each-append}
-use Rattle.scasp_rows.proofs.Reaching.{false_reached}
-use Rattle.scasp_rows.proofs.Soundness.{unsat_reached}
-use Rattle.scasp_rows.proofs.Completeness.{sat-values, point_by, point-denominator, point-meets}
-use Rattle.scasp_rows.proofs.Pointing.{then-ok}
-use Rattle.scasp_rows.proofs.Combining.{mixed, mixed-value, mixed-above, all-mixed, nonzero-mixed, below-mixed, larger}
+use Rattle.scasp_rows.specs.Samples.{MeetsSome, MeetsBoth, OnlyDisequations}
+use Rattle.scasp_rows.proofs.Sums.{value, Each-left, Each-right}
+use Rattle.scasp_rows.proofs.Completeness.{point_by, point-denominator, point-meets}
+use Rattle.scasp_rows.proofs.Combining.{mixed, mixed-value, mixed-above, all-mixed, nonzero-mixed, larger}
 
 -- ---- disequations under whole values
 

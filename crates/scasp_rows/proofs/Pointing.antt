@@ -1,23 +1,21 @@
 -- The point that is found meets the rows.
-use Rattle.std.proofs.Common.{◌≡◌, ◌≢◌, ◌⊎◌, inl, inr, ℕ, zero, suc, ◌+◌, ◌<◌, ◌≤◌, ◌==◌, Bool, true, false, not, ℤ, pos, negsuc, ◌+ℤ◌, ◌*ℤ◌, neg_ℤ, ◌<ℤ◌, ◌≤ℤ◌, unsigned_abs, Some, None, Option, Result, Ok, Err, List, [], ◌∷◌, ◌++◌, length, refl, sym, ap, subst, ◌∙◌, arith}
-use Rattle.std.specs.Prelude.{if◌then◌else◌, int_lt, filter, slice_get}
+use Rattle.std.proofs.Common.{◌≡◌, ◌⊎◌, inl, inr, ℕ, suc, ◌==◌, Bool, true, false, not, ℤ, pos, negsuc, ◌+ℤ◌, ◌*ℤ◌, neg_ℤ, ◌<ℤ◌, unsigned_abs, Some, None, Option, Result, Ok, Err, List, [], ◌∷◌, length, refl, sym, ap, subst, ◌∙◌, arith}
+use Rattle.std.specs.Prelude.{if◌then◌else◌, filter, slice_get}
 use Rattle.std.proofs.lemmas.Int.{ints}
 use Rattle.std.proofs.lemmas.Bool.{eqb-true, eq-eqb}
-use Rattle.std.proofs.Math.IntN.{*ℤ_comm, *ℤ-zero, zero-*ℤ, neg_ℤ-neg_ℤ}
+use Rattle.std.proofs.Math.IntN.{*ℤ_comm, neg_ℤ-neg_ℤ}
 use Rattle.scasp_num.specs.declared.linear.Coeff.{Coeff}
 use Rattle.scasp_num.specs.declared.linear.RatPair.{RatPair}
-use Rattle.scasp_num.specs.declared.linear.Op.{Op}
-use Rattle.scasp_num.specs.declared.linear.Op.TheVariants as op
 use Rattle.scasp_num.specs.declared.hints.Step.{Step}
 use Rattle.scasp_num.specs.Number.{Number, IsFraction}
 use Rattle.scasp_num.specs.Arithmetic.{◌>>=◌, sum_of, difference_of}
-use Rattle.scasp_num.specs.Linear.{Linear, Each, IsNormal, is_zero, Compares, Meets, negated_if}
+use Rattle.scasp_num.specs.Linear.{Linear, Each, IsNormal, Compares, Meets, negated_if}
 use Rattle.scasp_num.specs.Values.{Holds, HaveDenominator}
-use Rattle.scasp_num.proofs.Integers.{*ℤ_assoc, *ℤ-+ℤ, +ℤ-*ℤ, *ℤ_right_comm, *ℤ-cancel, neg-*ℤ}
+use Rattle.scasp_num.proofs.Integers.{*ℤ_assoc, +ℤ-*ℤ, *ℤ_right_comm, neg-*ℤ}
 use Rattle.scasp_num.proofs.Numbers.{times-pos, some-same, below-zero}
 use Rattle.scasp_num.proofs.Exact.{bind-some}
 use Rattle.scasp_num.proofs.Meaning.{compares-scaled}
-use Rattle.scasp_num.proofs.NormalForms.{Each-map, zero_is}
+use Rattle.scasp_num.proofs.NormalForms.{Each-map}
 use Rattle.scasp_num.proofs.Valuations.{Holds-Meets}
 use Rattle.scasp_rows.specs.declared.state.Halt.{Halt}
 use Rattle.scasp_rows.specs.declared.state.Halt.TheVariants as halt
@@ -27,16 +25,16 @@ use Rattle.scasp_rows.specs.declared.state.Standing.{Standing}
 use Rattle.scasp_rows.specs.declared.state.State.{State}
 use Rattle.scasp_rows.specs.Points.{MeetsAll, NoDisequation}
 use Rattle.scasp_rows.specs.Steps.{whole}
-use Rattle.scasp_rows.specs.Elimination.{and_then, factor, has_sign, rows_with, solves, first_equation, others, without, made_without, eliminated, variables, all_looked, elimination}
+use Rattle.scasp_rows.specs.Elimination.{and_then, factor, has_sign, rows_with, solves, first_equation, others, without, eliminated, variables, all_looked, elimination}
 use Rattle.scasp_rows.specs.Samples.{value_in, is_less, bound, between, middle, by_solution, value_for, with_value_for, values_from, point_of, solution_of}
 use Rattle.scasp_rows.proofs.Sums.{value}
 use Rattle.scasp_rows.proofs.Shares.{turned}
 use Rattle.scasp_rows.proofs.Values.{moved, zeroed, zeroed-at}
 use Rattle.scasp_rows.proofs.Reaching.{Each-at}
-use Rattle.scasp_rows.proofs.Soundness.{first_equation-solves, first_equation-each, filter-passes, Each-filter, below-nonzero, above-nonzero}
-use Rattle.scasp_rows.proofs.Forward.{Met, Became, Between, Fine, Lacks, and_then-ok, below-size, above-size}
-use Rattle.scasp_rows.proofs.Extending.{Extends, Bounding, Meeting, IsLower, IsUpper, size, extended, solves-sized, equation-extends, became-extends, between-meets, kept-extends, bounding, no-equation, by-signs, from-filter, one-sign, Each-both}
-use Rattle.scasp_rows.proofs.Completeness.{HasValues, Conditions, Among, Given, others-back, all-extended, made_without-conditions, without-made, zeroed-met, fine-none, all-among, variables-lack, all_looked-ok, given-rows}
+use Rattle.scasp_rows.proofs.Soundness.{first_equation-solves, below-nonzero, above-nonzero}
+use Rattle.scasp_rows.proofs.Forward.{Met, Became, Between, Fine, Lacks, below-size, above-size}
+use Rattle.scasp_rows.proofs.Extending.{Extends, Bounding, Meeting, IsLower, IsUpper, solves-sized, equation-extends, became-extends, between-meets, kept-extends, bounding, no-equation, from-filter, one-sign, Each-both}
+use Rattle.scasp_rows.proofs.Completeness.{Conditions, others-back, all-extended, made_without-conditions, without-made, zeroed-met, fine-none, all-among, variables-lack, all_looked-ok, given-rows}
 use Rattle.scasp_rows.proofs.Solving.{Less, AtMost, HasAll, most-less, less-most, solution-is}
 use Rattle.scasp_rows.proofs.Choosing
 use Rattle.scasp_rows.proofs.Choosing.{ExtendsTo, SolvedBy, Under, Bounds, bound-ok, lower-order, upper-order, less-is, not-less-is, plus-one, minus-one, in-middle, low-extends, high-extends, solved-zero, high-at, low-at, high-zero}

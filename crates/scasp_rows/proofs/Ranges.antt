@@ -1,12 +1,11 @@
 -- Whole numbers as bounded fractions.
-use Rattle.std.proofs.Common.{◌≡◌, ◌≢◌, ◌*ℤ◌, ℕ, suc, ◌^◌, ◌<◌, ◌≤◌, ◌/◌, Bool, true, false, nat_lt, ℤ, pos, negsuc, unsigned_abs, Some, None, Option, refl, sym, ap, subst, ◌∙◌, arith, FitsSigned}
+use Rattle.std.proofs.Common.{◌≡◌, ◌≢◌, ◌*ℤ◌, suc, ◌^◌, ◌≤◌, ◌/◌, Bool, true, false, nat_lt, ℤ, pos, negsuc, unsigned_abs, Some, None, Option, refl, sym, ap, subst, ◌∙◌, arith, FitsSigned}
 use Rattle.std.specs.Prelude.{if◌then◌else◌}
 use Rattle.std.specs.Int.{w128}
 use Rattle.std.proofs.Math.Nat.{div-one}
 use Rattle.std.proofs.Math.IntN.{zero-*ℤ}
 use Rattle.scasp_num.proofs.Exact.{lowest-exact}
 use Rattle.scasp_num.proofs.Integers.{*ℤ-cancel}
-use Rattle.std.proofs.lemmas.Int.{ints}
 use Rattle.std.proofs.lemmas.Bool.Decides.{nat_tests}
 use Rattle.scasp_num.specs.Gcd.{gcd, gcd_within}
 use Rattle.scasp_num.specs.Number.{Number}

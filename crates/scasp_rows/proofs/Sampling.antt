@@ -1,7 +1,6 @@
 -- The sample meets rows and disequations, and there is none exactly where no point meets them.
-use Rattle.std.proofs.Common.{◌≡◌, ◌≢◌, ◌⊎◌, inl, inr, ℕ, Bool, ℤ, pos, ◌<ℤ◌, Some, None, Option, Result, Ok, Err, List, [], ◌∷◌, ◌++◌, refl, sym, ap, subst, ◌∙◌}
+use Rattle.std.proofs.Common.{◌≡◌, ◌⊎◌, inl, inr, Some, None, Option, Result, Ok, Err, List, [], ◌∷◌, ◌++◌, refl, sym, ap, subst, ◌∙◌}
 use Rattle.scasp_num.specs.declared.linear.RatPair.{RatPair}
-use Rattle.scasp_num.specs.declared.linear.Op.TheVariants as op
 use Rattle.scasp_num.specs.declared.hints.Step.{Step}
 use Rattle.scasp_num.specs.Linear.{Linear, Each, IsNormal, Meets}
 use Rattle.scasp_num.specs.Values.{Holds}

@@ -1,15 +1,15 @@
 -- What two coefficients are divided by, and the multipliers that are made of them.
-use Rattle.std.proofs.Common.{◌≡◌, ◌≢◌, ℕ, zero, suc, ◌*◌, ◌/◌, ◌<◌, ◌≤◌, max, Bool, true, false, not, ℤ, pos, negsuc, ◌*ℤ◌, neg_ℤ, ◌<ℤ◌, unsigned_abs, int_div, refl, sym, ap, subst, ◌∙◌, arith}
-use Rattle.std.specs.Prelude.{if◌then◌else◌, int_lt}
+use Rattle.std.proofs.Common.{◌≡◌, ◌≢◌, ℕ, zero, suc, ◌<◌, max, Bool, true, false, not, ℤ, pos, negsuc, ◌*ℤ◌, ◌<ℤ◌, unsigned_abs, int_div, refl, sym, ap, subst, ◌∙◌, arith}
+use Rattle.std.specs.Prelude.{int_lt}
 use Rattle.std.specs.Int.{◌∣◌}
 use Rattle.std.proofs.lemmas.Int.{ints}
-use Rattle.std.proofs.Math.Nat.{le-max_right, max-eq_left, dvd_refl, eq-zero_of_zero-dvd, div-mul_cancel, one-dvd}
+use Rattle.std.proofs.Math.Nat.{le-max_right, div-mul_cancel, one-dvd}
 use Rattle.std.proofs.Math.IntN.{zero-*ℤ}
 use Rattle.scasp_num.specs.Gcd.{gcd}
-use Rattle.scasp_num.specs.Linear.{is_zero, negated_if}
+use Rattle.scasp_num.specs.Linear.{negated_if}
 use Rattle.scasp_num.proofs.Gcds.{gcd-is}
 use Rattle.scasp_num.proofs.Integers.{neg-*ℤ}
-use Rattle.scasp_num.proofs.Numbers.{unsigned_abs-pos, unsigned_abs-over, div-pos}
+use Rattle.scasp_num.proofs.Numbers.{unsigned_abs-pos, div-pos}
 use Rattle.scasp_num.proofs.Exact.{over-times}
 use Rattle.scasp_rows.specs.Elimination.{share, size_over, against}
 

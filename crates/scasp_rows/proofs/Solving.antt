@@ -1,22 +1,20 @@
 -- The number at which a row's sum is 0, and what the row compares at other numbers.
-use Rattle.std.proofs.Common.{◌≡◌, ◌≢◌, ◌⊎◌, inl, inr, ℕ, zero, suc, ◌<◌, ◌≤◌, ◌==◌, Bool, true, false, not, ℤ, pos, negsuc, ◌+ℤ◌, ◌*ℤ◌, neg_ℤ, ◌<ℤ◌, ◌≤ℤ◌, unsigned_abs, Some, None, Option, List, [], ◌∷◌, ◌++◌, refl, sym, ap, subst, ◌∙◌, arith}
-use Rattle.std.specs.Prelude.{if◌then◌else◌, int_lt}
-use Rattle.std.proofs.lemmas.Bool.{eqb-true}
+use Rattle.std.proofs.Common.{◌≡◌, ◌⊎◌, inl, inr, ℕ, ◌==◌, Bool, true, false, ℤ, pos, ◌+ℤ◌, ◌*ℤ◌, neg_ℤ, ◌<ℤ◌, ◌≤ℤ◌, Some, List, [], ◌∷◌, sym, ap, subst, ◌∙◌, arith}
+use Rattle.std.specs.Prelude.{if◌then◌else◌}
 use Rattle.std.proofs.lemmas.Int.{ints}
-use Rattle.std.proofs.Math.IntN.{*ℤ_comm, *ℤ-zero, zero-*ℤ, neg_ℤ-neg_ℤ}
+use Rattle.std.proofs.Math.IntN.{*ℤ_comm, *ℤ-zero, neg_ℤ-neg_ℤ}
 use Rattle.scasp_num.specs.declared.linear.Coeff.{Coeff}
 use Rattle.scasp_num.specs.declared.linear.RatPair.{RatPair}
-use Rattle.scasp_num.specs.declared.linear.Op.{Op}
 use Rattle.scasp_num.specs.declared.linear.Op.TheVariants as op
 use Rattle.scasp_num.specs.Number.{Number, IsFraction}
-use Rattle.scasp_num.specs.Arithmetic.{◌>>=◌, sum_of, difference_of, product_of, quotient_of, negation_of}
-use Rattle.scasp_num.specs.Linear.{Linear, Each, weighted, Compares, coefficient}
+use Rattle.scasp_num.specs.Arithmetic.{◌>>=◌, sum_of, product_of, quotient_of}
+use Rattle.scasp_num.specs.Linear.{Linear, weighted, coefficient}
 use Rattle.scasp_num.proofs.Integers.{*ℤ_assoc, *ℤ-+ℤ, +ℤ-*ℤ, *ℤ_right_comm, *ℤ-cancel, neg-*ℤ}
 use Rattle.scasp_num.proofs.Numbers.{times-pos}
-use Rattle.scasp_num.proofs.Exact.{bind-some, lowest-exact, sum_of-exact, product_of-exact, quotient_of-exact, difference_of-exact}
+use Rattle.scasp_num.proofs.Exact.{bind-some, lowest-exact, sum_of-exact, product_of-exact, quotient_of-exact}
 use Rattle.scasp_num.proofs.Meaning.{compares-scaled}
 use Rattle.scasp_rows.specs.Steps.{whole}
-use Rattle.scasp_rows.specs.Samples.{value_in, plus_product, plus_term, sum_with, over, solution_of, is_less, middle}
+use Rattle.scasp_rows.specs.Samples.{value_in, plus_product, plus_term, sum_with, over, solution_of}
 use Rattle.scasp_rows.proofs.Sums.{value}
 use Rattle.scasp_rows.proofs.Values.{zeroed}
 

@@ -1,5 +1,5 @@
 -- The steps of an elimination that ends as unsatisfiable reach a false constant row.
-use Rattle.std.proofs.Common.{◌≡◌, ◌≢◌, ℕ, zero, suc, ◌+◌, ◌<◌, Bool, true, false, not, ◌&&◌, ℤ, pos, negsuc, ◌<ℤ◌, unsigned_abs, Some, None, Option, Result, Ok, Err, List, [], ◌∷◌, ◌++◌, length, nat_lt, refl, sym, ap, subst, ◌∙◌, arith, add-one, append_assoc, append-nil, cond}
+use Rattle.std.proofs.Common.{◌≡◌, ◌≢◌, ℕ, zero, suc, ◌+◌, Bool, true, false, not, ℤ, pos, negsuc, ◌<ℤ◌, Some, None, Option, Result, Ok, Err, List, [], ◌∷◌, ◌++◌, length, nat_lt, refl, sym, ap, subst, ◌∙◌, arith, add-one, append_assoc, cond}
 use Rattle.std.specs.Prelude.{if◌then◌else◌, int_lt, slice_get, ◌||◌, filter}
 use Rattle.std.specs.List.{list_any}
 use Rattle.std.proofs.lemmas.Bool.{and_parts}
@@ -9,18 +9,16 @@ use Rattle.scasp_num.specs.declared.linear.Op.TheVariants as op
 use Rattle.scasp_num.specs.declared.hints.Step.{Step}
 use Rattle.scasp_num.specs.Arithmetic.{◌>>=◌}
 use Rattle.scasp_num.specs.Linear.{Linear, Each, is_zero}
-use Rattle.scasp_num.specs.Sums.{normal_of}
 use Rattle.scasp_num.proofs.Exact.{bind-some}
-use Rattle.scasp_num.proofs.NormalForms.{Each-map, zero_is}
+use Rattle.scasp_num.proofs.NormalForms.{Each-map}
 use Rattle.scasp_rows.specs.declared.state.Halt.{Halt}
 use Rattle.scasp_rows.specs.declared.state.Halt.TheVariants as halt
-use Rattle.scasp_rows.specs.declared.state.Sign.{Sign}
 use Rattle.scasp_rows.specs.declared.state.Sign.TheVariants as sign
 use Rattle.scasp_rows.specs.declared.state.Standing.{Standing}
 use Rattle.scasp_rows.specs.declared.state.State.{State}
 use Rattle.scasp_rows.specs.Points.{NoDisequation, is_constant, is_false}
-use Rattle.scasp_rows.specs.Steps.{joined, row_sum, may_scale, may_step, row_numbered, row_made, with_steps, ReachesFalse}
-use Rattle.scasp_rows.specs.Elimination.{and_then, looked, sum_looked, made, factor, is_equation, solves, first_equation, others, share, size_over, against, replaced, solved, has_sign, rows_with, met, paired, all_paired, by_bounds, by_equation, made_without, limited, without, eliminated, variables, all_looked, elimination, same_row}
+use Rattle.scasp_rows.specs.Steps.{row_sum, may_scale, may_step, row_numbered, row_made, with_steps, ReachesFalse}
+use Rattle.scasp_rows.specs.Elimination.{and_then, looked, sum_looked, made, factor, is_equation, solves, first_equation, others, share, size_over, against, replaced, solved, has_sign, rows_with, met, paired, all_paired, by_equation, made_without, limited, without, eliminated, variables, all_looked, elimination, same_row}
 use Rattle.scasp_rows.proofs.Sums.{Each-append, both-true, row_sum-op}
 use Rattle.scasp_rows.proofs.Shares.{share-dvd_left, share-dvd_right, size_over-above, against-nonzero}
 

@@ -1,16 +1,15 @@
 -- The sum of two rows: which values it compares, and that it is in normal form.
-use Rattle.std.proofs.Common.{◌≡◌, ◌≢◌, ◌↔◌, ℕ, Bool, true, false, not, ◌&&◌, ℤ, pos, negsuc, zero, suc, ◌+ℤ◌, ◌*ℤ◌, ◌<ℤ◌, ◌≤ℤ◌, unsigned_abs, int_div, Some, None, Option, List, [], ◌∷◌, ◌++◌, refl, sym, ap, subst, ◌∙◌, arith}
-use Rattle.std.specs.Prelude.{if◌then◌else◌, int_lt}
+use Rattle.std.proofs.Common.{◌≡◌, ◌≢◌, ◌↔◌, ℕ, Bool, true, ◌&&◌, ℤ, pos, ◌+ℤ◌, ◌*ℤ◌, ◌<ℤ◌, ◌≤ℤ◌, unsigned_abs, int_div, Some, List, [], ◌∷◌, ◌++◌, refl, sym, ap, subst, ◌∙◌, arith}
 use Rattle.std.proofs.lemmas.Bool.{and_parts}
 use Rattle.std.proofs.lemmas.Int.{ints}
-use Rattle.std.proofs.Math.IntN.{*ℤ_comm, *ℤ-zero, zero-*ℤ, +ℤ_idl, +ℤ_assoc}
+use Rattle.std.proofs.Math.IntN.{*ℤ_comm, *ℤ-zero, +ℤ_idl, +ℤ_assoc}
 use Rattle.scasp_num.specs.declared.linear.Coeff.{Coeff}
 use Rattle.scasp_num.specs.declared.linear.RatPair.{RatPair}
 use Rattle.scasp_num.specs.declared.linear.Op.{Op}
 use Rattle.scasp_num.specs.declared.linear.Op.TheVariants as op
 use Rattle.scasp_num.specs.Number.{Number, IsFraction, InRange}
 use Rattle.scasp_num.specs.Arithmetic.{◌>>=◌, sum_of}
-use Rattle.scasp_num.specs.Linear.{Linear, Each, Ascends, IsNormal, is_zero, weighted, Compares, Meets, normal_form}
+use Rattle.scasp_num.specs.Linear.{Linear, Each, Ascends, IsNormal, weighted, Compares, Meets, normal_form}
 use Rattle.scasp_num.specs.Values.{Holds, HaveDenominator}
 use Rattle.scasp_num.specs.Sums
 use Rattle.scasp_num.specs.Sums.{normal_of, summed, multiple, whole_number, IsTimes, AreTimes}

@@ -1,19 +1,17 @@
 -- Where one variable has another value; and which variables a sum of rows has.
-use Rattle.std.proofs.Common.{◌≡◌, ◌≢◌, ◌↔◌, ℕ, zero, suc, ◌<◌, ◌≤◌, ◌==◌, Bool, true, false, ℤ, pos, negsuc, ◌+ℤ◌, ◌*ℤ◌, neg_ℤ, ◌<ℤ◌, ◌≤ℤ◌, Some, List, [], ◌∷◌, ◌++◌, refl, sym, ap, subst, ◌∙◌, arith}
+use Rattle.std.proofs.Common.{◌≡◌, ◌≢◌, ◌↔◌, ℕ, zero, suc, ◌<◌, ◌≤◌, ◌==◌, Bool, true, false, ℤ, pos, negsuc, ◌+ℤ◌, ◌*ℤ◌, ◌<ℤ◌, Some, List, [], ◌∷◌, ◌++◌, refl, sym, ap, subst, ◌∙◌, arith}
 use Rattle.std.specs.Prelude.{if◌then◌else◌}
 use Rattle.std.proofs.lemmas.Bool.{eqb-true}
 use Rattle.std.proofs.lemmas.Bool.Decides.{nat_tests}
 use Rattle.std.proofs.lemmas.Int.{ints}
-use Rattle.std.proofs.Math.IntN.{*ℤ_comm, *ℤ-zero, zero-*ℤ, +ℤ_idl, +ℤ_assoc}
+use Rattle.std.proofs.Math.IntN.{*ℤ-zero, zero-*ℤ}
 use Rattle.scasp_num.specs.declared.linear.Coeff.{Coeff}
-use Rattle.scasp_num.specs.declared.linear.RatPair.{RatPair}
 use Rattle.scasp_num.specs.declared.linear.Op.{Op}
 use Rattle.scasp_num.specs.declared.linear.Op.TheVariants as op
-use Rattle.scasp_num.specs.Number.{Number}
-use Rattle.scasp_num.specs.Linear.{Linear, Each, Ascends, IsNormal, weighted, Compares, Meets, coefficient, replaced, normal_form}
-use Rattle.scasp_num.proofs.Integers.{*ℤ_assoc, *ℤ-+ℤ, +ℤ-*ℤ, *ℤ_right_comm}
+use Rattle.scasp_num.specs.Linear.{Linear, Each, Ascends, IsNormal, weighted, Compares, coefficient, replaced}
+use Rattle.scasp_num.proofs.Integers.{*ℤ_assoc, +ℤ-*ℤ}
 use Rattle.scasp_rows.specs.Steps.{joined, row_sum}
-use Rattle.scasp_rows.proofs.Sums.{value, IsSum, row_sum-IsSum, row_sum-IsNormal, row_sum-meets, normal_of-op}
+use Rattle.scasp_rows.proofs.Sums.{value, row_sum-IsSum, row_sum-IsNormal, row_sum-meets, normal_of-op}
 
 -- the values m x / d with X/e for x, over e times the denominator
 abbrev pub moved : (ℕ → ℤ) → ℤ → ℕ → ℤ → ℕ → ℤ

@@ -1,5 +1,5 @@
 -- What a sample answers.
-use Rattle.std.specs.Prelude.{◌≡◌, List, Option, Some, None, Result, Ok, Err, ⊤}
+use Rattle.std.specs.Prelude.{◌≡◌, List, Option, None, Result, Ok, Err, ⊤}
 use Rattle.scasp_num.specs.declared.linear.RatPair.{RatPair}
 use Rattle.scasp_num.specs.Linear.{Linear}
 use Rattle.scasp_rows.specs.declared.state.Halt.{Halt}

@@ -7,12 +7,8 @@ use scasp_num::{Op, Rat, RatPair, RatPairs, Row, Rows, Steps};
 use std::alloc::Global;
 use std::test::Fail;
 
-/// A row as it is written.
-struct Given {
-    terms: &'static [(u64, i128)],
-    constant: i128,
-    op: Op,
-}
+/// A row as it is written: its terms, its constant and how it compares.
+type Given = (&'static [(u64, i128)], i128, Op);
 
 enum Want {
     Row(Given),
@@ -32,385 +28,161 @@ struct Stepping {
 static STEPPINGS: [Stepping; 22] = [
     Stepping {
         a: 1,
-        p: Given {
-            terms: &[(0, 1)],
-            constant: -3,
-            op: Op::Lt,
-        },
+        p: (&[(0, 1)], -3, Op::Lt),
         b: 1,
-        q: Given {
-            terms: &[(0, -1)],
-            constant: 1,
-            op: Op::Le,
-        },
-        want: Want::Row(Given {
-            terms: &[],
-            constant: -1,
-            op: Op::Lt,
-        }),
+        q: (&[(0, -1)], 1, Op::Le),
+        want: Want::Row((&[], -1, Op::Lt)),
     },
     Stepping {
         a: -1,
-        p: Given {
-            terms: &[(0, 1)],
-            constant: -3,
-            op: Op::Lt,
-        },
+        p: (&[(0, 1)], -3, Op::Lt),
         b: 1,
-        q: Given {
-            terms: &[(0, -1)],
-            constant: 1,
-            op: Op::Le,
-        },
+        q: (&[(0, -1)], 1, Op::Le),
         want: Want::Sign,
     },
     Stepping {
         a: 1,
-        p: Given {
-            terms: &[(0, 1)],
-            constant: -3,
-            op: Op::Le,
-        },
+        p: (&[(0, 1)], -3, Op::Le),
         b: 1,
-        q: Given {
-            terms: &[(0, -1)],
-            constant: 1,
-            op: Op::Lt,
-        },
-        want: Want::Row(Given {
-            terms: &[],
-            constant: -1,
-            op: Op::Lt,
-        }),
+        q: (&[(0, -1)], 1, Op::Lt),
+        want: Want::Row((&[], -1, Op::Lt)),
     },
     Stepping {
         a: 1,
-        p: Given {
-            terms: &[(0, 1)],
-            constant: -3,
-            op: Op::Le,
-        },
+        p: (&[(0, 1)], -3, Op::Le),
         b: 1,
-        q: Given {
-            terms: &[(0, -1)],
-            constant: 3,
-            op: Op::Le,
-        },
-        want: Want::Row(Given {
-            terms: &[],
-            constant: 0,
-            op: Op::Le,
-        }),
+        q: (&[(0, -1)], 3, Op::Le),
+        want: Want::Row((&[], 0, Op::Le)),
     },
     Stepping {
         a: 2,
-        p: Given {
-            terms: &[(0, 3), (2, -1)],
-            constant: 1,
-            op: Op::Le,
-        },
+        p: (&[(0, 3), (2, -1)], 1, Op::Le),
         b: 3,
-        q: Given {
-            terms: &[(0, -2), (1, 5)],
-            constant: -4,
-            op: Op::Le,
-        },
-        want: Want::Row(Given {
-            terms: &[(1, 15), (2, -2)],
-            constant: -10,
-            op: Op::Le,
-        }),
+        q: (&[(0, -2), (1, 5)], -4, Op::Le),
+        want: Want::Row((&[(1, 15), (2, -2)], -10, Op::Le)),
     },
     Stepping {
         a: -2,
-        p: Given {
-            terms: &[(0, 1), (1, 1)],
-            constant: -1,
-            op: Op::Eq,
-        },
+        p: (&[(0, 1), (1, 1)], -1, Op::Eq),
         b: 1,
-        q: Given {
-            terms: &[(0, 2), (1, 2)],
-            constant: 3,
-            op: Op::Lt,
-        },
-        want: Want::Row(Given {
-            terms: &[],
-            constant: 1,
-            op: Op::Lt,
-        }),
+        q: (&[(0, 2), (1, 2)], 3, Op::Lt),
+        want: Want::Row((&[], 1, Op::Lt)),
     },
     Stepping {
         a: -3,
-        p: Given {
-            terms: &[(0, 2), (1, -4)],
-            constant: 1,
-            op: Op::Eq,
-        },
+        p: (&[(0, 2), (1, -4)], 1, Op::Eq),
         b: 2,
-        q: Given {
-            terms: &[(0, 3), (1, 6)],
-            constant: 5,
-            op: Op::Eq,
-        },
-        want: Want::Row(Given {
-            terms: &[(1, 24)],
-            constant: 7,
-            op: Op::Eq,
-        }),
+        q: (&[(0, 3), (1, 6)], 5, Op::Eq),
+        want: Want::Row((&[(1, 24)], 7, Op::Eq)),
     },
     Stepping {
         a: 2,
-        p: Given {
-            terms: &[(1, 1)],
-            constant: 0,
-            op: Op::Eq,
-        },
+        p: (&[(1, 1)], 0, Op::Eq),
         b: 1,
-        q: Given {
-            terms: &[(1, -1), (3, 2)],
-            constant: 3,
-            op: Op::Le,
-        },
-        want: Want::Row(Given {
-            terms: &[(1, 1), (3, 2)],
-            constant: 3,
-            op: Op::Le,
-        }),
+        q: (&[(1, -1), (3, 2)], 3, Op::Le),
+        want: Want::Row((&[(1, 1), (3, 2)], 3, Op::Le)),
     },
     Stepping {
         a: 0,
-        p: Given {
-            terms: &[(1, 1)],
-            constant: 0,
-            op: Op::Eq,
-        },
+        p: (&[(1, 1)], 0, Op::Eq),
         b: 1,
-        q: Given {
-            terms: &[(1, -1), (3, 2)],
-            constant: 3,
-            op: Op::Le,
-        },
+        q: (&[(1, -1), (3, 2)], 3, Op::Le),
         want: Want::Sign,
     },
     Stepping {
         a: 1,
-        p: Given {
-            terms: &[(1, 1)],
-            constant: 0,
-            op: Op::Ne,
-        },
+        p: (&[(1, 1)], 0, Op::Ne),
         b: 1,
-        q: Given {
-            terms: &[(1, -1), (3, 2)],
-            constant: 3,
-            op: Op::Le,
-        },
+        q: (&[(1, -1), (3, 2)], 3, Op::Le),
         want: Want::Sign,
     },
     Stepping {
         a: 1,
-        p: Given {
-            terms: &[(1, 1)],
-            constant: 0,
-            op: Op::Lt,
-        },
+        p: (&[(1, 1)], 0, Op::Lt),
         b: 0,
-        q: Given {
-            terms: &[(1, -1), (3, 2)],
-            constant: 3,
-            op: Op::Lt,
-        },
+        q: (&[(1, -1), (3, 2)], 3, Op::Lt),
         want: Want::Sign,
     },
     Stepping {
         a: 1,
-        p: Given {
-            terms: &[(1, 1)],
-            constant: 0,
-            op: Op::Lt,
-        },
+        p: (&[(1, 1)], 0, Op::Lt),
         b: -1,
-        q: Given {
-            terms: &[(1, -1), (3, 2)],
-            constant: 3,
-            op: Op::Le,
-        },
+        q: (&[(1, -1), (3, 2)], 3, Op::Le),
         want: Want::Sign,
     },
     Stepping {
         a: 2,
-        p: Given {
-            terms: &[(0, 1)],
-            constant: 0,
-            op: Op::Lt,
-        },
+        p: (&[(0, 1)], 0, Op::Lt),
         b: 1,
-        q: Given {
-            terms: &[(1, 1)],
-            constant: 0,
-            op: Op::Le,
-        },
-        want: Want::Row(Given {
-            terms: &[(0, 2), (1, 1)],
-            constant: 0,
-            op: Op::Lt,
-        }),
+        q: (&[(1, 1)], 0, Op::Le),
+        want: Want::Row((&[(0, 2), (1, 1)], 0, Op::Lt)),
     },
     Stepping {
         a: -2,
-        p: Given {
-            terms: &[(0, 1)],
-            constant: 0,
-            op: Op::Lt,
-        },
+        p: (&[(0, 1)], 0, Op::Lt),
         b: 1,
-        q: Given {
-            terms: &[(1, 1)],
-            constant: 0,
-            op: Op::Le,
-        },
+        q: (&[(1, 1)], 0, Op::Le),
         want: Want::Sign,
     },
     Stepping {
         a: 1,
-        p: Given {
-            terms: &[(0, 1)],
-            constant: 0,
-            op: Op::Lt,
-        },
+        p: (&[(0, 1)], 0, Op::Lt),
         b: 1,
-        q: Given {
-            terms: &[(0, 1)],
-            constant: 0,
-            op: Op::Le,
-        },
-        want: Want::Row(Given {
-            terms: &[(0, 1)],
-            constant: 0,
-            op: Op::Lt,
-        }),
+        q: (&[(0, 1)], 0, Op::Le),
+        want: Want::Row((&[(0, 1)], 0, Op::Lt)),
     },
     Stepping {
         a: 1,
-        p: Given {
-            terms: &[(0, 1)],
-            constant: 0,
-            op: Op::Lt,
-        },
+        p: (&[(0, 1)], 0, Op::Lt),
         b: 1,
-        q: Given {
-            terms: &[(0, -1)],
-            constant: 0,
-            op: Op::Le,
-        },
-        want: Want::Row(Given {
-            terms: &[],
-            constant: 0,
-            op: Op::Lt,
-        }),
+        q: (&[(0, -1)], 0, Op::Le),
+        want: Want::Row((&[], 0, Op::Lt)),
     },
     Stepping {
         a: 170141183460469231731687303715884105727,
-        p: Given {
-            terms: &[(0, 1)],
-            constant: 0,
-            op: Op::Lt,
-        },
+        p: (&[(0, 1)], 0, Op::Lt),
         b: 1,
-        q: Given {
-            terms: &[(0, -1)],
-            constant: 0,
-            op: Op::Le,
-        },
-        want: Want::Row(Given {
-            terms: &[(0, 1)],
-            constant: 0,
-            op: Op::Lt,
-        }),
+        q: (&[(0, -1)], 0, Op::Le),
+        want: Want::Row((&[(0, 1)], 0, Op::Lt)),
     },
     Stepping {
         a: i128::MIN,
-        p: Given {
-            terms: &[(0, 1)],
-            constant: 0,
-            op: Op::Eq,
-        },
+        p: (&[(0, 1)], 0, Op::Eq),
         b: 1,
-        q: Given {
-            terms: &[(0, -1)],
-            constant: 0,
-            op: Op::Le,
-        },
+        q: (&[(0, -1)], 0, Op::Le),
         want: Want::Overflow,
     },
     Stepping {
         a: i128::MIN,
-        p: Given {
-            terms: &[],
-            constant: 0,
-            op: Op::Eq,
-        },
+        p: (&[], 0, Op::Eq),
         b: 1,
-        q: Given {
-            terms: &[(0, -1)],
-            constant: 7,
-            op: Op::Le,
-        },
-        want: Want::Row(Given {
-            terms: &[(0, -1)],
-            constant: 7,
-            op: Op::Le,
-        }),
+        q: (&[(0, -1)], 7, Op::Le),
+        want: Want::Row((&[(0, -1)], 7, Op::Le)),
     },
     Stepping {
         a: 2,
-        p: Given {
-            terms: &[(0, 1)],
-            constant: 170141183460469231731687303715884105727,
-            op: Op::Lt,
-        },
+        p: (&[(0, 1)], 170141183460469231731687303715884105727, Op::Lt),
         b: 1,
-        q: Given {
-            terms: &[(0, -1)],
-            constant: 0,
-            op: Op::Le,
-        },
+        q: (&[(0, -1)], 0, Op::Le),
         want: Want::Overflow,
     },
     Stepping {
         a: 1,
-        p: Given {
-            terms: &[(0, 1)],
-            constant: 170141183460469231731687303715884105727,
-            op: Op::Lt,
-        },
+        p: (&[(0, 1)], 170141183460469231731687303715884105727, Op::Lt),
         b: 1,
-        q: Given {
-            terms: &[(0, -1)],
-            constant: 1,
-            op: Op::Le,
-        },
+        q: (&[(0, -1)], 1, Op::Le),
         want: Want::Overflow,
     },
     Stepping {
         a: 1,
-        p: Given {
-            terms: &[(0, 1)],
-            constant: 170141183460469231731687303715884105727,
-            op: Op::Lt,
-        },
+        p: (&[(0, 1)], 170141183460469231731687303715884105727, Op::Lt),
         b: 1,
-        q: Given {
-            terms: &[(1, -1)],
-            constant: -1,
-            op: Op::Le,
-        },
-        want: Want::Row(Given {
-            terms: &[(0, 1), (1, -1)],
-            constant: 170141183460469231731687303715884105726,
-            op: Op::Lt,
-        }),
+        q: (&[(1, -1)], -1, Op::Le),
+        want: Want::Row((
+            &[(0, 1), (1, -1)],
+            170141183460469231731687303715884105726,
+            Op::Lt,
+        )),
     },
 ];
 
@@ -426,209 +198,82 @@ struct Deciding {
     want: Decided,
 }
 
-static DECIDINGS: [Deciding; 29] = [
+static DECIDINGS: [Deciding; 24] = [
     Deciding {
-        rows: &[
-            Given {
-                terms: &[(0, 2)],
-                constant: -3,
-                op: Op::Lt,
-            },
-            Given {
-                terms: &[(0, -2)],
-                constant: 3,
-                op: Op::Lt,
-            },
-        ],
+        rows: &[(&[(0, 2)], -3, Op::Lt), (&[(0, -2)], 3, Op::Lt)],
         want: Decided::Unsat(&[(1, 2, 1, 1)]),
     },
     Deciding {
-        rows: &[
-            Given {
-                terms: &[(0, 1)],
-                constant: -3,
-                op: Op::Lt,
-            },
-            Given {
-                terms: &[(0, -1)],
-                constant: 5,
-                op: Op::Le,
-            },
-        ],
+        rows: &[(&[(0, 1)], -3, Op::Lt), (&[(0, -1)], 5, Op::Le)],
         want: Decided::Unsat(&[(1, 2, 1, 1)]),
     },
     Deciding {
-        rows: &[
-            Given {
-                terms: &[(0, -1)],
-                constant: 3,
-                op: Op::Lt,
-            },
-            Given {
-                terms: &[(0, 1)],
-                constant: -5,
-                op: Op::Lt,
-            },
-        ],
+        rows: &[(&[(0, -1)], 3, Op::Lt), (&[(0, 1)], -5, Op::Lt)],
         want: Decided::Sat,
     },
     Deciding {
         rows: &[
-            Given {
-                terms: &[(0, 85070591730234615865843651857942052864), (1, 3)],
-                constant: -1,
-                op: Op::Eq,
-            },
-            Given {
-                terms: &[(0, 5), (1, -1)],
-                constant: -2,
-                op: Op::Eq,
-            },
+            (
+                &[(0, 85070591730234615865843651857942052864), (1, 3)],
+                -1,
+                Op::Eq,
+            ),
+            (&[(0, 5), (1, -1)], -2, Op::Eq),
         ],
         want: Decided::Overflow,
     },
     Deciding {
         rows: &[
-            Given {
-                terms: &[(0, 4), (1, 3)],
-                constant: -1,
-                op: Op::Eq,
-            },
-            Given {
-                terms: &[(0, 5), (1, -1)],
-                constant: -2,
-                op: Op::Eq,
-            },
+            (&[(0, 4), (1, 3)], -1, Op::Eq),
+            (&[(0, 5), (1, -1)], -2, Op::Eq),
         ],
         want: Decided::Sat,
     },
     Deciding {
-        rows: &[
-            Given {
-                terms: &[(0, 1)],
-                constant: -3,
-                op: Op::Le,
-            },
-            Given {
-                terms: &[(0, -1)],
-                constant: 3,
-                op: Op::Le,
-            },
-        ],
+        rows: &[(&[(0, 1)], -3, Op::Le), (&[(0, -1)], 3, Op::Le)],
         want: Decided::Sat,
     },
     Deciding {
-        rows: &[
-            Given {
-                terms: &[(0, 1)],
-                constant: -3,
-                op: Op::Le,
-            },
-            Given {
-                terms: &[(0, -1)],
-                constant: 3,
-                op: Op::Lt,
-            },
-        ],
+        rows: &[(&[(0, 1)], -3, Op::Le), (&[(0, -1)], 3, Op::Lt)],
         want: Decided::Unsat(&[(1, 2, 1, 1)]),
     },
     Deciding {
         rows: &[
-            Given {
-                terms: &[(0, 1), (1, -1)],
-                constant: 0,
-                op: Op::Eq,
-            },
-            Given {
-                terms: &[(0, 1)],
-                constant: -3,
-                op: Op::Le,
-            },
-            Given {
-                terms: &[(1, 1)],
-                constant: -3,
-                op: Op::Le,
-            },
-            Given {
-                terms: &[(1, -1)],
-                constant: 4,
-                op: Op::Le,
-            },
+            (&[(0, 1), (1, -1)], 0, Op::Eq),
+            (&[(0, 1)], -3, Op::Le),
+            (&[(1, 1)], -3, Op::Le),
+            (&[(1, -1)], 4, Op::Le),
         ],
         want: Decided::Unsat(&[(1, 2, -1, 1), (1, 4, 1, 3)]),
     },
     Deciding {
         rows: &[
-            Given {
-                terms: &[(0, 1)],
-                constant: -3,
-                op: Op::Le,
-            },
-            Given {
-                terms: &[(0, 1)],
-                constant: -3,
-                op: Op::Le,
-            },
-            Given {
-                terms: &[(0, -1), (1, 1)],
-                constant: 0,
-                op: Op::Le,
-            },
-            Given {
-                terms: &[(1, -1)],
-                constant: 4,
-                op: Op::Lt,
-            },
+            (&[(0, 1)], -3, Op::Le),
+            (&[(0, 1)], -3, Op::Le),
+            (&[(0, -1), (1, 1)], 0, Op::Le),
+            (&[(1, -1)], 4, Op::Lt),
         ],
         want: Decided::Unsat(&[(1, 3, 1, 1), (1, 4, 1, 5)]),
     },
     Deciding {
         rows: &[
-            Given {
-                terms: &[],
-                constant: -1,
-                op: Op::Lt,
-            },
-            Given {
-                terms: &[],
-                constant: 0,
-                op: Op::Eq,
-            },
-            Given {
-                terms: &[],
-                constant: 0,
-                op: Op::Le,
-            },
-            Given {
-                terms: &[(2, 1)],
-                constant: 0,
-                op: Op::Lt,
-            },
+            (&[], -1, Op::Lt),
+            (&[], 0, Op::Eq),
+            (&[], 0, Op::Le),
+            (&[(2, 1)], 0, Op::Lt),
         ],
         want: Decided::Sat,
     },
     Deciding {
         rows: &[
-            Given {
-                terms: &[],
-                constant: -1,
-                op: Op::Lt,
-            },
-            Given {
-                terms: &[],
-                constant: 0,
-                op: Op::Lt,
-            },
-            Given {
-                terms: &[(0, 85070591730234615865843651857942052864), (1, 1)],
-                constant: 0,
-                op: Op::Eq,
-            },
-            Given {
-                terms: &[(0, 5), (1, -1)],
-                constant: 0,
-                op: Op::Eq,
-            },
+            (&[], -1, Op::Lt),
+            (&[], 0, Op::Lt),
+            (
+                &[(0, 85070591730234615865843651857942052864), (1, 1)],
+                0,
+                Op::Eq,
+            ),
+            (&[(0, 5), (1, -1)], 0, Op::Eq),
         ],
         want: Decided::Unsat(&[]),
     },
@@ -638,46 +283,26 @@ static DECIDINGS: [Deciding; 29] = [
     },
     Deciding {
         rows: &[
-            Given {
-                terms: &[(0, 1), (1, 1)],
-                constant: 0,
-                op: Op::Eq,
-            },
-            Given {
-                terms: &[(0, 1), (1, 1)],
-                constant: 1,
-                op: Op::Eq,
-            },
-            Given {
-                terms: &[(0, 170141183460469231731687303715884105727), (1, -1)],
-                constant: 0,
-                op: Op::Le,
-            },
-            Given {
-                terms: &[(0, 170141183460469231731687303715884105727)],
-                constant: 5,
-                op: Op::Le,
-            },
+            (&[(0, 1), (1, 1)], 0, Op::Eq),
+            (&[(0, 1), (1, 1)], 1, Op::Eq),
+            (
+                &[(0, 170141183460469231731687303715884105727), (1, -1)],
+                0,
+                Op::Le,
+            ),
+            (&[(0, 170141183460469231731687303715884105727)], 5, Op::Le),
         ],
         want: Decided::Unsat(&[(1, 2, -1, 1)]),
     },
     Deciding {
         rows: &[
-            Given {
-                terms: &[(0, 3), (1, 1)],
-                constant: 0,
-                op: Op::Eq,
-            },
-            Given {
-                terms: &[(0, 170141183460469231731687303715884105726), (1, -1)],
-                constant: 0,
-                op: Op::Le,
-            },
-            Given {
-                terms: &[(0, 3), (1, 1)],
-                constant: 1,
-                op: Op::Eq,
-            },
+            (&[(0, 3), (1, 1)], 0, Op::Eq),
+            (
+                &[(0, 170141183460469231731687303715884105726), (1, -1)],
+                0,
+                Op::Le,
+            ),
+            (&[(0, 3), (1, 1)], 1, Op::Eq),
         ],
         want: Decided::Unsat(&[
             (1, 2, -56713727820156410577229101238628035242, 1),
@@ -686,76 +311,28 @@ static DECIDINGS: [Deciding; 29] = [
     },
     Deciding {
         rows: &[
-            Given {
-                terms: &[(0, 2), (1, -3)],
-                constant: -1,
-                op: Op::Eq,
-            },
-            Given {
-                terms: &[(0, 4), (1, -1)],
-                constant: 0,
-                op: Op::Lt,
-            },
-            Given {
-                terms: &[(0, -6), (1, -1)],
-                constant: 7,
-                op: Op::Lt,
-            },
-            Given {
-                terms: &[(1, 1)],
-                constant: -1,
-                op: Op::Lt,
-            },
+            (&[(0, 2), (1, -3)], -1, Op::Eq),
+            (&[(0, 4), (1, -1)], 0, Op::Lt),
+            (&[(0, -6), (1, -1)], 7, Op::Lt),
+            (&[(1, 1)], -1, Op::Lt),
         ],
         want: Decided::Unsat(&[(1, 2, -2, 1), (1, 3, 3, 1), (1, 6, 1, 5)]),
     },
     Deciding {
         rows: &[
-            Given {
-                terms: &[(0, -3), (1, -2), (2, -3)],
-                constant: 4,
-                op: Op::Lt,
-            },
-            Given {
-                terms: &[(0, 4), (1, 1), (2, 4)],
-                constant: -4,
-                op: Op::Lt,
-            },
-            Given {
-                terms: &[(0, 1), (1, -3), (2, 4)],
-                constant: -4,
-                op: Op::Lt,
-            },
+            (&[(0, -3), (1, -2), (2, -3)], 4, Op::Lt),
+            (&[(0, 4), (1, 1), (2, 4)], -4, Op::Lt),
+            (&[(0, 1), (1, -3), (2, 4)], -4, Op::Lt),
         ],
         want: Decided::Sat,
     },
     Deciding {
         rows: &[
-            Given {
-                terms: &[(1, 1)],
-                constant: -4,
-                op: Op::Eq,
-            },
-            Given {
-                terms: &[(0, 1), (1, -1)],
-                constant: -1,
-                op: Op::Eq,
-            },
-            Given {
-                terms: &[(0, -2), (1, 1)],
-                constant: 3,
-                op: Op::Lt,
-            },
-            Given {
-                terms: &[(0, 3), (1, 6)],
-                constant: 1,
-                op: Op::Le,
-            },
-            Given {
-                terms: &[(0, -1), (1, 1)],
-                constant: -3,
-                op: Op::Lt,
-            },
+            (&[(1, 1)], -4, Op::Eq),
+            (&[(0, 1), (1, -1)], -1, Op::Eq),
+            (&[(0, -2), (1, 1)], 3, Op::Lt),
+            (&[(0, 3), (1, 6)], 1, Op::Le),
+            (&[(0, -1), (1, 1)], -3, Op::Lt),
         ],
         want: Decided::Unsat(&[
             (1, 3, 2, 2),
@@ -767,31 +344,11 @@ static DECIDINGS: [Deciding; 29] = [
     },
     Deciding {
         rows: &[
-            Given {
-                terms: &[(0, 3), (1, 2), (2, -2)],
-                constant: -3,
-                op: Op::Lt,
-            },
-            Given {
-                terms: &[(0, 3), (1, 6), (2, -2)],
-                constant: 4,
-                op: Op::Lt,
-            },
-            Given {
-                terms: &[(2, 1)],
-                constant: 1,
-                op: Op::Lt,
-            },
-            Given {
-                terms: &[(1, 2)],
-                constant: -3,
-                op: Op::Eq,
-            },
-            Given {
-                terms: &[(0, 2), (1, 6), (2, 4)],
-                constant: 1,
-                op: Op::Eq,
-            },
+            (&[(0, 3), (1, 2), (2, -2)], -3, Op::Lt),
+            (&[(0, 3), (1, 6), (2, -2)], 4, Op::Lt),
+            (&[(2, 1)], 1, Op::Lt),
+            (&[(1, 2)], -3, Op::Eq),
+            (&[(0, 2), (1, 6), (2, 4)], 1, Op::Eq),
         ],
         want: Decided::Unsat(&[
             (2, 1, -3, 5),
@@ -804,91 +361,35 @@ static DECIDINGS: [Deciding; 29] = [
     },
     Deciding {
         rows: &[
-            Given {
-                terms: &[(0, -2), (1, 1)],
-                constant: -2,
-                op: Op::Lt,
-            },
-            Given {
-                terms: &[(0, 3), (1, 3), (2, 1)],
-                constant: -1,
-                op: Op::Le,
-            },
-            Given {
-                terms: &[(1, 2)],
-                constant: 1,
-                op: Op::Lt,
-            },
-            Given {
-                terms: &[(0, -1), (1, 1), (2, -1)],
-                constant: 0,
-                op: Op::Le,
-            },
+            (&[(0, -2), (1, 1)], -2, Op::Lt),
+            (&[(0, 3), (1, 3), (2, 1)], -1, Op::Le),
+            (&[(1, 2)], 1, Op::Lt),
+            (&[(0, -1), (1, 1), (2, -1)], 0, Op::Le),
         ],
         want: Decided::Sat,
     },
     Deciding {
         rows: &[
-            Given {
-                terms: &[(0, 3), (1, 3)],
-                constant: -2,
-                op: Op::Lt,
-            },
-            Given {
-                terms: &[(1, -1)],
-                constant: 1,
-                op: Op::Lt,
-            },
-            Given {
-                terms: &[(0, 2), (1, 3)],
-                constant: 1,
-                op: Op::Eq,
-            },
+            (&[(0, 3), (1, 3)], -2, Op::Lt),
+            (&[(1, -1)], 1, Op::Lt),
+            (&[(0, 2), (1, 3)], 1, Op::Eq),
         ],
         want: Decided::Sat,
     },
     Deciding {
         rows: &[
-            Given {
-                terms: &[(1, -2)],
-                constant: 1,
-                op: Op::Lt,
-            },
-            Given {
-                terms: &[(0, -3), (1, -2)],
-                constant: 1,
-                op: Op::Lt,
-            },
-            Given {
-                terms: &[(0, 1), (1, -1)],
-                constant: 0,
-                op: Op::Le,
-            },
+            (&[(1, -2)], 1, Op::Lt),
+            (&[(0, -3), (1, -2)], 1, Op::Lt),
+            (&[(0, 1), (1, -1)], 0, Op::Le),
         ],
         want: Decided::Sat,
     },
     Deciding {
         rows: &[
-            Given {
-                terms: &[(0, 1), (2, 1)],
-                constant: 0,
-                op: Op::Eq,
-            },
-            Given {
-                terms: &[(0, 3), (1, 6)],
-                constant: -2,
-                op: Op::Lt,
-            },
-            Given {
-                terms: &[(0, 1), (1, -1)],
-                constant: 0,
-                op: Op::Eq,
-            },
-            Given {
-                terms: &[(0, 2), (1, -1), (2, 1)],
-                constant: 4,
-                op: Op::Lt,
-            },
+            (&[(0, 1), (2, 1)], 0, Op::Eq),
+            (&[(0, 3), (1, 6)], -2, Op::Lt),
+            (&[(0, 1), (1, -1)], 0, Op::Eq),
+            (&[(0, 2), (1, -1), (2, 1)], 4, Op::Lt),
         ],
         want: Decided::Unsat(&[
             (1, 2, -3, 1),
@@ -900,194 +401,21 @@ static DECIDINGS: [Deciding; 29] = [
     },
     Deciding {
         rows: &[
-            Given {
-                terms: &[(0, 1)],
-                constant: -1,
-                op: Op::Lt,
-            },
-            Given {
-                terms: &[(0, 1), (1, -1)],
-                constant: 1,
-                op: Op::Le,
-            },
-            Given {
-                terms: &[(0, 3), (1, 3)],
-                constant: 1,
-                op: Op::Eq,
-            },
-            Given {
-                terms: &[(0, 1), (1, 3), (2, -3)],
-                constant: 3,
-                op: Op::Le,
-            },
-            Given {
-                terms: &[(1, -2)],
-                constant: -1,
-                op: Op::Le,
-            },
+            (&[(0, 1)], -1, Op::Lt),
+            (&[(0, 1), (1, -1)], 1, Op::Le),
+            (&[(0, 3), (1, 3)], 1, Op::Eq),
+            (&[(0, 1), (1, 3), (2, -3)], 3, Op::Le),
+            (&[(1, -2)], -1, Op::Le),
         ],
         want: Decided::Sat,
     },
     Deciding {
         rows: &[
-            Given {
-                terms: &[(0, -2), (1, -1)],
-                constant: 2,
-                op: Op::Lt,
-            },
-            Given {
-                terms: &[(1, 2)],
-                constant: -1,
-                op: Op::Le,
-            },
-            Given {
-                terms: &[(0, 3), (1, 4)],
-                constant: -2,
-                op: Op::Eq,
-            },
+            (&[(0, -2), (1, -1)], 2, Op::Lt),
+            (&[(1, 2)], -1, Op::Le),
+            (&[(0, 3), (1, 4)], -2, Op::Eq),
         ],
         want: Decided::Sat,
-    },
-    Deciding {
-        rows: &[
-            Given {
-                terms: &[(0, 2)],
-                constant: -1,
-                op: Op::Lt,
-            },
-            Given {
-                terms: &[(0, -3)],
-                constant: -4,
-                op: Op::Lt,
-            },
-            Given {
-                terms: &[(0, 6), (1, -2), (2, 3)],
-                constant: 4,
-                op: Op::Lt,
-            },
-            Given {
-                terms: &[(0, 2), (2, -1)],
-                constant: 0,
-                op: Op::Eq,
-            },
-        ],
-        want: Decided::Sat,
-    },
-    Deciding {
-        rows: &[
-            Given {
-                terms: &[(0, -1), (1, 4)],
-                constant: 4,
-                op: Op::Lt,
-            },
-            Given {
-                terms: &[],
-                constant: -1,
-                op: Op::Lt,
-            },
-            Given {
-                terms: &[(1, 1)],
-                constant: -3,
-                op: Op::Eq,
-            },
-            Given {
-                terms: &[(0, 3)],
-                constant: 2,
-                op: Op::Le,
-            },
-        ],
-        want: Decided::Unsat(&[(3, 1, 1, 4), (1, 5, -6, 3)]),
-    },
-    Deciding {
-        rows: &[
-            Given {
-                terms: &[(0, 1), (1, -3)],
-                constant: 3,
-                op: Op::Eq,
-            },
-            Given {
-                terms: &[(0, -2), (1, -2)],
-                constant: 3,
-                op: Op::Le,
-            },
-            Given {
-                terms: &[],
-                constant: -1,
-                op: Op::Lt,
-            },
-            Given {
-                terms: &[(0, 6), (1, 4)],
-                constant: -3,
-                op: Op::Le,
-            },
-            Given {
-                terms: &[(1, 3)],
-                constant: 1,
-                op: Op::Eq,
-            },
-        ],
-        want: Decided::Unsat(&[(1, 2, 2, 1), (1, 4, -6, 1), (3, 6, 8, 5)]),
-    },
-    Deciding {
-        rows: &[
-            Given {
-                terms: &[(0, 2), (1, -1)],
-                constant: -4,
-                op: Op::Le,
-            },
-            Given {
-                terms: &[(0, 2)],
-                constant: -3,
-                op: Op::Lt,
-            },
-            Given {
-                terms: &[(0, 2), (1, 2)],
-                constant: 3,
-                op: Op::Le,
-            },
-            Given {
-                terms: &[(0, -1)],
-                constant: 2,
-                op: Op::Lt,
-            },
-        ],
-        want: Decided::Unsat(&[(2, 4, 1, 1), (2, 4, 1, 2)]),
-    },
-    Deciding {
-        rows: &[
-            Given {
-                terms: &[(1, 1)],
-                constant: 0,
-                op: Op::Lt,
-            },
-            Given {
-                terms: &[(0, 1), (1, 2), (2, 6)],
-                constant: -2,
-                op: Op::Lt,
-            },
-            Given {
-                terms: &[(0, -3), (2, 4)],
-                constant: -4,
-                op: Op::Lt,
-            },
-            Given {
-                terms: &[(0, 1), (1, 3), (2, -6)],
-                constant: -1,
-                op: Op::Eq,
-            },
-            Given {
-                terms: &[(2, -1)],
-                constant: 4,
-                op: Op::Le,
-            },
-        ],
-        want: Decided::Unsat(&[
-            (1, 2, -1, 4),
-            (1, 3, 3, 4),
-            (1, 6, 1, 1),
-            (9, 6, 1, 7),
-            (12, 5, 1, 8),
-        ]),
     },
 ];
 
@@ -1104,268 +432,97 @@ struct Sampling {
     want: Sampled,
 }
 
-static SAMPLINGS: [Sampling; 28] = [
+static SAMPLINGS: [Sampling; 26] = [
     Sampling {
-        rows: &[
-            Given {
-                terms: &[(0, -1)],
-                constant: 3,
-                op: Op::Lt,
-            },
-            Given {
-                terms: &[(0, 1)],
-                constant: -5,
-                op: Op::Lt,
-            },
-        ],
+        rows: &[(&[(0, -1)], 3, Op::Lt), (&[(0, 1)], -5, Op::Lt)],
         differ: &[],
         want: Sampled::Point(&[(0, (4, 1))]),
     },
     Sampling {
-        rows: &[
-            Given {
-                terms: &[(0, -1)],
-                constant: 3,
-                op: Op::Lt,
-            },
-            Given {
-                terms: &[(0, 1)],
-                constant: -5,
-                op: Op::Lt,
-            },
-        ],
-        differ: &[&[Given {
-            terms: &[(0, 1)],
-            constant: -4,
-            op: Op::Ne,
-        }]],
+        rows: &[(&[(0, -1)], 3, Op::Lt), (&[(0, 1)], -5, Op::Lt)],
+        differ: &[&[(&[(0, 1)], -4, Op::Ne)]],
         want: Sampled::Point(&[(0, (7, 2))]),
     },
     Sampling {
         rows: &[
-            Given {
-                terms: &[(0, 85070591730234615865843651857942052864), (1, 3)],
-                constant: -1,
-                op: Op::Eq,
-            },
-            Given {
-                terms: &[(0, 5), (1, -1)],
-                constant: -2,
-                op: Op::Eq,
-            },
+            (
+                &[(0, 85070591730234615865843651857942052864), (1, 3)],
+                -1,
+                Op::Eq,
+            ),
+            (&[(0, 5), (1, -1)], -2, Op::Eq),
         ],
         differ: &[],
         want: Sampled::Overflow,
     },
     Sampling {
         rows: &[
-            Given {
-                terms: &[(0, 4), (1, 3)],
-                constant: -1,
-                op: Op::Eq,
-            },
-            Given {
-                terms: &[(0, 5), (1, -1)],
-                constant: -2,
-                op: Op::Eq,
-            },
+            (&[(0, 4), (1, 3)], -1, Op::Eq),
+            (&[(0, 5), (1, -1)], -2, Op::Eq),
         ],
         differ: &[],
         want: Sampled::Point(&[(0, (7, 19)), (1, (-3, 19))]),
     },
     Sampling {
-        rows: &[
-            Given {
-                terms: &[(0, 1)],
-                constant: -3,
-                op: Op::Le,
-            },
-            Given {
-                terms: &[(0, -1)],
-                constant: 3,
-                op: Op::Le,
-            },
-        ],
-        differ: &[&[Given {
-            terms: &[(0, 1)],
-            constant: -3,
-            op: Op::Ne,
-        }]],
+        rows: &[(&[(0, 1)], -3, Op::Le), (&[(0, -1)], 3, Op::Le)],
+        differ: &[&[(&[(0, 1)], -3, Op::Ne)]],
         want: Sampled::None,
     },
     Sampling {
-        rows: &[
-            Given {
-                terms: &[(0, 1)],
-                constant: -3,
-                op: Op::Le,
-            },
-            Given {
-                terms: &[(0, -1)],
-                constant: 3,
-                op: Op::Le,
-            },
-        ],
-        differ: &[&[
-            Given {
-                terms: &[(0, 1)],
-                constant: -3,
-                op: Op::Ne,
-            },
-            Given {
-                terms: &[(1, 1)],
-                constant: 0,
-                op: Op::Ne,
-            },
-        ]],
+        rows: &[(&[(0, 1)], -3, Op::Le), (&[(0, -1)], 3, Op::Le)],
+        differ: &[&[(&[(0, 1)], -3, Op::Ne), (&[(1, 1)], 0, Op::Ne)]],
         want: Sampled::Point(&[(0, (3, 1)), (1, (-1, 1))]),
     },
     Sampling {
-        rows: &[
-            Given {
-                terms: &[(0, 1)],
-                constant: -3,
-                op: Op::Le,
-            },
-            Given {
-                terms: &[(0, -1)],
-                constant: 3,
-                op: Op::Le,
-            },
-        ],
+        rows: &[(&[(0, 1)], -3, Op::Le), (&[(0, -1)], 3, Op::Le)],
         differ: &[],
         want: Sampled::Point(&[(0, (3, 1))]),
     },
     Sampling {
-        rows: &[
-            Given {
-                terms: &[(0, -1)],
-                constant: 0,
-                op: Op::Le,
-            },
-            Given {
-                terms: &[(0, 1)],
-                constant: -1,
-                op: Op::Le,
-            },
-        ],
-        differ: &[
-            &[Given {
-                terms: &[(0, 1)],
-                constant: 0,
-                op: Op::Ne,
-            }],
-            &[Given {
-                terms: &[(0, 1)],
-                constant: -1,
-                op: Op::Ne,
-            }],
-        ],
+        rows: &[(&[(0, -1)], 0, Op::Le), (&[(0, 1)], -1, Op::Le)],
+        differ: &[&[(&[(0, 1)], 0, Op::Ne)], &[(&[(0, 1)], -1, Op::Ne)]],
         want: Sampled::Point(&[(0, (1, 2))]),
     },
     Sampling {
         rows: &[],
         differ: &[
-            &[Given {
-                terms: &[(3, 1)],
-                constant: -3,
-                op: Op::Ne,
-            }],
-            &[Given {
-                terms: &[(3, 1), (5, 2)],
-                constant: 1,
-                op: Op::Ne,
-            }],
+            &[(&[(3, 1)], -3, Op::Ne)],
+            &[(&[(3, 1), (5, 2)], 1, Op::Ne)],
         ],
         want: Sampled::Point(&[(3, (-2, 1)), (5, (0, 1))]),
     },
     Sampling {
-        rows: &[Given {
-            terms: &[(0, 1)],
-            constant: -3,
-            op: Op::Lt,
-        }],
+        rows: &[(&[(0, 1)], -3, Op::Lt)],
         differ: &[],
         want: Sampled::Point(&[(0, (2, 1))]),
     },
     Sampling {
-        rows: &[Given {
-            terms: &[(0, -2)],
-            constant: 3,
-            op: Op::Lt,
-        }],
+        rows: &[(&[(0, -2)], 3, Op::Lt)],
         differ: &[],
         want: Sampled::Point(&[(0, (5, 2))]),
     },
     Sampling {
-        rows: &[Given {
-            terms: &[(0, 1), (1, -1)],
-            constant: 0,
-            op: Op::Eq,
-        }],
-        differ: &[&[Given {
-            terms: &[(0, 1), (1, -1)],
-            constant: 0,
-            op: Op::Ne,
-        }]],
+        rows: &[(&[(0, 1), (1, -1)], 0, Op::Eq)],
+        differ: &[&[(&[(0, 1), (1, -1)], 0, Op::Ne)]],
         want: Sampled::None,
     },
     Sampling {
         rows: &[
-            Given {
-                terms: &[(0, 1), (1, -1)],
-                constant: 0,
-                op: Op::Le,
-            },
-            Given {
-                terms: &[(1, 1), (2, -1)],
-                constant: 0,
-                op: Op::Le,
-            },
-            Given {
-                terms: &[(0, -1), (2, 1)],
-                constant: 0,
-                op: Op::Le,
-            },
+            (&[(0, 1), (1, -1)], 0, Op::Le),
+            (&[(1, 1), (2, -1)], 0, Op::Le),
+            (&[(0, -1), (2, 1)], 0, Op::Le),
         ],
-        differ: &[&[
-            Given {
-                terms: &[(0, 1), (2, -1)],
-                constant: 0,
-                op: Op::Ne,
-            },
-            Given {
-                terms: &[(1, 1)],
-                constant: -2,
-                op: Op::Ne,
-            },
-        ]],
+        differ: &[&[(&[(0, 1), (2, -1)], 0, Op::Ne), (&[(1, 1)], -2, Op::Ne)]],
         want: Sampled::Point(&[(0, (1, 1)), (1, (1, 1)), (2, (1, 1))]),
     },
     Sampling {
-        rows: &[Given {
-            terms: &[],
-            constant: 1,
-            op: Op::Lt,
-        }],
-        differ: &[&[Given {
-            terms: &[(0, 1)],
-            constant: 0,
-            op: Op::Ne,
-        }]],
+        rows: &[(&[], 1, Op::Lt)],
+        differ: &[&[(&[(0, 1)], 0, Op::Ne)]],
         want: Sampled::None,
     },
     Sampling {
-        rows: &[Given {
-            terms: &[],
-            constant: 0,
-            op: Op::Eq,
-        }],
-        differ: &[&[Given {
-            terms: &[],
-            constant: 0,
-            op: Op::Ne,
-        }]],
+        rows: &[(&[], 0, Op::Eq)],
+        differ: &[&[(&[], 0, Op::Ne)]],
         want: Sampled::None,
     },
     Sampling {
@@ -1375,285 +532,91 @@ static SAMPLINGS: [Sampling; 28] = [
     },
     Sampling {
         rows: &[],
-        differ: &[&[Given {
-            terms: &[],
-            constant: 1,
-            op: Op::Ne,
-        }]],
+        differ: &[&[(&[], 1, Op::Ne)]],
         want: Sampled::Point(&[]),
     },
     Sampling {
         rows: &[
-            Given {
-                terms: &[(0, 170141183460469231731687303715884105727), (1, -1)],
-                constant: 0,
-                op: Op::Eq,
-            },
-            Given {
-                terms: &[(1, 170141183460469231731687303715884105727), (2, -1)],
-                constant: 0,
-                op: Op::Eq,
-            },
-            Given {
-                terms: &[(2, 1)],
-                constant: -1,
-                op: Op::Eq,
-            },
+            (
+                &[(0, 170141183460469231731687303715884105727), (1, -1)],
+                0,
+                Op::Eq,
+            ),
+            (
+                &[(1, 170141183460469231731687303715884105727), (2, -1)],
+                0,
+                Op::Eq,
+            ),
+            (&[(2, 1)], -1, Op::Eq),
         ],
         differ: &[],
         want: Sampled::Overflow,
     },
     Sampling {
         rows: &[
-            Given {
-                terms: &[(0, 1)],
-                constant: -170141183460469231731687303715884105727,
-                op: Op::Le,
-            },
-            Given {
-                terms: &[(0, -1)],
-                constant: 170141183460469231731687303715884105726,
-                op: Op::Le,
-            },
-            Given {
-                terms: &[(0, 2), (1, -2)],
-                constant: 1,
-                op: Op::Eq,
-            },
+            (&[(0, 1)], -170141183460469231731687303715884105727, Op::Le),
+            (&[(0, -1)], 170141183460469231731687303715884105726, Op::Le),
+            (&[(0, 2), (1, -2)], 1, Op::Eq),
         ],
         differ: &[],
         want: Sampled::Overflow,
     },
     Sampling {
-        rows: &[Given {
-            terms: &[(0, -1)],
-            constant: 170141183460469231731687303715884105727,
-            op: Op::Le,
-        }],
+        rows: &[(&[(0, -1)], 170141183460469231731687303715884105727, Op::Le)],
         differ: &[],
         want: Sampled::Overflow,
     },
     Sampling {
         rows: &[
-            Given {
-                terms: &[(1, 1), (2, 2)],
-                constant: -1,
-                op: Op::Lt,
-            },
-            Given {
-                terms: &[(1, 2), (2, -3)],
-                constant: 3,
-                op: Op::Le,
-            },
-            Given {
-                terms: &[(0, 2), (2, -3)],
-                constant: 2,
-                op: Op::Le,
-            },
-            Given {
-                terms: &[(0, 2), (1, 2), (2, 2)],
-                constant: -3,
-                op: Op::Eq,
-            },
+            (&[(1, 1), (2, 2)], -1, Op::Lt),
+            (&[(1, 2), (2, -3)], 3, Op::Le),
+            (&[(0, 2), (2, -3)], 2, Op::Le),
+            (&[(0, 2), (1, 2), (2, 2)], -3, Op::Eq),
         ],
-        differ: &[&[Given {
-            terms: &[(1, 2), (2, -1)],
-            constant: 2,
-            op: Op::Ne,
-        }]],
+        differ: &[&[(&[(1, 2), (2, -1)], 2, Op::Ne)]],
         want: Sampled::Point(&[(0, (19, 4)), (1, (-29, 4)), (2, (4, 1))]),
     },
     Sampling {
         rows: &[
-            Given {
-                terms: &[(0, -3), (1, 1)],
-                constant: 0,
-                op: Op::Le,
-            },
-            Given {
-                terms: &[],
-                constant: -1,
-                op: Op::Le,
-            },
-            Given {
-                terms: &[(0, 2), (1, 3)],
-                constant: 3,
-                op: Op::Eq,
-            },
-            Given {
-                terms: &[(0, -1), (1, -3)],
-                constant: -4,
-                op: Op::Lt,
-            },
+            (&[(0, -3), (1, 1)], 0, Op::Le),
+            (&[], -1, Op::Le),
+            (&[(0, 2), (1, 3)], 3, Op::Eq),
+            (&[(0, -1), (1, -3)], -4, Op::Lt),
         ],
-        differ: &[&[Given {
-            terms: &[(0, 2), (1, -1)],
-            constant: 0,
-            op: Op::Ne,
-        }]],
+        differ: &[&[(&[(0, 2), (1, -1)], 0, Op::Ne)]],
         want: Sampled::Point(&[(0, (4, 11)), (1, (-41, 33))]),
     },
     Sampling {
         rows: &[
-            Given {
-                terms: &[(0, -3), (2, -3)],
-                constant: -2,
-                op: Op::Lt,
-            },
-            Given {
-                terms: &[(0, -3), (1, 1), (2, 2)],
-                constant: -1,
-                op: Op::Le,
-            },
+            (&[(0, -3), (2, -3)], -2, Op::Lt),
+            (&[(0, -3), (1, 1), (2, 2)], -1, Op::Le),
         ],
-        differ: &[&[Given {
-            terms: &[(0, 1), (1, 1)],
-            constant: -1,
-            op: Op::Ne,
-        }]],
+        differ: &[&[(&[(0, 1), (1, 1)], -1, Op::Ne)]],
         want: Sampled::Point(&[(0, (1, 3)), (1, (0, 1)), (2, (0, 1))]),
     },
     Sampling {
         rows: &[
-            Given {
-                terms: &[],
-                constant: -1,
-                op: Op::Le,
-            },
-            Given {
-                terms: &[(0, -3), (1, -1)],
-                constant: -1,
-                op: Op::Le,
-            },
-            Given {
-                terms: &[(0, 1), (1, 1)],
-                constant: -1,
-                op: Op::Eq,
-            },
-            Given {
-                terms: &[(0, 1), (1, 2)],
-                constant: -3,
-                op: Op::Le,
-            },
+            (&[], -1, Op::Le),
+            (&[(0, -3), (1, -1)], -1, Op::Le),
+            (&[(0, 1), (1, 1)], -1, Op::Eq),
+            (&[(0, 1), (1, 2)], -3, Op::Le),
         ],
-        differ: &[&[Given {
-            terms: &[(1, 2)],
-            constant: 1,
-            op: Op::Ne,
-        }]],
+        differ: &[&[(&[(1, 2)], 1, Op::Ne)]],
         want: Sampled::Point(&[(0, (5, 2)), (1, (-3, 2))]),
     },
     Sampling {
-        rows: &[
-            Given {
-                terms: &[(0, 1), (1, -2)],
-                constant: 2,
-                op: Op::Eq,
-            },
-            Given {
-                terms: &[(0, 1)],
-                constant: 4,
-                op: Op::Lt,
-            },
-        ],
-        differ: &[&[Given {
-            terms: &[(0, 1)],
-            constant: -2,
-            op: Op::Ne,
-        }]],
+        rows: &[(&[(0, 1), (1, -2)], 2, Op::Eq), (&[(0, 1)], 4, Op::Lt)],
+        differ: &[&[(&[(0, 1)], -2, Op::Ne)]],
         want: Sampled::Point(&[(0, (-6, 1)), (1, (-2, 1))]),
     },
     Sampling {
         rows: &[
-            Given {
-                terms: &[(1, 1), (2, 2)],
-                constant: -3,
-                op: Op::Eq,
-            },
-            Given {
-                terms: &[(0, -3), (1, -2)],
-                constant: -3,
-                op: Op::Le,
-            },
-            Given {
-                terms: &[(0, 3), (2, -3)],
-                constant: 1,
-                op: Op::Le,
-            },
+            (&[(1, 1), (2, 2)], -3, Op::Eq),
+            (&[(0, -3), (1, -2)], -3, Op::Le),
+            (&[(0, 3), (2, -3)], 1, Op::Le),
         ],
-        differ: &[&[Given {
-            terms: &[(0, 1), (2, -1)],
-            constant: 0,
-            op: Op::Ne,
-        }]],
+        differ: &[&[(&[(0, 1), (2, -1)], 0, Op::Ne)]],
         want: Sampled::Point(&[(0, (13, 2)), (1, (-11, 1)), (2, (7, 1))]),
-    },
-    Sampling {
-        rows: &[
-            Given {
-                terms: &[(0, 3), (1, -2)],
-                constant: 2,
-                op: Op::Lt,
-            },
-            Given {
-                terms: &[(0, -1), (1, -2), (2, -3)],
-                constant: -3,
-                op: Op::Le,
-            },
-            Given {
-                terms: &[(1, 1), (2, -2)],
-                constant: 2,
-                op: Op::Le,
-            },
-            Given {
-                terms: &[(0, 1), (1, 3)],
-                constant: 3,
-                op: Op::Le,
-            },
-        ],
-        differ: &[&[Given {
-            terms: &[(0, 2), (2, -1)],
-            constant: 0,
-            op: Op::Ne,
-        }]],
-        want: Sampled::Point(&[(0, (-1987, 600)), (1, (-337, 400)), (2, (34, 25))]),
-    },
-    Sampling {
-        rows: &[
-            Given {
-                terms: &[(0, 1), (1, -1)],
-                constant: -1,
-                op: Op::Lt,
-            },
-            Given {
-                terms: &[(0, 3), (1, -3)],
-                constant: 4,
-                op: Op::Le,
-            },
-            Given {
-                terms: &[(1, -2)],
-                constant: 3,
-                op: Op::Le,
-            },
-            Given {
-                terms: &[(0, -3), (1, 2)],
-                constant: -4,
-                op: Op::Lt,
-            },
-        ],
-        differ: &[&[
-            Given {
-                terms: &[(1, 1)],
-                constant: -1,
-                op: Op::Ne,
-            },
-            Given {
-                terms: &[],
-                constant: 1,
-                op: Op::Ne,
-            },
-        ]],
-        want: Sampled::Point(&[(0, (3, 4)), (1, (5, 2))]),
     },
 ];
 
@@ -1674,20 +637,22 @@ fn written(alloc: Global, terms: &[(u64, i128)], constant: i128, op: Op) -> Resu
 }
 
 fn row(alloc: Global, given: &Given) -> Result<Row, Fail> {
-    written(alloc, given.terms, given.constant, given.op)
+    let (terms, constant, op) = given;
+    written(alloc, terms, *constant, *op)
 }
 
 fn is_row(row: &Row, want: &Given) -> bool {
+    let (terms, constant, op) = want;
     let coeffs = row.coeffs().as_slice();
-    if coeffs.len() != want.terms.len() {
+    if coeffs.len() != terms.len() {
         return false;
     }
-    for (k, (x, c)) in coeffs.iter().zip(want.terms) {
+    for (k, (x, c)) in coeffs.iter().zip(*terms) {
         if k.x != *x || k.c != *c {
             return false;
         }
     }
-    row.constant() == want.constant && row.op() == want.op
+    row.constant() == *constant && row.op() == *op
 }
 
 fn is_wanted(answer: &Result<Row, StepErr>, want: &Want) -> bool {

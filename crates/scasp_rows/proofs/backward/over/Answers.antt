@@ -1,6 +1,4 @@
-use Rattle.std.proofs.Common.{◌≡◌, ◌*ℤ◌, Some}
 use Rattle.std.proofs.lemmas.Int.{to_z-of_z}
-use Rattle.scasp_rows.specs.Steps.{whole}
 use Rattle.scasp_rows.proofs.Ranges.{whole-nonzero}
 use Rattle.scasp_rows.proofs.backward.over.Goals as goal
 

@@ -1,5 +1,4 @@
-use Rattle.std.proofs.Common.{◌≡◌, not}
-use Rattle.std.specs.Prelude.{◌&&◌}
+use Rattle.std.proofs.Common.{not}
 use Rattle.std.proofs.lemmas.Bool.{and_parts}
 use Rattle.scasp_num.specs.Linear.{is_zero}
 use Rattle.scasp_rows.specs.Elimination.{factor, is_equation}

@@ -1,4 +1,4 @@
-use Rattle.std.proofs.Common.{◌≡◌, ◌≢◌, ℤ, pos, refl}
+use Rattle.std.proofs.Common.{pos, refl}
 use Rattle.scasp_num.proofs.SameNumber.{same_number}
 use Rattle.scasp_rows.specs.Samples.{zero_number}
 use Rattle.scasp_rows.proofs.backward.zero.Goals as goal

@@ -1,6 +1,5 @@
-use Rattle.std.proofs.Common.{◌≡◌, drop, ◌++◌, ◌+◌, []}
-use Rattle.std.specs.Prelude.{filter, if◌then◌else◌}
-use Rattle.scasp_rows.specs.Elimination.{first_equation, others, rows_with, solved, paired, all_paired, eliminated, all_looked, placed, with_terms, variables}
+use Rattle.std.proofs.Common.{◌≡◌, drop}
+use Rattle.scasp_rows.specs.Elimination.{solved}
 use Rattle.scasp_rows.proofs.elimination.solved.Given as goal
 
 abbrev pub invariant-loop-i : goal.invariant-loop-i

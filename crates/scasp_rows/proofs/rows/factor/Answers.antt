@@ -1,5 +1,4 @@
-use Rattle.std.proofs.Common.{◌≡◌, ℤ, sym, subst, ◌∙◌, ap}
-use Rattle.std.specs.Int.{w128}
+use Rattle.std.proofs.Common.{◌≡◌, sym, subst, ◌∙◌, ap}
 use Rattle.scasp_num.specs.Linear.{coefficient}
 use Rattle.scasp_num.specs.Number.{InRange}
 use Rattle.scasp_num.proofs.Joins.{coefficient-range}

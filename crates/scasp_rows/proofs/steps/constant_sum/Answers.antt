@@ -1,9 +1,9 @@
-use Rattle.std.proofs.Common.{◌≡◌, Some, None, Option, ℤ, ◌*ℤ◌, pos, ap, ◌∙◌, arith}
+use Rattle.std.proofs.Common.{◌≡◌, Some, None, Option, ℤ, ◌*ℤ◌, ap, ◌∙◌, arith}
 use Rattle.std.proofs.lemmas.Result.{err_from_is_err_and}
 use Rattle.scasp_num.specs.Arithmetic.{◌>>=◌, sum_of}
 use Rattle.scasp_num.specs.Number.{Number}
 use Rattle.scasp_num.proofs.Numbers.{plain}
-use Rattle.scasp_rows.specs.Steps.{whole, constant_sum}
+use Rattle.scasp_rows.specs.Steps.{whole}
 use Rattle.scasp_rows.proofs.steps.constant_sum.Goals as goal
 
 sum-none : (x y z w : ℤ) (left right : Number) → x ≡ z → y ≡ w → Some left ≡ whole x → Some right ≡ whole y → None ≡ sum_of left right → None ≡ (whole z >>= (λ left. whole w >>= (λ right. sum_of left right)))

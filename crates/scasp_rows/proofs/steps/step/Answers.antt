@@ -1,9 +1,6 @@
-use Rattle.std.proofs.Common.{◌≡◌, Bool, true, ℤ, Some, subst, sym, ◌∙◌, to_z, of_z}
-use Rattle.std.specs.Int.{w128}
-use Rattle.std.specs.Prelude.{◌&&◌}
+use Rattle.std.proofs.Common.{◌≡◌, true, sym, ◌∙◌}
 use Rattle.std.proofs.lemmas.Int.{to_z-of_z}
-use Rattle.scasp_num.specs.declared.linear.Op.{Op}
-use Rattle.scasp_rows.specs.Steps.{row_sum, may_scale, may_step}
+use Rattle.scasp_rows.specs.Steps.{may_scale}
 use Rattle.scasp_rows.proofs.Sums.{step-holds, both-true}
 use Rattle.scasp_rows.proofs.steps.step.Goals as goal
 

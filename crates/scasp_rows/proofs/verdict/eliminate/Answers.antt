@@ -1,13 +1,10 @@
-use Rattle.std.proofs.Common.{◌≡◌, Result, Ok, Err, List, refl, sym, subst, ◌∙◌, ap}
+use Rattle.std.proofs.Common.{◌≡◌, Ok, Err, List, refl, sym, subst, ◌∙◌, ap}
 use Rattle.scasp_num.specs.declared.hints.Step.{Step}
 use Rattle.scasp_num.specs.Linear.{Linear, Each, IsNormal}
 use Rattle.scasp_rows.specs.declared.state.Halt.{Halt}
 use Rattle.scasp_rows.specs.declared.state.Halt.TheVariants as halt
 use Rattle.scasp_rows.specs.declared.state.State.{State}
-use Rattle.scasp_rows.specs.declared.verdict.Verdict.{Verdict}
-use Rattle.scasp_rows.specs.declared.verdict.Verdict.TheVariants as verdict
-use Rattle.scasp_rows.specs.Points.{IsMet, NoDisequation}
-use Rattle.scasp_rows.specs.Steps.{ReachesFalse}
+use Rattle.scasp_rows.specs.Points.{IsMet}
 use Rattle.scasp_rows.specs.Elimination.{Ends, elimination}
 use Rattle.scasp_rows.proofs.Reaching.{false_reached}
 use Rattle.scasp_rows.proofs.Soundness.{unsat_reached}
