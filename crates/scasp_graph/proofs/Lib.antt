@@ -3,6 +3,7 @@ pub mod CheckedLemmas
 pub mod ComponentLemmas
 pub mod EntryLemmas
 pub mod GraphLemmas
+pub mod KeyLemmas
 pub mod LevelLemmas
 pub mod MapLemmas
 pub mod ReachLemmas

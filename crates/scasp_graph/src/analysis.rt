@@ -4,13 +4,14 @@ ghost use Rattle.std.specs.List.{flat_map, list_any};
 ghost use Rattle.scasp_syntax.specs.Programs.{pred_of, body_preds, predicates};
 ghost use Rattle.scasp_graph.specs.Analyses.{IsAnalysis};
 ghost use Rattle.scasp_graph.specs.Components.{turned, root_of};
-ghost use Rattle.scasp_graph.specs.Numbering.{place_in, numbered_edge, root_in, entry_at, entries_from, is_odd_body, odd_from};
+ghost use Rattle.scasp_graph.specs.Numbering.{numbered_edge, root_in, entry_at, entries_from, is_odd_body, odd_from};
 ghost use Rattle.scasp_graph.specs.Walks.{item_dependencies, clause_dependencies, dependencies};
 
 use crate::components::{Member, find_components};
 use crate::graph::{Edge, Graph};
 use crate::levels::{find_levels, find_odd};
-use crate::occurrences::{Preds, predicates, same_pred};
+use crate::numbering::{Numbering, Preds};
+use crate::occurrences::number;
 use scasp_name::Memory;
 use scasp_syntax::{
     Atom, Clause, Item, Items, Pred, PredMap, PredMaps, Program, RuleList, Sequence,
@@ -30,28 +31,21 @@ pub struct Analysis {
     pub map: PredMaps,
 }
 
-/// The first place of the predicate, or the length of the list.
-fn place_in(preds: &Preds, pred: &Pred) -> usize
-    ensures { result ≡ place_in preds.now pred.now }
-{
-    for (place, other) in preds.as_slice().iter().enumerate() {
-        if same_pred(pred, other) {
-            return place;
-        }
-    }
-    preds.len()
-}
-
 /// Puts an edge at the end for each literal of a rule's body.
-fn push_edges(preds: &Preds, head: &Atom, body: &Items, edges: &mut Vec<Edge>) -> Result<(), Memory>
+fn push_edges(
+    preds: &Numbering,
+    head: &Atom,
+    body: &Items,
+    edges: &mut Vec<Edge>,
+) -> Result<(), Memory>
     ensures { OnOk result (edges.new.items ≡ edges.old.items ++ map (numbered_edge preds.now) (flat_map (item_dependencies (pred_of head.now)) body.now)) }
 {
-    let from = place_in(preds, &head.pred());
+    let from = preds.place(&head.pred());
     for item in body.as_slice() {
         match item {
             Item::Call(literal) => edges.push(Edge {
                 from,
-                to: place_in(preds, &literal.atom.pred()),
+                to: preds.place(&literal.atom.pred()),
                 negated: !literal.positive,
             })?,
             Item::Equal(_, _) | Item::Differ(_, _) | Item::Linear(_) => {}
@@ -61,7 +55,7 @@ fn push_edges(preds: &Preds, head: &Atom, body: &Items, edges: &mut Vec<Edge>) -
 }
 
 /// The edges of the program between the places of its predicates.
-fn edges_of(alloc: Global, program: &Program, preds: &Preds) -> Result<Vec<Edge>, Memory>
+fn edges_of(alloc: Global, program: &Program, preds: &Numbering) -> Result<Vec<Edge>, Memory>
     ensures { IfOk result (λ edges. edges.items ≡ map (numbered_edge preds.now) (dependencies program.now)) }
 {
     let mut edges = Vec::new(alloc);
@@ -89,10 +83,10 @@ fn turned(alloc: Global, edges: &[Edge]) -> Result<Vec<Edge>, Memory>
 }
 
 /// The root of the predicate's component.
-fn root_in(preds: &Preds, members: &[Member], pred: &Pred) -> usize
+fn root_in(preds: &Numbering, members: &[Member], pred: &Pred) -> usize
     ensures { result ≡ root_in preds.now members.now pred.now }
 {
-    match members.get(place_in(preds, pred)) {
+    match members.get(preds.place(pred)) {
         Some(member) => member.root,
         None => 0,
     }
@@ -109,7 +103,7 @@ fn is_odd(odd: &[bool], root: usize) -> bool
 }
 
 /// Whether a predicate of the body is in the component of this root.
-fn has_root(preds: &Preds, members: &[Member], root: usize, body: &Items) -> bool
+fn has_root(preds: &Numbering, members: &[Member], root: usize, body: &Items) -> bool
     ensures { result ≡ list_any (λ q. nat_eq (root_in preds.now members.now q) root) (body_preds body.now) }
 {
     for item in body.as_slice() {
@@ -126,7 +120,7 @@ fn has_root(preds: &Preds, members: &[Member], root: usize, body: &Items) -> boo
 }
 
 /// Whether the clause is a rule in an odd component with a predicate of that component in its body.
-fn is_odd_clause(preds: &Preds, members: &[Member], odd: &[bool], clause: &Clause) -> bool
+fn is_odd_clause(preds: &Numbering, members: &[Member], odd: &[bool], clause: &Clause) -> bool
     ensures { result ≡ is_odd_body preds.now members.now odd.now clause.now.head clause.now.body }
 {
     match &clause.head {
@@ -142,7 +136,7 @@ fn is_odd_clause(preds: &Preds, members: &[Member], odd: &[bool], clause: &Claus
 fn odd_rules_of(
     alloc: Global,
     program: &Program,
-    preds: &Preds,
+    preds: &Numbering,
     members: &[Member],
     odd: &[bool],
 ) -> Result<RuleList, Memory>
@@ -198,14 +192,15 @@ fn map_of(
 pub fn analyse(alloc: Global, program: &Program) -> Result<Analysis, Memory>
     ensures { IfOk result (λ a. IsAnalysis program.now a) }
 {
-    let preds = predicates(alloc, program)?;
-    let edges = edges_of(alloc, program, &preds)?;
+    let numbers = number(alloc, program)?;
+    let preds = numbers.predicates(alloc)?;
+    let edges = edges_of(alloc, program, &numbers)?;
     let behind = Graph::new(alloc, preds.len(), turned(alloc, &edges)?)?;
     let ahead = Graph::new(alloc, preds.len(), edges)?;
     let members = find_components(alloc, &ahead, &behind)?;
     let levels = find_levels(alloc, &ahead.edges, &members)?;
     let odd = find_odd(alloc, &ahead.edges, &members)?;
-    let odd_rules = odd_rules_of(alloc, program, &preds, &members, &odd)?;
+    let odd_rules = odd_rules_of(alloc, program, &numbers, &members, &odd)?;
     let map = map_of(alloc, &preds, &members, &levels, &odd)?;
     Ok(Analysis { odd_rules, map })
 }
