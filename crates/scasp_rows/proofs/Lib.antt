@@ -16,3 +16,4 @@ pub mod Combining
 pub mod Independence
 pub mod Greedy
 pub mod Sampling
+pub mod Fitting

@@ -17,7 +17,7 @@ use Rattle.scasp_rows.proofs.Sums.{value, row_sum-IsSum, row_sum-IsNormal, row_s
 abbrev pub moved : (ℕ → ℤ) → ℤ → ℕ → ℤ → ℕ → ℤ
 moved m e x z = replaced (λ y. m y *ℤ e) x z
 
-coefficient-absent : (x z : ℕ) (ks : List Coeff) → x ≤ z → Each (λ j. z < j.x) ks → coefficient x ks ≡ pos 0
+pub coefficient-absent : (x z : ℕ) (ks : List Coeff) → x ≤ z → Each (λ j. z < j.x) ks → coefficient x ks ≡ pos 0
 coefficient-absent x z [] h a = refl
 coefficient-absent x z (k ∷ ks) h a = by (k.x == x) refl (coefficient-absent x z ks h a.1)
   where

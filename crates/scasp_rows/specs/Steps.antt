@@ -1,5 +1,5 @@
 -- The sum of two rows with multipliers, and lists of such steps.
-use Rattle.std.specs.Prelude.{◌≡◌, ℕ, zero, suc, Bool, true, false, ◌&&◌, not, if◌then◌else◌, ℤ, pos, ◌*ℤ◌, int_lt, List, [], ◌∷◌, ◌++◌, slice_get, Option, Some, None, Result, Ok, Err, ⊤}
+use Rattle.std.specs.Prelude.{◌≡◌, ℕ, zero, suc, Bool, true, false, ◌&&◌, not, if◌then◌else◌, ℤ, pos, ◌+ℤ◌, ◌*ℤ◌, int_lt, List, [], ◌∷◌, ◌++◌, slice_get, Option, Some, None, Result, Ok, Err, ⊤}
 use Rattle.std.specs.List.{list_any}
 use Rattle.scasp_num.specs.declared.linear.Coeff.{Coeff}
 use Rattle.scasp_num.specs.declared.linear.RatPair.{RatPair}
@@ -10,7 +10,7 @@ use Rattle.scasp_num.specs.declared.linear.RowErr.TheVariants as row_err
 use Rattle.scasp_num.specs.declared.hints.Step.{Step}
 use Rattle.scasp_num.specs.Number.{Number}
 use Rattle.scasp_num.specs.Arithmetic.{◌>>=◌, lowest, sum_of}
-use Rattle.scasp_num.specs.Linear.{Linear, is_zero}
+use Rattle.scasp_num.specs.Linear.{Linear, is_zero, coefficient}
 use Rattle.scasp_num.specs.Sums.{normal_of}
 use Rattle.scasp_rows.specs.declared.steps.StepErr.{StepErr}
 use Rattle.scasp_rows.specs.declared.steps.StepErr.TheVariants as err
@@ -57,6 +57,25 @@ row_sum a p b q = do
   terms ← terms_sum a p b q
   constant ← constant_sum a p b q
   normal_of terms constant (joined p.op q.op)
+
+-- ---- the integers that a sum of two rows forms: it is made exactly where all of them lie in range
+
+abbrev pub products : ℤ → List Coeff → List ℤ
+products a [] = []
+products a (k ∷ ks) = (a *ℤ k.c) ∷ products a ks
+
+-- the sum of the two products of each variable of the second list
+abbrev pub sums_with : ℤ → List Coeff → ℤ → List Coeff → List ℤ
+sums_with a ks b [] = []
+sums_with a ks b (j ∷ js) = (a *ℤ coefficient j.x ks +ℤ b *ℤ j.c) ∷ sums_with a ks b js
+
+abbrev pub step_integers : ℤ → Linear → ℤ → Linear → List ℤ
+step_integers a p b q =
+    let left = a *ℤ p.constant in
+    let right = b *ℤ q.constant in
+    products a p.coeffs ++ products b q.coeffs ++ sums_with a p.coeffs b q.coeffs ++ left ∷ right ∷ (left +ℤ right) ∷ []
+
+-- ---- steps
 
 -- a row may be multiplied so: an equation by any number but 0, an inequality by those above 0
 abbrev pub may_scale : ℤ → Op → Bool

@@ -31,9 +31,9 @@ fn with_row(mut state: State, r: Standing) -> Result<State, Memory>
     Ok(state)
 }
 
-#[tactic(auto, using(crate::proofs::Lists::appended))]
 /// Looks at a new row: a false constant row ends the elimination; a true one is dropped, and so is one that
 /// stands already, among those so far or in `later`.
+#[tactic(auto, using(crate::proofs::Lists::appended))]
 fn looked(state: State, r: Standing, later: &[Standing]) -> Result<State, Halt>
     ensures { Ends result (looked r later.now state) }
 {

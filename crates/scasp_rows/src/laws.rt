@@ -1,12 +1,14 @@
 //! Laws of the definitions, as functions that do nothing.
-ghost use Rattle.std.specs.Prelude.{◌≡◌, ◌↔◌, List, Ok, Err};
+ghost use Rattle.std.specs.Prelude.{◌≡◌, ◌↔◌, ℤ, true, is_some, List, Ok, Err};
 ghost use Rattle.scasp_num.specs.declared.hints.Step.{Step};
 ghost use Rattle.scasp_num.specs.declared.linear.RatPair.{RatPair};
 ghost use Rattle.scasp_num.specs.Linear.{Each, IsNormal, Linear};
 ghost use Rattle.scasp_rows.specs.Points.{IsMet, MeetsAll, NoDisequation, RationalPoint};
-ghost use Rattle.scasp_rows.specs.Steps.{ReachesFalse};
+ghost use Rattle.std.specs.List.{list_all};
+ghost use Rattle.scasp_num.specs.Arithmetic.{in_range};
+ghost use Rattle.scasp_rows.specs.Steps.{ReachesFalse, row_sum, step_integers};
 ghost use Rattle.scasp_rows.specs.Elimination.{elimination};
-ghost use Rattle.scasp_rows.specs.Samples.{MeetsBoth, MeetsSome, OnlyDisequations, point_of, value_in};
+ghost use Rattle.scasp_rows.specs.Samples.{MeetsBoth, alternatives, MeetsSome, OnlyDisequations, point_of, value_in};
 ghost use Rattle.scasp_rows.specs.declared.state.Halt.TheVariants as halts;
 ghost use Rattle.scasp_rows.specs.declared.state.State.{State};
 
@@ -36,4 +38,14 @@ pub fn point_met()
 pub fn one_at_a_time()
     ensures { (rows : List Linear) (differ : List (List Linear)) → NoDisequation rows → Each OnlyDisequations differ → ((v : RationalPoint) × MeetsBoth v rows differ)
         ↔ (IsMet rows × Each (λ parts. (v : RationalPoint) × MeetsAll v rows × MeetsSome v parts) differ) }
+{}
+
+/// The sum of two rows with multipliers is made exactly where all its products and sums lie in range.
+pub fn sum_fits()
+    ensures { (a b : ℤ) (p q : Linear) → IsNormal p → IsNormal q → is_some (row_sum a p b q) ≡ list_all in_range (step_integers a p b q) }
+{}
+
+/// Each part of a disequation, in normal form, has its rows below and above 0: their numbers lie in range.
+pub fn alternatives_made()
+    ensures { (parts : List Linear) → Each IsNormal parts → is_some (alternatives parts) ≡ true }
 {}

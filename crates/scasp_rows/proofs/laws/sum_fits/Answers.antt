@@ -1,0 +1,5 @@
+use Rattle.scasp_rows.proofs.Fitting.{sum_fits}
+use Rattle.scasp_rows.proofs.laws.sum_fits.Goals as goal
+
+pub returns : goal.returns
+returns c = sum_fits
