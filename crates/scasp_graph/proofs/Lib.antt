@@ -6,7 +6,8 @@ pub mod GraphLemmas
 pub mod KeyLemmas
 pub mod LevelLemmas
 pub mod MapLemmas
-pub mod ReachLemmas
 pub mod NumberingLemmas
 pub mod PredLemmas
+pub mod ReachLemmas
+pub mod UniqueLemmas
 pub mod WalkLemmas

@@ -23,3 +23,9 @@ pub fn analysed_map_holds()
 pub fn walks_join()
     ensures { (p : ThisProgram) (q r s : ThisPred) (b c : Bool) → Walk (Depends p) q r b → Walk (Depends p) r s c → Walk (Depends p) q s (not (same_bool b c)) }
 {}
+
+/// A program has one analysis: what is said of it leaves no choice.
+pub fn analyses_agree()
+    ensures rules { (p : ThisProgram) (a b : ThisAnalysis) → IsAnalysis p a → IsAnalysis p b → a.odd_rules ≡ b.odd_rules }
+    ensures maps { (p : ThisProgram) (a b : ThisAnalysis) → IsAnalysis p a → IsAnalysis p b → a.map ≡ b.map }
+{}
