@@ -6,6 +6,7 @@ ghost use Rattle.std.specs.Coded.{Π_prop, →_prop};
 ghost use Rattle.scasp_system.specs.Standing.{StandsAt, StandsAt-prop};
 
 use crate::opener::Opener;
+use crate::retrying::read_retrying;
 use scasp_io::{Failed, Files};
 use std::alloc::Global;
 use std::io;
@@ -43,7 +44,7 @@ fn skip<R: Read>(file: &mut R, count: u64) -> io::Result<()>
     let mut left = count;
     while left > 0 {
         let wanted = left.min(CHUNK as u64) as usize;
-        let given = file.read(&mut bytes[..wanted])?;
+        let given = read_retrying(file, &mut bytes[..wanted])?;
         if given == 0 {
             break;
         }
@@ -93,7 +94,7 @@ impl<S: Opener> SystemFiles<S> {
         ensures faults { self.new.faults ≡ self.old.faults }
     {
         let mut open = self.file_at(name, at)?;
-        let count = open.file.read(buffer)?;
+        let count = read_retrying(&mut open.file, buffer)?;
         if let Some(next) = at.checked_add(count as u64) {
             open.at = next;
             self.current = Some(open);

@@ -4,6 +4,7 @@
 mod files;
 mod host;
 mod opener;
+mod retrying;
 mod sink;
 #[cfg(test)]
 mod tests;

@@ -4,6 +4,7 @@ ghost use Rattle.std.specs.Io.KnownBytes.{WriteAppends};
 ghost use Rattle.scasp_io.specs.Bytes.{behind};
 ghost use Rattle.scasp_io.specs.Counts.{Rose};
 
+use crate::retrying::write_retrying;
 use scasp_io::{Failed, Sink};
 use std::io::Write;
 
@@ -37,7 +38,7 @@ impl<W: Write + Drop> Sink for SystemSink<W> {
         ensures counts { self.old.faults ≤ self.new.faults }
         ensures passes { WriteAppends (W.contents self.old.writer) (W.contents self.new.writer) result bytes.now }
     {
-        match self.writer.write(bytes) {
+        match write_retrying(&mut self.writer, bytes) {
             Ok(count) if count > 0 || bytes.is_empty() => Ok(count),
             _ => {
                 self.faults = self.faults.saturating_add(1);

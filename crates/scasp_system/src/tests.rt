@@ -28,7 +28,7 @@ impl<'a> Opener for OneFile<'a> {
     }
 }
 
-/// Bytes of which a read gives three at most, and the second read of a file fails.
+/// Bytes of which a read gives three at most; the first read of a file is interrupted, and the third fails.
 #[derive(Drop)]
 struct Stutter<'a> {
     left: &'a [u8],
@@ -38,7 +38,10 @@ struct Stutter<'a> {
 impl Read for Stutter<'_> {
     fn read(&mut self, buffer: &mut [u8]) -> io::Result<usize> {
         self.reads = self.reads.saturating_add(1);
-        if self.reads == 2 {
+        if self.reads == 1 {
+            return Err(io::Error::from(io::ErrorKind::Interrupted));
+        }
+        if self.reads == 3 {
             return Err(io::Error::from(io::ErrorKind::Other));
         }
         let most = buffer.len().min(3);
@@ -140,15 +143,20 @@ fn a_read_that_fails_is_counted(rt: HostRuntime) -> Result<(), Fail> {
     Ok(())
 }
 
-/// A writer that takes so many bytes a call at most.
+/// A writer that takes so many bytes a call at most, and whose first write is interrupted.
 #[derive(Drop)]
 struct Narrow {
     taken: Vec<u8>,
     most: usize,
+    is_interrupted: bool,
 }
 
 impl Write for Narrow {
     fn write(&mut self, bytes: &[u8]) -> io::Result<usize> {
+        if !self.is_interrupted {
+            self.is_interrupted = true;
+            return Err(io::Error::from(io::ErrorKind::Interrupted));
+        }
         let count = bytes.len().min(self.most);
         self.taken.extend_from_slice(&bytes[..count])?;
         Ok(count)
@@ -170,6 +178,7 @@ fn writes_all_or_counts_a_fault(rt: HostRuntime) -> Result<(), Fail> {
         let mut sink = SystemSink::new(Narrow {
             taken: Vec::new(rt.alloc()),
             most,
+            is_interrupted: false,
         });
         assert_eq!(rt; write_all(&mut sink, b"abcdefg"), want, "{most}");
         assert_eq!(rt; sink.writer.taken.as_slice(), taken, "{most}");
