@@ -2,6 +2,8 @@
 #![tactic(auto)]
 
 mod bounded;
+mod comparison;
+mod equality;
 pub mod hints;
 pub mod laws;
 pub mod linear;

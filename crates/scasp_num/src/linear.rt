@@ -62,9 +62,9 @@ impl Model for Row {
 
 impl Row {
     ghost use Rattle.std.specs.Prelude.{◌↔◌, ℕ, ℤ, IfOk, Option, pos, ◌<ℤ◌, ◌+ℤ◌, ◌*ℤ◌, ◌≢◌, List};
-    ghost use Rattle.scasp_num.specs.Linear.{IsNormal, Meets, Compares, weighted, negation, put_of, join_of, Gives, replaced};
+    ghost use Rattle.scasp_num.specs.Linear.{IsNormal, Meets, Compares, weighted, negation, put_of, join_of, Gives, replaced, coefficient};
     ghost use Rattle.scasp_num.specs.Sums.{normal_of, IsTimes, AreTimes};
-    ghost use Rattle.scasp_num.specs.Number.{Number};
+    ghost use Rattle.scasp_num.specs.Number.{InRange, Number};
     ghost use Rattle.scasp_num.specs.Values.{Holds, with_value};
     ghost use Rattle.scasp_num.specs.declared.linear.Coeff.{Coeff};
 
@@ -163,6 +163,14 @@ impl Row {
         ensures normal { IsNormal self.now }
     {
         &self.coeffs
+    }
+
+    /// The coefficient of `x`; 0 where the row does not have it.
+    pub fn coefficient(&self, x: u64) -> i128
+        ensures value { result ≡ coefficient x self.now.coeffs }
+        ensures range { InRange result }
+    {
+        coefficient(self.coeffs().as_slice(), x)
     }
 
     pub fn constant(&self) -> i128
