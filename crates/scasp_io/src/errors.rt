@@ -1,13 +1,8 @@
 ghost use Rattle.std.specs.Prelude.{◌≡◌};
 ghost use Rattle.scasp_io.specs.declared.errors.ReadErr.TheVariants as read_err;
 
-use std::alloc::{AllocError, AllocFailed};
+use std::alloc::AllocError;
 use thiserror::Error;
-
-/// Want of memory.
-#[derive(Clone, Copy, Debug, PartialEq, Eq, Error)]
-#[error("out of memory")]
-pub struct Memory;
 
 /// One read or one write failed, and the object counted the fault.
 #[derive(Clone, Copy, Debug, PartialEq, Eq, Error)]
@@ -28,18 +23,6 @@ pub enum ReadErr {
     TooLong,
     #[error("out of memory")]
     Memory,
-}
-
-impl From<AllocError> for Memory {
-    fn from(_error: AllocError) -> Memory {
-        Memory
-    }
-}
-
-impl<T: Drop> From<AllocFailed<T>> for Memory {
-    fn from(_error: AllocFailed<T>) -> Memory {
-        Memory
-    }
 }
 
 impl From<Failed> for SinkFault {

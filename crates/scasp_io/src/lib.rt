@@ -12,10 +12,11 @@ mod sure;
 mod tests;
 mod whole;
 
-pub use errors::{Failed, Memory, ReadErr, SinkFault};
-pub use lists::{Bytes, CallList, ItemList, MemFile, MemFileList};
+pub use errors::{Failed, ReadErr, SinkFault};
+pub use lists::{Bytes, CallList, MemFile, MemFileList};
 pub use memory_files::MemFiles;
 pub use memory_sink::MemSink;
 pub use outside::{Files, Sink};
+pub use scasp_list::Memory;
 pub use sure::{SureFiles, SureSink, read_sure, write_sure};
 pub use whole::{read_file, write_all};

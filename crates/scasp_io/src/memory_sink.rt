@@ -1,8 +1,9 @@
 ghost use Rattle.std.specs.Prelude.{◌≤◌, vec_len, vec_capacity};
 
-use crate::errors::{Failed, Memory};
+use crate::errors::Failed;
 use crate::lists::CallList;
 use crate::outside::Sink;
+use scasp_list::Memory;
 use std::alloc::Global;
 
 /// A sink in memory, for tests. It takes at most `chunk` bytes a call and `room` bytes in all.

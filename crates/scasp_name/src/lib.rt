@@ -5,10 +5,9 @@
 #![tactic(auto)]
 
 pub mod laws;
-mod memory;
 mod name_id;
 mod names;
 
-pub use memory::Memory;
 pub use name_id::{NIL, NameId, PAIR};
 pub use names::Names;
+pub use scasp_list::Memory;

@@ -11,3 +11,5 @@ pub mod Wholes
 pub mod Valuations
 pub mod SameNumber
 pub mod Placing
+pub mod Comparing
+pub mod SameRows

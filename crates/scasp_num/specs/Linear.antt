@@ -71,11 +71,25 @@ abbrev pub weighted : (ℕ → ℤ) → List Coeff → ℤ
 weighted m [] = pos 0
 weighted m (k ∷ ks) = k.c *ℤ m k.x +ℤ weighted m ks
 
+-- the integer compares so with 0
 abbrev pub Compares : Op → ℤ → Type 0
 Compares op.Eq z = z ≡ pos 0
 Compares op.Lt z = z <ℤ pos 0
 Compares op.Le z = z ≤ℤ pos 0
 Compares op.Ne z = z ≢ pos 0
+
+-- whether the integer compares so with 0
+abbrev pub compares : Op → ℤ → Bool
+compares op.Eq z = is_zero z
+compares op.Lt z = int_lt z (pos 0)
+compares op.Le z = not (int_lt (pos 0) z)
+compares op.Ne z = not (is_zero z)
+
+abbrev pub is_equation : Op → Bool
+is_equation op.Eq = true
+is_equation op.Lt = false
+is_equation op.Le = false
+is_equation op.Ne = false
 
 -- the row is met by the values m x / d
 abbrev pub Meets : (ℕ → ℤ) → ℤ → Linear → Type 0

@@ -2,6 +2,8 @@
 #![tactic(auto)]
 
 mod bounded;
+mod comparison;
+mod equality;
 pub mod hints;
 pub mod laws;
 pub mod linear;
@@ -15,22 +17,4 @@ mod tests;
 pub use hints::{Step, StepLists, Steps};
 pub use linear::{Coeff, Coeffs, Op, RatPair, RatPairs, Row, RowErr, Rows};
 pub use rational::{Overflow, Rat};
-use std::alloc::{AllocError, AllocFailed};
-use thiserror::Error;
-
-/// Want of memory.
-#[derive(Clone, Copy, Debug, PartialEq, Eq, Error)]
-#[error("out of memory")]
-pub struct Memory;
-
-impl From<AllocError> for Memory {
-    fn from(_error: AllocError) -> Self {
-        Memory
-    }
-}
-
-impl<T: Drop> From<AllocFailed<T>> for Memory {
-    fn from(_error: AllocFailed<T>) -> Self {
-        Memory
-    }
-}
+pub use scasp_list::Memory;

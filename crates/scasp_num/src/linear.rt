@@ -1,12 +1,12 @@
 //! Linear comparisons over the rationals, with whole coefficients.
-ghost use Rattle.std.specs.Prelude.{◌≡◌, [], ◌∷◌, ◌++◌, length, slice_get, OnOk, OnErr};
-ghost use Rattle.std.specs.Option.{option_copied};
+ghost use Rattle.std.specs.Prelude.{◌≡◌};
 
 use crate::Memory;
 use crate::normal::{negated, negated_if, normal_form};
 use crate::rational::{Overflow, Rat};
 use crate::substitution::{coefficient, merged, others_times, put_constant};
 use crate::sums::{multiple, summed, whole, whole_number};
+use scasp_list::Sequence;
 use std::alloc::Global;
 use std::marker::Model;
 use thiserror::Error;
@@ -35,115 +35,10 @@ pub struct RatPair {
 }
 
 /// A list of coefficients, each with its variable.
-#[derive(Clone, Debug, Drop)]
-pub struct Coeffs {
-    list: Vec<Coeff>,
-}
-
-impl Model for Coeffs {
-    ghost use Rattle.std.specs.Prelude.{List};
-    ghost use Rattle.scasp_num.specs.declared.linear.Coeff.{Coeff};
-
-    ghost Value = { List Coeff };
-
-    ghost view = { λ a. a.list.items };
-}
-
-impl Coeffs {
-    /// The allocator that the list was made with.
-    pub(crate) fn allocator(&self) -> Global {
-        *self.list.allocator()
-    }
-
-    /// The empty list; it takes no memory.
-    pub fn new(alloc: Global) -> Self
-        ensures { result ≡ [] }
-    {
-        Coeffs {
-            list: Vec::new(alloc),
-        }
-    }
-
-    pub fn len(&self) -> usize
-        ensures { result ≡ length self.now }
-    {
-        self.list.len()
-    }
-
-    pub fn get(&self, i: usize) -> Option<&Coeff>
-        ensures { option_copied result ≡ slice_get self.now i }
-    {
-        self.list.get(i)
-    }
-
-    pub fn as_slice(&self) -> &[Coeff]
-        ensures { result.now ≡ self.now }
-    {
-        self.list.as_slice()
-    }
-
-    /// Puts an item at the end.
-    pub fn push(&mut self, item: Coeff) -> Result<(), Memory>
-        ensures ok { OnOk result (self.new ≡ self.old ++ item ∷ []) }
-        ensures err { OnErr result (self.new ≡ self.old) }
-    {
-        self.list.push(item)?;
-        Ok(())
-    }
-}
+pub type Coeffs = Sequence<Coeff>;
 
 /// A list of pairs of a variable and a number.
-#[derive(Clone, Debug, Drop)]
-pub struct RatPairs {
-    list: Vec<RatPair>,
-}
-
-impl Model for RatPairs {
-    ghost use Rattle.std.specs.Prelude.{List};
-    ghost use Rattle.scasp_num.specs.declared.linear.RatPair.{RatPair};
-
-    ghost Value = { List RatPair };
-
-    ghost view = { λ a. a.list.items };
-}
-
-impl RatPairs {
-    /// The empty list; it takes no memory.
-    pub fn new(alloc: Global) -> Self
-        ensures { result ≡ [] }
-    {
-        RatPairs {
-            list: Vec::new(alloc),
-        }
-    }
-
-    pub fn len(&self) -> usize
-        ensures { result ≡ length self.now }
-    {
-        self.list.len()
-    }
-
-    pub fn get(&self, i: usize) -> Option<&RatPair>
-        ensures { option_copied result ≡ slice_get self.now i }
-    {
-        self.list.get(i)
-    }
-
-    pub fn as_slice(&self) -> &[RatPair]
-        ensures { result.now ≡ self.now }
-    {
-        self.list.as_slice()
-    }
-
-    /// Puts an item at the end.
-    pub fn push(&mut self, item: RatPair) -> Result<(), Memory>
-        ensures ok { OnOk result (self.new ≡ self.old ++ item ∷ []) }
-        ensures err { OnErr result (self.new ≡ self.old) }
-    {
-        self.list.push(item)?;
-        Ok(())
-    }
-}
+pub type RatPairs = Sequence<RatPair>;
 
 /// The comparison `c1*x1+..+ck*xk+constant OP 0` in normal form: variables ascend, no coefficient is 0,
 /// the greatest common divisor of all integers is 1 or all are 0, and for `=` and `=\=` the first
@@ -167,9 +62,9 @@ impl Model for Row {
 
 impl Row {
     ghost use Rattle.std.specs.Prelude.{◌↔◌, ℕ, ℤ, IfOk, Option, pos, ◌<ℤ◌, ◌+ℤ◌, ◌*ℤ◌, ◌≢◌, List};
-    ghost use Rattle.scasp_num.specs.Linear.{IsNormal, Meets, Compares, weighted, negation, put_of, join_of, Gives, replaced};
+    ghost use Rattle.scasp_num.specs.Linear.{IsNormal, Meets, Compares, weighted, negation, put_of, join_of, Gives, replaced, coefficient};
     ghost use Rattle.scasp_num.specs.Sums.{normal_of, IsTimes, AreTimes};
-    ghost use Rattle.scasp_num.specs.Number.{Number};
+    ghost use Rattle.scasp_num.specs.Number.{InRange, Number};
     ghost use Rattle.scasp_num.specs.Values.{Holds, with_value};
     ghost use Rattle.scasp_num.specs.declared.linear.Coeff.{Coeff};
 
@@ -270,6 +165,14 @@ impl Row {
         &self.coeffs
     }
 
+    /// The coefficient of `x`; 0 where the row does not have it.
+    pub fn coefficient(&self, x: u64) -> i128
+        ensures value { result ≡ coefficient x self.now.coeffs }
+        ensures range { InRange result }
+    {
+        coefficient(self.coeffs().as_slice(), x)
+    }
+
     pub fn constant(&self) -> i128
         ensures value { result ≡ self.now.constant }
         ensures normal { IsNormal self.now }
@@ -286,57 +189,7 @@ impl Row {
 }
 
 /// A list of rows.
-#[derive(Clone, Debug, Drop)]
-pub struct Rows {
-    list: Vec<Row>,
-}
-
-impl Model for Rows {
-    ghost use Rattle.std.specs.Prelude.{List};
-    ghost use Rattle.scasp_num.specs.Linear.{Linear};
-
-    ghost Value = { List Linear };
-
-    ghost view = { λ a. a.list.items };
-}
-
-impl Rows {
-    /// The empty list; it takes no memory.
-    pub fn new(alloc: Global) -> Self
-        ensures { result ≡ [] }
-    {
-        Rows {
-            list: Vec::new(alloc),
-        }
-    }
-
-    pub fn len(&self) -> usize
-        ensures { result ≡ length self.now }
-    {
-        self.list.len()
-    }
-
-    pub fn get(&self, i: usize) -> Option<&Row>
-        ensures { option_copied result ≡ slice_get self.now i }
-    {
-        self.list.get(i)
-    }
-
-    pub fn as_slice(&self) -> &[Row]
-        ensures { result.now ≡ self.now }
-    {
-        self.list.as_slice()
-    }
-
-    /// Puts an item at the end.
-    pub fn push(&mut self, item: Row) -> Result<(), Memory>
-        ensures ok { OnOk result (self.new ≡ self.old ++ item ∷ []) }
-        ensures err { OnErr result (self.new ≡ self.old) }
-    {
-        self.list.push(item)?;
-        Ok(())
-    }
-}
+pub type Rows = Sequence<Row>;
 
 /// Why a row is not made.
 #[derive(Clone, Copy, Debug, PartialEq, Eq, Error)]

@@ -1,7 +1,7 @@
 //! The normal form of a row.
 ghost use Rattle.std.specs.Prelude.{◌≡◌, ◌<◌, pos, int_div, max, length, IfOk};
 ghost use Rattle.scasp_num.specs.Number.{InRange};
-ghost use Rattle.scasp_num.specs.Linear.{Each, common_divisor, integers, leads_below, is_negated, negated_if, shares, is_symmetric, Ascends, normal_form, Meets, opposite, negated};
+ghost use Rattle.scasp_num.specs.Linear.{Each, common_divisor, integers, leads_below, is_negated, negated_if, shares, Ascends, normal_form, Meets, negated};
 ghost use Rattle.std.specs.Prelude.{List, ◌∷◌, map, unsigned_abs, ℕ, ℤ, ◌↔◌};
 
 use crate::Memory;
@@ -9,30 +9,6 @@ use crate::bounded::quotient;
 use crate::linear::{Coeff, Coeffs, Op, Row};
 use crate::rational::gcd;
 use std::alloc::Global;
-
-impl Op {
-    /// Whether a sum compares in the same way as its negation.
-    pub(crate) fn is_symmetric(self) -> bool
-        ensures { result ≡ is_symmetric self }
-    {
-        match self {
-            Op::Eq | Op::Ne => true,
-            Op::Lt | Op::Le => false,
-        }
-    }
-
-    /// How a sum compares where it does not compare by `self`, after its sign is turned for `<` and `=<`.
-    pub(crate) fn opposite(self) -> Op
-        ensures { result ≡ opposite self }
-    {
-        match self {
-            Op::Eq => Op::Ne,
-            Op::Lt => Op::Le,
-            Op::Le => Op::Lt,
-            Op::Ne => Op::Eq,
-        }
-    }
-}
 
 /// The greatest common divisor of the constant and the coefficients.
 #[tactic(auto, using(crate::proofs::Gcds::divisors))]

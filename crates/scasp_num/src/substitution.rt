@@ -46,7 +46,7 @@ pub(crate) fn put_constant(row: &Row, x: u64, value: &Rat) -> Result<i128, Overf
     ensures range { IfOk result InRange }
 {
     let left = product(value.den(), row.constant())?;
-    let right = product(coefficient(row.coeffs().as_slice(), x), value.num())?;
+    let right = product(row.coefficient(x), value.num())?;
     sum(left, right)
 }
 

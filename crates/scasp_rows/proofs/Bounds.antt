@@ -5,11 +5,10 @@ use Rattle.std.proofs.lemmas.Int.{ints}
 use Rattle.std.proofs.Math.IntN.{*ℤ_comm}
 use Rattle.scasp_num.specs.declared.linear.Op.{Op}
 use Rattle.scasp_num.specs.declared.linear.Op.TheVariants as op
-use Rattle.scasp_num.specs.Linear.{Compares, negated_if}
+use Rattle.scasp_num.specs.Linear.{Compares, is_equation, negated_if}
 use Rattle.scasp_num.proofs.Integers.{*ℤ_assoc, *ℤ-+ℤ, +ℤ-*ℤ, neg-*ℤ}
 use Rattle.scasp_num.proofs.Numbers.{times-pos, below-zero}
 use Rattle.scasp_num.proofs.Meaning.{compares-scaled}
-use Rattle.scasp_rows.specs.Elimination.{is_equation}
 use Rattle.scasp_rows.proofs.Shares.{turned}
 
 *ℤ-neg : (a b : ℤ) → a *ℤ neg_ℤ b ≡ neg_ℤ (a *ℤ b)

@@ -8,7 +8,7 @@ use Rattle.scasp_num.specs.declared.linear.Op.{Op}
 use Rattle.scasp_num.specs.declared.linear.Op.TheVariants as op
 use Rattle.scasp_num.specs.Number.{Number, IsFraction}
 use Rattle.scasp_num.specs.Arithmetic.{◌>>=◌, sum_of, difference_of, negation_of}
-use Rattle.scasp_num.specs.Linear.{Each, Compares}
+use Rattle.scasp_num.specs.Linear.{Each, Compares, is_equation}
 use Rattle.scasp_num.proofs.Integers.{*ℤ_assoc, *ℤ-+ℤ, +ℤ-*ℤ, *ℤ_right_comm, *ℤ-cancel, neg-*ℤ}
 use Rattle.scasp_num.proofs.Numbers.{times-pos, some-same}
 use Rattle.scasp_num.proofs.Exact.{bind-some, sum_of-exact, difference_of-is}
@@ -17,7 +17,7 @@ use Rattle.scasp_rows.specs.declared.state.Sign.{Sign}
 use Rattle.scasp_rows.specs.declared.state.Sign.TheVariants as sign
 use Rattle.scasp_rows.specs.declared.state.Standing.{Standing}
 use Rattle.scasp_rows.specs.Steps.{whole}
-use Rattle.scasp_rows.specs.Elimination.{factor, has_sign, is_equation}
+use Rattle.scasp_rows.specs.Elimination.{factor, has_sign}
 use Rattle.scasp_rows.specs.Samples.{is_less, tighter, bound_with, bound, middle, over, solution_of}
 use Rattle.scasp_rows.proofs.Sums.{value}
 use Rattle.scasp_rows.proofs.Bounds.{below-compares, fractions-chain}

@@ -6,19 +6,20 @@ use Rattle.std.proofs.lemmas.Int.{ints, by_lt_z}
 use Rattle.std.proofs.Math.IntN.{zero-*ℤ}
 use Rattle.scasp_num.specs.declared.linear.Op.{Op}
 use Rattle.scasp_num.specs.declared.linear.Op.TheVariants as op
-use Rattle.scasp_num.specs.Linear.{Each, IsNormal, is_zero, Compares, Meets}
+use Rattle.scasp_num.specs.Linear.{Each, IsNormal, is_zero, is_equation, Compares, Meets}
 use Rattle.scasp_num.proofs.Numbers.{times-pos, unsigned_abs-pos, lt_ltb}
 use Rattle.scasp_num.proofs.Meaning.{compares-scaled}
 use Rattle.scasp_num.proofs.NormalForms.{Each-map, zero_is}
 use Rattle.scasp_rows.specs.declared.state.Sign.TheVariants as sign
 use Rattle.scasp_rows.specs.declared.state.Standing.{Standing}
 use Rattle.scasp_rows.specs.Steps.{joined}
-use Rattle.scasp_rows.specs.Elimination.{factor, is_equation, solves, first_equation, share, size_over, against, has_sign, rows_with}
+use Rattle.scasp_num.proofs.Comparing.{ne_zero}
+use Rattle.scasp_rows.specs.Elimination.{factor, solves, first_equation, share, size_over, against, has_sign, rows_with}
 use Rattle.scasp_rows.proofs.Sums.{value}
 use Rattle.scasp_rows.proofs.Shares.{turned, share-above, share-dvd_left, share-dvd_right, size_over-times, against-times}
 use Rattle.scasp_rows.proofs.Bounds.{below-compares, middle-low, middle-high, above-low, below-high, fractions-chain, solved-equation, solved-row, met-rows}
 use Rattle.scasp_rows.proofs.Values.{moved, value-at}
-use Rattle.scasp_rows.proofs.Soundness.{ne_zero, not_true, below-nonzero, above-nonzero, filter-passes, Each-filter}
+use Rattle.scasp_rows.proofs.Soundness.{not_true, below-nonzero, above-nonzero, filter-passes, Each-filter}
 use Rattle.scasp_rows.proofs.Forward.{Met, Fine, Between, Became, below-size, above-size}
 
 -- the row is met where x has the value z/e in place of 0

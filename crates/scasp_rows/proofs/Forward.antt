@@ -1,32 +1,31 @@
 -- What the parts of an elimination keep where they go through, and which rows are met where the later ones are.
-use Rattle.std.proofs.Common.{◌≡◌, ◌≢◌, ℕ, ◌+◌, ◌<◌, ◌==◌, Bool, true, false, not, ◌&&◌, ℤ, pos, negsuc, ◌+ℤ◌, ◌*ℤ◌, neg_ℤ, ◌<ℤ◌, unsigned_abs, Some, None, Option, Result, Ok, Err, List, [], ◌∷◌, ◌++◌, refl, sym, ap, subst, ◌∙◌, arith}
+use Rattle.std.proofs.Common.{◌≡◌, ◌≢◌, ℕ, ◌+◌, ◌<◌, ◌==◌, Bool, true, false, not, ℤ, pos, negsuc, ◌+ℤ◌, ◌*ℤ◌, neg_ℤ, ◌<ℤ◌, unsigned_abs, Some, None, Option, Result, Ok, Err, List, [], ◌∷◌, ◌++◌, refl, sym, ap, subst, ◌∙◌, arith}
 use Rattle.std.specs.Prelude.{if◌then◌else◌, int_lt, ◌||◌}
 use Rattle.std.specs.List.{list_any}
-use Rattle.std.specs.Ordering.{int_eq}
-use Rattle.std.proofs.lemmas.Bool.{and_parts, eqb-true}
-use Rattle.std.proofs.lemmas.Bool.Decides.{Decides-int_eq}
+use Rattle.std.proofs.lemmas.Bool.{eqb-true}
 use Rattle.std.proofs.lemmas.Int.{ints}
 use Rattle.std.proofs.Math.IntN.{*ℤ_comm, *ℤ-zero, zero-*ℤ, +ℤ_idl}
 use Rattle.scasp_num.specs.declared.linear.Coeff.{Coeff}
-use Rattle.scasp_num.specs.declared.linear.Op.{Op}
 use Rattle.scasp_num.specs.declared.linear.Op.TheVariants as op
 use Rattle.scasp_num.specs.declared.hints.Step.{Step}
-use Rattle.scasp_num.specs.Linear.{Linear, Each, IsNormal, is_zero, Compares, Meets, coefficient}
+use Rattle.scasp_num.specs.Linear.{Linear, Each, IsNormal, is_zero, Compares, compares, Meets, coefficient}
+use Rattle.scasp_num.specs.SameRow.{same_row}
+use Rattle.scasp_num.proofs.Comparing.{compares-is}
 use Rattle.scasp_num.proofs.Integers.{*ℤ-cancel}
 use Rattle.scasp_num.proofs.Meaning.{compares-scaled}
 use Rattle.scasp_num.proofs.NormalForms.{Each-map, zero_is}
+use Rattle.scasp_num.proofs.SameRows.{row-same}
 use Rattle.scasp_rows.specs.declared.state.Halt.{Halt}
 use Rattle.scasp_rows.specs.declared.state.Halt.TheVariants as halt
 use Rattle.scasp_rows.specs.declared.state.Standing.{Standing}
 use Rattle.scasp_rows.specs.declared.state.State.{State}
-use Rattle.scasp_rows.specs.Points.{compares, is_constant, is_false}
+use Rattle.scasp_rows.specs.Points.{is_constant, is_false}
 use Rattle.scasp_rows.specs.Steps.{joined, row_sum}
-use Rattle.scasp_rows.specs.Elimination.{and_then, same_op, same_terms, same_row, looked, sum_looked, made, factor, share, size_over, against, replaced, solved, met, paired, all_paired}
+use Rattle.scasp_rows.specs.Elimination.{and_then, looked, sum_looked, made, factor, share, size_over, against, replaced, solved, met, paired, all_paired}
 use Rattle.scasp_rows.proofs.Sums.{value, Each-append, joined-comparing, row_sum-IsNormal, row_sum-op, row_sum-meets}
 use Rattle.scasp_rows.proofs.Shares.{turned, share-above, share-dvd_left, share-dvd_right, size_over-times, against-times}
 use Rattle.scasp_rows.proofs.Bounds.{cancelled, solved-equation, met-rows}
 use Rattle.scasp_rows.proofs.Values.{row_sum-coefficient}
-use Rattle.scasp_rows.proofs.Soundness.{ne_zero, not_true}
 
 -- the rows are met by the values m x / d
 abbrev pub Met : (ℕ → ℤ) → ℤ → List Standing → Type 0
@@ -41,54 +40,7 @@ and_then-ok (Err h) f s e = cc
 pub same_state : (s t : State) → ◌≡◌ {A = Result State Halt} (Ok s) (Ok t) → s ≡ t
 same_state s t e = cc
 
--- ---- the same row
-
-terms-same : (p q : List Coeff) → same_terms p q ≡ true → p ≡ q
-terms-same [] [] e = refl
-terms-same [] (j ∷ js) e = cc
-terms-same (k ∷ ks) [] e = cc
-terms-same (k ∷ ks) (j ∷ js) e =
-    let parts = and_parts (k.x == j.x && int_eq k.c j.c) (same_terms ks js) e in
-    let heads = and_parts (k.x == j.x) (int_eq k.c j.c) parts.0 in
-    let c : k.c ≡ j.c = (Decides-int_eq k.c j.c).0 heads.1 in
-    let x : k.x ≡ j.x = eqb-true k.x j.x heads.0 in
-    let rest = terms-same ks js parts.1 in
-    λ i. record { x = x i; c = c i } ∷ rest i
-
-op-same : (o u : Op) → same_op o u ≡ true → o ≡ u
-op-same op.Eq op.Eq e = refl
-op-same op.Lt op.Lt e = refl
-op-same op.Le op.Le e = refl
-op-same op.Ne op.Ne e = refl
-op-same op.Eq op.Lt e = cc
-op-same op.Eq op.Le e = cc
-op-same op.Eq op.Ne e = cc
-op-same op.Lt op.Eq e = cc
-op-same op.Lt op.Le e = cc
-op-same op.Lt op.Ne e = cc
-op-same op.Le op.Eq e = cc
-op-same op.Le op.Lt e = cc
-op-same op.Le op.Ne e = cc
-op-same op.Ne op.Eq e = cc
-op-same op.Ne op.Lt e = cc
-op-same op.Ne op.Le e = cc
-
-pub row-same : (p q : Linear) → same_row p q ≡ true → p ≡ q
-row-same p q e =
-    let parts = and_parts (same_op p.op q.op && int_eq p.constant q.constant) (same_terms p.coeffs q.coeffs) e in
-    let heads = and_parts (same_op p.op q.op) (int_eq p.constant q.constant) parts.0 in
-    let c : p.constant ≡ q.constant = (Decides-int_eq p.constant q.constant).0 heads.1 in
-    let o = op-same p.op q.op heads.0 in
-    let t = terms-same p.coeffs q.coeffs parts.1 in
-    λ i. record { coeffs = t i; constant = c i; op = o i }
-
 -- ---- a new row
-
-compares-is : (o : Op) (z : ℤ) → compares o z ≡ true → Compares o z
-compares-is op.Eq z h = zero_is z h
-compares-is op.Lt z h = grind (arith, ints)
-compares-is op.Le z h = grind (arith, ints)
-compares-is op.Ne z h = ne_zero z (not_true (is_zero z) h)
 
 constant-meets : (m : ℕ → ℤ) (d : ℤ) (r : Linear) → pos 0 <ℤ d → is_constant r ≡ true → is_false r ≡ false → Meets m d r
 constant-meets m d r h e f = by r.coeffs e f

@@ -1,28 +1,19 @@
 -- Rows from which steps reach a false constant row are met by no point.
-use Rattle.std.proofs.Common.{◌≡◌, ℕ, zero, suc, Bool, true, false, not, ℤ, pos, negsuc, Some, None, List, [], ◌∷◌, ◌++◌, refl, sym, ap, subst, arith}
+use Rattle.std.proofs.Common.{◌≡◌, ℕ, zero, suc, Bool, true, false, not, Some, None, List, [], ◌∷◌, ◌++◌, refl, sym, subst, arith}
 use Rattle.std.specs.Prelude.{if◌then◌else◌, slice_get, ◌||◌}
 use Rattle.std.specs.List.{list_any}
 use Rattle.std.proofs.lemmas.Bool.{and_parts}
 use Rattle.std.proofs.lemmas.Int.{ints}
 use Rattle.scasp_num.specs.declared.linear.Coeff.{Coeff}
-use Rattle.scasp_num.specs.declared.linear.Op.{Op}
-use Rattle.scasp_num.specs.declared.linear.Op.TheVariants as op
 use Rattle.scasp_num.specs.declared.hints.Step.{Step}
 use Rattle.scasp_num.specs.Arithmetic.{◌>>=◌}
-use Rattle.scasp_num.specs.Linear.{Linear, Each, is_zero, Compares}
+use Rattle.scasp_num.specs.Linear.{Linear, Each, Compares, compares}
 use Rattle.scasp_num.specs.Values.{Holds}
+use Rattle.scasp_num.proofs.Comparing.{compares-true}
 use Rattle.scasp_num.proofs.Exact.{bind-some}
-use Rattle.scasp_rows.specs.Points.{RationalPoint, MeetsAll, compares, is_constant, is_false}
+use Rattle.scasp_rows.specs.Points.{RationalPoint, MeetsAll, is_constant, is_false}
 use Rattle.scasp_rows.specs.Steps.{row_sum, may_step, row_numbered, row_made, with_steps, ReachesFalse}
 use Rattle.scasp_rows.proofs.Sums.{step-holds, Each-append}
-
-pub compares-true : (o : Op) (z : ℤ) → Compares o z → compares o z ≡ true
-compares-true op.Eq z h = ap is_zero h
-compares-true op.Lt z h = grind (arith, ints)
-compares-true op.Le z h = grind (arith, ints)
-compares-true op.Ne (pos zero) h = absurd (h refl)
-compares-true op.Ne (pos (suc n)) h = refl
-compares-true op.Ne (negsuc n) h = refl
 
 pub Each-at : {A : Type 0} (P : A → Type 0) (xs : List A) (i : ℕ) (x : A) → Each P xs → Some x ≡ slice_get xs i → P x
 Each-at P [] i x e f = cc

@@ -8,7 +8,9 @@ use Rattle.scasp_num.specs.declared.linear.Op.{Op}
 use Rattle.scasp_num.specs.declared.linear.Op.TheVariants as op
 use Rattle.scasp_num.specs.declared.hints.Step.{Step}
 use Rattle.scasp_num.specs.Arithmetic.{◌>>=◌}
-use Rattle.scasp_num.specs.Linear.{Linear, Each, is_zero}
+use Rattle.scasp_num.specs.Linear.{Linear, Each, is_equation, is_zero}
+use Rattle.scasp_num.specs.SameRow.{same_row}
+use Rattle.scasp_num.proofs.Comparing.{ne_zero}
 use Rattle.scasp_num.proofs.Exact.{bind-some}
 use Rattle.scasp_num.proofs.NormalForms.{Each-map}
 use Rattle.scasp_rows.specs.declared.state.Halt.{Halt}
@@ -18,7 +20,7 @@ use Rattle.scasp_rows.specs.declared.state.Standing.{Standing}
 use Rattle.scasp_rows.specs.declared.state.State.{State}
 use Rattle.scasp_rows.specs.Points.{NoDisequation, is_constant, is_false}
 use Rattle.scasp_rows.specs.Steps.{row_sum, may_scale, may_step, row_numbered, row_made, with_steps, ReachesFalse}
-use Rattle.scasp_rows.specs.Elimination.{and_then, looked, sum_looked, made, factor, is_equation, solves, first_equation, others, share, size_over, against, replaced, solved, has_sign, rows_with, met, paired, all_paired, by_equation, made_without, limited, without, eliminated, variables, all_looked, elimination, same_row}
+use Rattle.scasp_rows.specs.Elimination.{and_then, looked, sum_looked, made, factor, solves, first_equation, others, share, size_over, against, replaced, solved, has_sign, rows_with, met, paired, all_paired, by_equation, made_without, limited, without, eliminated, variables, all_looked, elimination}
 use Rattle.scasp_rows.proofs.Sums.{Each-append, both-true, row_sum-op}
 use Rattle.scasp_rows.proofs.Shares.{share-dvd_left, share-dvd_right, size_over-above, against-nonzero}
 
@@ -154,9 +156,6 @@ scale-equation (negsuc n) op.Eq h e = refl
 scale-equation a op.Lt h e = cc
 scale-equation a op.Le h e = cc
 scale-equation a op.Ne h e = cc
-
-pub ne_zero : (z : ℤ) → is_zero z ≡ false → z ≢ pos 0
-ne_zero z e f = let g : is_zero (pos 0) ≡ false = subst (λ y. is_zero y ≡ false) f e in cc
 
 pub below-nonzero : (z : ℤ) → int_lt z (pos 0) ≡ true → z ≢ pos 0
 below-nonzero z e f = let g : int_lt (pos 0) (pos 0) ≡ true = subst (λ y. int_lt y (pos 0) ≡ true) f e in cc

@@ -1,13 +1,11 @@
 -- The elimination of the variables of rows, one after the other (Fourier 1826, Motzkin 1936).
-use Rattle.std.specs.Prelude.{◌≡◌, ℕ, ◌+◌, ◌/◌, ◌==◌, nat_lt, Bool, true, false, ◌&&◌, ◌||◌, not, if◌then◌else◌, ℤ, pos, unsigned_abs, int_div, int_lt, max, List, [], ◌∷◌, ◌++◌, length, filter, Option, Some, None, Result, Ok, Err, ⊤}
+use Rattle.std.specs.Prelude.{◌≡◌, ℕ, ◌+◌, ◌/◌, ◌==◌, nat_lt, Bool, ◌&&◌, ◌||◌, not, if◌then◌else◌, ℤ, pos, unsigned_abs, int_div, int_lt, max, List, [], ◌∷◌, ◌++◌, length, filter, Option, Some, None, Result, Ok, Err, ⊤}
 use Rattle.std.specs.List.{list_any}
-use Rattle.std.specs.Ordering.{int_eq}
 use Rattle.scasp_num.specs.declared.linear.Coeff.{Coeff}
-use Rattle.scasp_num.specs.declared.linear.Op.{Op}
-use Rattle.scasp_num.specs.declared.linear.Op.TheVariants as op
 use Rattle.scasp_num.specs.declared.hints.Step.{Step}
 use Rattle.scasp_num.specs.Gcd.{gcd}
-use Rattle.scasp_num.specs.Linear.{Linear, is_zero, coefficient, negated_if}
+use Rattle.scasp_num.specs.Linear.{Linear, is_zero, is_equation, coefficient, negated_if}
+use Rattle.scasp_num.specs.SameRow.{same_row}
 use Rattle.scasp_rows.specs.declared.state.Halt.{Halt}
 use Rattle.scasp_rows.specs.declared.state.Halt.TheVariants as halt
 use Rattle.scasp_rows.specs.declared.state.Sign.{Sign}
@@ -28,24 +26,6 @@ Ends (Ok s) o = o ≡ Ok s
 Ends (Err halt.Memory) o = ⊤
 Ends (Err halt.Overflow) o = o ≡ Err halt.Overflow
 Ends (Err (halt.Unsat steps)) o = o ≡ Err (halt.Unsat steps)
-
--- ---- the same row
-
-abbrev pub same_op : Op → Op → Bool
-same_op op.Eq op.Eq = true
-same_op op.Lt op.Lt = true
-same_op op.Le op.Le = true
-same_op op.Ne op.Ne = true
-same_op o u = false
-
-abbrev pub same_terms : List Coeff → List Coeff → Bool
-same_terms [] [] = true
-same_terms [] (j ∷ js) = false
-same_terms (k ∷ ks) [] = false
-same_terms (k ∷ ks) (j ∷ js) = k.x == j.x && int_eq k.c j.c && same_terms ks js
-
-abbrev pub same_row : Linear → Linear → Bool
-same_row p q = same_op p.op q.op && int_eq p.constant q.constant && same_terms p.coeffs q.coeffs
 
 -- ---- a new row
 
@@ -71,12 +51,6 @@ made a p b q later s =
 
 abbrev pub factor : ℕ → Standing → ℤ
 factor x r = coefficient x r.row.coeffs
-
-abbrev pub is_equation : Op → Bool
-is_equation op.Eq = true
-is_equation op.Lt = false
-is_equation op.Le = false
-is_equation op.Ne = false
 
 abbrev pub solves : ℕ → Standing → Bool
 solves x r = is_equation r.row.op && not (is_zero (factor x r))

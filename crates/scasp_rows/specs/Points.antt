@@ -1,10 +1,9 @@
 -- Rational points, and the rows that they meet.
-use Rattle.std.specs.Prelude.{◌≢◌, ℕ, Bool, true, false, ◌&&◌, not, ℤ, pos, int_lt, List, [], ◌∷◌}
+use Rattle.std.specs.Prelude.{◌≢◌, ℕ, Bool, true, false, ◌&&◌, not, List, [], ◌∷◌}
 use Rattle.scasp_num.specs.declared.linear.Coeff.{Coeff}
-use Rattle.scasp_num.specs.declared.linear.Op.{Op}
 use Rattle.scasp_num.specs.declared.linear.Op.TheVariants as op
 use Rattle.scasp_num.specs.Number.{Number}
-use Rattle.scasp_num.specs.Linear.{Linear, Each, is_zero}
+use Rattle.scasp_num.specs.Linear.{Linear, Each, compares}
 use Rattle.scasp_num.specs.Values.{Holds}
 
 -- a rational number for each variable
@@ -22,13 +21,6 @@ IsMet rows = (v : RationalPoint) × MeetsAll v rows
 -- none of the rows is a disequation
 abbrev pub NoDisequation : List Linear → Type 0
 NoDisequation rows = Each (λ (r : Linear). r.op ≢ op.Ne) rows
-
--- the integer compares so with 0
-abbrev pub compares : Op → ℤ → Bool
-compares op.Eq z = is_zero z
-compares op.Lt z = int_lt z (pos 0)
-compares op.Le z = not (int_lt (pos 0) z)
-compares op.Ne z = not (is_zero z)
 
 -- the row has no variable
 abbrev pub is_constant : Linear → Bool

@@ -8,7 +8,8 @@ ghost use Rattle.scasp_rows.specs.Samples.{between, bound, bound_with, by_soluti
 use crate::elimination::{first_equation, without};
 use crate::rows::{factor, has_sign};
 use crate::state::{Halt, Sign, Standing, StandingRows, State, copy};
-use scasp_num::{Coeff, Memory, Overflow, Rat, RatPair, RatPairs, Row};
+use scasp_list::Memory;
+use scasp_num::{Coeff, Overflow, Rat, RatPair, RatPairs, Row};
 use std::alloc::Global;
 use std::cmp::Ordering;
 

@@ -9,7 +9,8 @@ use crate::rows::{
 };
 use crate::state::{Halt, Sign, Standing, StandingRows, State, copy};
 use crate::steps::row_sum;
-use scasp_num::{Coeff, Memory, Row, Step, Steps};
+use scasp_list::Memory;
+use scasp_num::{Coeff, Row, Step, Steps};
 use std::alloc::Global;
 
 /// As many rows may stand after a variable.

@@ -7,12 +7,12 @@ mod backward;
 mod elimination;
 pub mod laws;
 mod rows;
-pub mod samples;
-pub mod state;
-pub mod steps;
+mod samples;
+mod state;
+mod steps;
 #[cfg(test)]
 mod tests;
-pub mod verdict;
+mod verdict;
 
 pub use samples::{Point, RowLists, are_disequations, sample};
 pub use steps::{StepErr, step};

@@ -1,26 +1,14 @@
 //! Tests of rows, and the coefficients of a variable.
-ghost use Rattle.std.specs.Prelude.{◌≡◌, ◌<◌, IfOk, int_div, pos};
+ghost use Rattle.std.specs.Prelude.{◌≡◌, ◌<◌};
 ghost use Rattle.std.specs.List.{list_any};
-ghost use Rattle.scasp_num.specs.Linear.{coefficient};
 ghost use Rattle.scasp_num.specs.Number.{InRange};
-ghost use Rattle.scasp_rows.specs.Points.{compares, is_constant, is_false};
-ghost use Rattle.scasp_rows.specs.Elimination.{against, factor, has_sign, is_equation, same_op, same_row, same_terms, share, size_over, solves};
+ghost use Rattle.scasp_num.specs.SameRow.{same_row};
+ghost use Rattle.scasp_rows.specs.Points.{is_constant, is_false};
+ghost use Rattle.scasp_rows.specs.Elimination.{against, factor, has_sign, share, size_over, solves};
 
 use crate::state::{Sign, Standing};
+use scasp_num::Row;
 use scasp_num::rational::gcd;
-use scasp_num::{Coeff, Op, Row};
-
-/// Whether an integer compares so with 0.
-fn compares(op: Op, z: i128) -> bool
-    ensures { result ≡ compares op z }
-{
-    match op {
-        Op::Eq => z == 0,
-        Op::Lt => z < 0,
-        Op::Le => z <= 0,
-        Op::Ne => z != 0,
-    }
-}
 
 /// Whether the row has no variable.
 pub(crate) fn is_constant(row: &Row) -> bool
@@ -33,58 +21,14 @@ pub(crate) fn is_constant(row: &Row) -> bool
 pub(crate) fn is_false(row: &Row) -> bool
     ensures { result ≡ is_false row.now }
 {
-    is_constant(row) && !compares(row.op(), row.constant())
-}
-
-fn same_op(p: Op, q: Op) -> bool
-    ensures { result ≡ same_op p q }
-{
-    match (p, q) {
-        (Op::Eq, Op::Eq) | (Op::Lt, Op::Lt) | (Op::Le, Op::Le) | (Op::Ne, Op::Ne) => true,
-        _ => false,
-    }
-}
-
-fn same_terms(p: &[Coeff], q: &[Coeff]) -> bool
-    ensures { result ≡ same_terms p.now q.now }
-{
-    if p.len() != q.len() {
-        return false;
-    }
-    for (i, k) in p.iter().enumerate() {
-        if k.x != q[i].x || k.c != q[i].c {
-            return false;
-        }
-    }
-    true
-}
-
-/// Whether two rows in normal form are equal.
-pub(crate) fn same_row(p: &Row, q: &Row) -> bool
-    ensures { result ≡ same_row p.now q.now }
-{
-    same_op(p.op(), q.op())
-        && p.constant() == q.constant()
-        && same_terms(p.coeffs().as_slice(), q.coeffs().as_slice())
+    is_constant(row) && !row.op().compares(row.constant())
 }
 
 /// Whether the row is among those.
 pub(crate) fn stands(rows: &[Standing], row: &Row) -> bool
     ensures { result ≡ list_any (λ o. same_row o.row row.now) rows.now }
 {
-    rows.iter().any(|o| same_row(&o.row, row))
-}
-
-/// The coefficient of `x`; 0 where it has none.
-fn coefficient(terms: &[Coeff], x: u64) -> i128
-    ensures { result ≡ coefficient x terms.now }
-{
-    for k in terms {
-        if k.x == x {
-            return k.c;
-        }
-    }
-    0
+    rows.iter().any(|o| o.row.is_same(row))
 }
 
 /// The coefficient of `x` in a row; 0 where it has none.
@@ -92,7 +36,7 @@ pub(crate) fn factor(x: u64, r: &Standing) -> i128
     ensures value { result ≡ factor x r.now }
     ensures range { InRange result }
 {
-    coefficient(r.row.coeffs().as_slice(), x)
+    r.row.coefficient(x)
 }
 
 pub(crate) fn has_sign(sign: Sign, z: i128) -> bool
@@ -105,20 +49,11 @@ pub(crate) fn has_sign(sign: Sign, z: i128) -> bool
     }
 }
 
-fn is_equation(op: Op) -> bool
-    ensures { result ≡ is_equation op }
-{
-    match op {
-        Op::Eq => true,
-        Op::Lt | Op::Le | Op::Ne => false,
-    }
-}
-
 /// Whether the row is an equation with `x`.
 pub(crate) fn solves(x: u64, r: &Standing) -> bool
     ensures { result ≡ solves x r.now }
 {
-    is_equation(r.row.op()) && factor(x, r) != 0
+    r.row.op().is_equation() && factor(x, r) != 0
 }
 
 /// What two coefficients are divided by: their greatest common divisor, or 1 where both are 0.

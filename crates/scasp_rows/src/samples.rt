@@ -1,6 +1,5 @@
 //! Points that meet rows and disequations.
-ghost use Rattle.std.specs.Prelude.{◌≡◌, ◌↔◌, [], ◌∷◌, ◌++◌, length, slice_get, IfOk, IfNone, IfSome, IsTrue, OnOk, OnErr};
-ghost use Rattle.std.specs.Option.{option_copied};
+ghost use Rattle.std.specs.Prelude.{◌≡◌, ◌↔◌, [], ◌∷◌, ◌++◌, IfOk, IfNone, IfSome, IsTrue, OnOk};
 ghost use Rattle.scasp_num.specs.Linear.{Each, Gives, IsNormal};
 ghost use Rattle.scasp_rows.specs.Elimination.{Ends};
 ghost use Rattle.scasp_rows.specs.Points.{NoDisequation, RationalPoint};
@@ -11,66 +10,16 @@ use crate::backward::values_from;
 use crate::elimination::{all_looked, elimination, started, variables};
 use crate::state::{Halt, State};
 use crate::steps::{push_times, whole_product};
-use crate::verdict::{LinErr, is_disequation};
-use scasp_num::{Memory, Op, RatPairs, Row, RowErr, Rows};
+use crate::verdict::LinErr;
+use scasp_list::{Memory, Sequence};
+use scasp_num::{Op, RatPairs, Row, RowErr, Rows};
 use std::alloc::Global;
-use std::marker::Model;
 
 /// Values of variables.
 pub type Point = RatPairs;
 
 /// A list of lists of rows.
-#[derive(Clone, Debug, Drop)]
-pub struct RowLists {
-    list: Vec<Rows>,
-}
-
-impl Model for RowLists {
-    ghost use Rattle.std.specs.Prelude.{List};
-    ghost use Rattle.scasp_num.specs.Linear.{Linear};
-
-    ghost Value = { List (List Linear) };
-
-    ghost view = { λ a. a.list.items };
-}
-
-impl RowLists {
-    /// The empty list; it takes no memory.
-    pub fn new(alloc: Global) -> Self
-        ensures { result ≡ [] }
-    {
-        RowLists {
-            list: Vec::new(alloc),
-        }
-    }
-
-    pub fn len(&self) -> usize
-        ensures { result ≡ length self.now }
-    {
-        self.list.len()
-    }
-
-    pub fn get(&self, i: usize) -> Option<&Rows>
-        ensures { option_copied result ≡ slice_get self.now i }
-    {
-        self.list.get(i)
-    }
-
-    pub fn as_slice(&self) -> &[Rows]
-        ensures { result.now ≡ self.now }
-    {
-        self.list.as_slice()
-    }
-
-    /// Puts an item at the end.
-    pub fn push(&mut self, item: Rows) -> Result<(), Memory>
-        ensures ok { OnOk result (self.new ≡ self.old ++ item ∷ []) }
-        ensures err { OnErr result (self.new ≡ self.old) }
-    {
-        self.list.push(item)?;
-        Ok(())
-    }
-}
+pub type RowLists = Sequence<Rows>;
 
 /// The row that says that `a` times the sum of `r` is below 0.
 #[tactic(auto, using(scasp_num::proofs::Numbers::plain), unfolding(crate::specs::Samples::strict))]
@@ -241,7 +190,7 @@ fn have_disequations(parts: &[Row]) -> bool
     ensures { IsTrue result ↔ OnlyDisequations parts.now }
 {
     for row in parts {
-        if !is_disequation(row.op()) {
+        if !row.op().is_disequation() {
             return false;
         }
     }

@@ -1,9 +1,9 @@
 //! The rows that stand in an elimination.
-ghost use Rattle.std.specs.Prelude.{◌≡◌, [], ◌∷◌, ◌++◌, IfOk, OnOk, OnErr};
+ghost use Rattle.std.specs.Prelude.{◌≡◌, IfOk};
 
-use scasp_num::{Memory, Row, RowErr, Steps};
-use std::alloc::{AllocError, Global};
-use std::marker::Model;
+use scasp_list::{Memory, Sequence};
+use scasp_num::{Row, RowErr, Steps};
+use std::alloc::AllocError;
 
 /// A row that stands, with its number: the given rows have the first numbers, from 1, and each row that a
 /// step makes the next one.
@@ -14,45 +14,7 @@ pub struct Standing {
 }
 
 /// A list of rows that stand.
-#[derive(Debug, Drop)]
-pub struct StandingRows {
-    list: Vec<Standing>,
-}
-
-impl Model for StandingRows {
-    ghost use Rattle.std.specs.Prelude.{List};
-    ghost use Rattle.scasp_rows.specs.declared.state.Standing.{Standing};
-
-    ghost Value = { List Standing };
-
-    ghost view = { λ a. a.list.items };
-}
-
-impl StandingRows {
-    /// The empty list; it takes no memory.
-    pub fn new(alloc: Global) -> Self
-        ensures { result ≡ [] }
-    {
-        StandingRows {
-            list: Vec::new(alloc),
-        }
-    }
-
-    pub fn as_slice(&self) -> &[Standing]
-        ensures { result.now ≡ self.now }
-    {
-        self.list.as_slice()
-    }
-
-    /// Puts a row at the end.
-    pub fn push(&mut self, item: Standing) -> Result<(), Memory>
-        ensures ok { OnOk result (self.new ≡ self.old ++ item ∷ []) }
-        ensures err { OnErr result (self.new ≡ self.old) }
-    {
-        self.list.push(item)?;
-        Ok(())
-    }
-}
+pub type StandingRows = Sequence<Standing>;
 
 /// The rows that stand, the steps made so far, and how many rows there are: the given ones and one for each
 /// step.

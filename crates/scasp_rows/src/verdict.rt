@@ -6,7 +6,7 @@ ghost use Rattle.scasp_rows.specs.Verdicts.{IfUnsat, Says, verdict_of};
 
 use crate::elimination::elimination;
 use crate::state::Halt;
-use scasp_num::{Op, Rows, Steps};
+use scasp_num::{Rows, Steps};
 use std::alloc::Global;
 use thiserror::Error;
 
@@ -50,18 +50,9 @@ pub fn is_free_of_disequations(rows: &Rows) -> bool
     ensures { IsTrue result ↔ NoDisequation rows.now }
 {
     for row in rows.as_slice() {
-        if is_disequation(row.op()) {
+        if row.op().is_disequation() {
             return false;
         }
     }
     true
-}
-
-pub(crate) fn is_disequation(op: Op) -> bool
-    ensures { IsTrue result ↔ (op ≡ Op.Ne) }
-{
-    match op {
-        Op::Ne => true,
-        Op::Eq | Op::Lt | Op::Le => false,
-    }
 }

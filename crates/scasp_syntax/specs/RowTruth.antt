@@ -1,9 +1,7 @@
 -- Whether a linear comparison holds under a valuation.
-use Rattle.std.specs.Prelude.{Bool, true, false, ◌||◌, not, ℤ, pos, negsuc, ◌+ℤ◌, ◌*ℤ◌, List, [], ◌∷◌}
-use Rattle.scasp_num.specs.Linear.{Linear, is_zero}
+use Rattle.std.specs.Prelude.{Bool, ℤ, pos, ◌+ℤ◌, ◌*ℤ◌, List, [], ◌∷◌}
+use Rattle.scasp_num.specs.Linear.{Linear, compares}
 use Rattle.scasp_num.specs.declared.linear.Coeff.{Coeff}
-use Rattle.scasp_num.specs.declared.linear.Op.{Op}
-use Rattle.scasp_num.specs.declared.linear.Op.TheVariants as op
 use Rattle.scasp_syntax.specs.Tm.{Tm, var, num, app}
 use Rattle.scasp_syntax.specs.Values.{Sub}
 
@@ -20,17 +18,6 @@ sum_under v constant (k ∷ ks) =
     let value = fraction_of (v k.x) in
     let rest = sum_under v constant ks in
     (((k.c *ℤ value.0) *ℤ rest.1) +ℤ (rest.0 *ℤ value.1), value.1 *ℤ rest.1)
-
-abbrev pub is_negative : ℤ → Bool
-is_negative (pos n) = false
-is_negative (negsuc n) = true
-
--- whether the integer compares so with 0
-abbrev pub compares : Op → ℤ → Bool
-compares op.Eq z = is_zero z
-compares op.Lt z = is_negative z
-compares op.Le z = is_negative z || is_zero z
-compares op.Ne z = not (is_zero z)
 
 abbrev pub row_holds : Sub → Linear → Bool
 row_holds v r = compares r.op (sum_under v r.constant r.coeffs).0

@@ -1,6 +1,6 @@
 //! Atoms and literals.
-use crate::sequence::Sequence;
 use crate::term::Terms;
+use scasp_list::Sequence;
 use scasp_name::NameId;
 
 /// A predicate: its name, its number of arguments, and whether it is a name with `-` in front.

@@ -1,8 +1,9 @@
 //! Clauses and queries.
 use crate::atom::{Atom, Lit};
 use crate::con::Con;
-use crate::sequence::{Sequence, VarList};
+use crate::lists::VarList;
 use crate::term::Term;
+use scasp_list::Sequence;
 use scasp_name::NameId;
 use scasp_num::Row;
 

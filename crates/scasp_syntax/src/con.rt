@@ -1,6 +1,6 @@
 //! Atomic constraints.
-use crate::sequence::Sequence;
 use crate::term::Term;
+use scasp_list::Sequence;
 use scasp_name::NameId;
 use scasp_num::Row;
 

@@ -7,8 +7,8 @@ use crate::con::Con;
 use crate::hint::Hint;
 use crate::predicate_map::PredMap;
 use crate::program::Program;
-use crate::sequence::Sequence;
 use crate::term::{Term, Terms};
+use scasp_list::Sequence;
 use scasp_name::{Memory, NameId};
 use std::alloc::Global;
 

@@ -8,7 +8,7 @@ ghost use Rattle.scasp_syntax.specs.declared.con.Con.TheVariants as con;
 use crate::clause::{Clause, FlatItem, FlatItems, Item, Items, Lin};
 use crate::con::Con;
 use crate::copies::{Duplicate, copy};
-use crate::sequence::VarList;
+use crate::lists::VarList;
 use crate::term::Term;
 use scasp_name::Memory;
 use std::alloc::Global;

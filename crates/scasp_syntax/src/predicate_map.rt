@@ -1,6 +1,6 @@
 //! Levels and signs of predicates.
 use crate::atom::Pred;
-use crate::sequence::Sequence;
+use scasp_list::Sequence;
 
 /// The level and the sign of a predicate; `plus` is the sign `+`.
 #[derive(Clone, Copy, Debug, PartialEq, Eq)]

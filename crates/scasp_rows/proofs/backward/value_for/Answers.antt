@@ -1,8 +1,9 @@
 use Rattle.std.proofs.Common.{not}
 use Rattle.std.proofs.lemmas.Bool.{and_parts}
-use Rattle.scasp_num.specs.Linear.{is_zero}
-use Rattle.scasp_rows.specs.Elimination.{factor, is_equation}
-use Rattle.scasp_rows.proofs.Soundness.{first_equation-solves, ne_zero, not_true}
+use Rattle.scasp_num.specs.Linear.{is_equation, is_zero}
+use Rattle.scasp_num.proofs.Comparing.{ne_zero}
+use Rattle.scasp_rows.specs.Elimination.{factor}
+use Rattle.scasp_rows.proofs.Soundness.{first_equation-solves, not_true}
 use Rattle.scasp_rows.proofs.backward.value_for.Goals as goal
 
 pub solution_of-requires : goal.solution_of-requires

@@ -2,8 +2,8 @@ use Rattle.std.proofs.Common.{◌≡◌, ◌≢◌, Bool, true, false, List, [],
 use Rattle.std.specs.Prelude.{◌&&◌, ◌==◌}
 use Rattle.std.specs.Ordering.{int_eq}
 use Rattle.scasp_num.specs.declared.linear.Coeff.{Coeff}
-use Rattle.scasp_rows.specs.Elimination.{same_terms}
-use Rattle.scasp_rows.proofs.rows.same_terms.Goals as goal
+use Rattle.scasp_num.specs.SameRow.{same_terms}
+use Rattle.scasp_num.proofs.equality.same_terms.Goals as goal
 
 and-false : (a b : Bool) → false ≡ b → false ≡ (a && b)
 and-false true b e = e

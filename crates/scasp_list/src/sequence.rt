@@ -1,12 +1,12 @@
 //! Lists of one type of item.
-ghost use Rattle.std.specs.Prelude.{◌≡◌, [], ◌∷◌, ◌++◌, length, slice_get, OnOk, OnErr, option_copied};
+ghost use Rattle.std.specs.Prelude.{◌≡◌, [], ◌∷◌, ◌++◌, length, slice_get, ◌↔◌, IsTrue, OnOk, OnErr, option_copied};
 
-use scasp_name::Memory;
+use crate::Memory;
 use std::alloc::Global;
 use std::marker::Model;
 
-/// A list of items, which contracts see as a list.
-#[derive(Debug, Drop)]
+/// A list of items, which contracts see as a list. It keeps the allocator that it was made with.
+#[derive(Clone, Debug, Drop)]
 pub struct Sequence<T> {
     list: Vec<T>,
 }
@@ -39,6 +39,13 @@ impl<T> Sequence<T> {
         self.list.len()
     }
 
+    /// Whether there is no item.
+    pub fn is_empty(&self) -> bool
+        ensures { IsTrue result ↔ (self.now ≡ []) }
+    {
+        self.list.is_empty()
+    }
+
     /// The item at the place, counted from 0.
     pub fn get(&self, place: usize) -> Option<&T>
         ensures { option_copied result ≡ slice_get self.now place }
@@ -63,13 +70,26 @@ impl<T> Sequence<T> {
         self.list.push(item)?;
         Ok(())
     }
+
+    /// The items as a `Vec`, which takes no memory.
+    pub fn into_vec(self) -> Vec<T>
+        ensures { result.items ≡ self }
+    {
+        let Sequence { list } = self;
+        list
+    }
+
+    /// The allocator that the list was made with.
+    pub fn allocator(&self) -> Global {
+        *self.list.allocator()
+    }
 }
 
-/// Numbers of variables.
-pub type VarList = Sequence<u64>;
+impl<T> From<Vec<T>> for Sequence<T> {
+    ghost from_gives = { λ list sequence. sequence ≡ list.items };
 
-/// Numbers of rules and denials, from 1.
-pub type RuleList = Sequence<u64>;
-
-/// Places in a list, from 0.
-pub type PlaceList = Sequence<u64>;
+    /// The list of the items of a `Vec`, which takes no memory.
+    fn from(list: Vec<T>) -> Sequence<T> {
+        Sequence { list }
+    }
+}

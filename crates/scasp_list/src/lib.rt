@@ -1,0 +1,10 @@
+//! Lists of one type of item, and the want of memory.
+#![tactic(auto)]
+
+mod memory;
+mod sequence;
+#[cfg(test)]
+mod tests;
+
+pub use memory::Memory;
+pub use sequence::Sequence;
