@@ -54,22 +54,12 @@ fn is_atom_of(alloc: Global, values: &Terms, due: &FlatItem, atom: &Atom) -> Res
     }
 }
 
-/// Whether the clause is a rule of the predicate.
-fn is_rule_of(pred: Pred, clause: &Clause) -> bool
-    ensures { result ≡ is_rule_of pred clause.now }
-{
-    match &clause.head {
-        Some(head) => pred == head.pred(),
-        None => false,
-    }
-}
-
 /// Whether the clause of this number is a rule of the predicate.
 fn names_rule(program: &Program, rule: u64, pred: Pred) -> bool
     ensures { result ≡ of_some (numbered program.now.clauses rule) (is_rule_of pred) }
 {
     match program.clause(rule) {
-        Some(clause) => is_rule_of(pred, clause),
+        Some(clause) => clause.is_rule_of(pred),
         None => false,
     }
 }

@@ -4,7 +4,7 @@ use scasp_list::Sequence;
 use scasp_name::NameId;
 
 /// A predicate: its name, its number of arguments, and whether it is a name with `-` in front.
-#[derive(Clone, Copy, Debug, PartialEq, Eq)]
+#[derive(Clone, Copy, Debug, PartialEq, Eq, Hash)]
 pub struct Pred {
     pub minus: bool,
     pub name: NameId,

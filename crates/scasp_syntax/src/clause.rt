@@ -1,5 +1,5 @@
 //! Clauses and queries.
-use crate::atom::{Atom, Lit};
+use crate::atom::{Atom, Lit, Pred};
 use crate::con::Con;
 use crate::lists::VarList;
 use crate::term::Term;
@@ -36,6 +36,21 @@ pub struct Clause {
     pub head: Option<Atom>,
     pub body: Items,
     pub vars: u64,
+}
+
+impl Clause {
+    ghost use Rattle.std.specs.Prelude.{◌≡◌};
+    ghost use Rattle.scasp_syntax.specs.Programs.{is_rule_of};
+
+    /// Whether the clause is a rule of the predicate.
+    pub fn is_rule_of(&self, pred: Pred) -> bool
+        ensures { result ≡ is_rule_of pred self.now }
+    {
+        match &self.head {
+            Some(head) => pred == head.pred(),
+            None => false,
+        }
+    }
 }
 
 /// A list of clauses.
