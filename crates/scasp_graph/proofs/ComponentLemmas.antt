@@ -1,15 +1,20 @@
 -- Components grow root by root.
-use Rattle.std.proofs.Common.{◌≡◌, ◌≢◌, ◌∙◌, ◌∷◌, ℕ, zero, suc, ◌+◌, ◌<◌, ◌≤◌, Bool, true, false, ◌&&◌, cond, List, [], length, map, Option, Some, None, is_some, option_map, slice_get, refl, ap, sym, subst, inl, inr, arith}
-use Rattle.std.proofs.lemmas.Bool.{cases_Bool, false≢true, and_parts, and_from}
+use Rattle.std.proofs.Common.{◌≡◌, ◌≢◌, ◌∙◌, ◌∷◌, ℕ, zero, suc, ◌+◌, ◌<◌, ◌≤◌, ◌-◌, ◌⊎◌, Bool, true, false, not, ◌&&◌, cond, List, [], length, map, Option, Some, None, is_some, option_map, slice_get, get_or, replicate, refl, ap, sym, subst, inl, inr, arith}
+use Rattle.std.specs.Prelude.{unwrap_or, nat_eq}
+use Rattle.std.proofs.lemmas.Bool.{cases_Bool, false≢true}
+use Rattle.std.proofs.lemmas.Bool.Decides.{Decides-eqb}
+use Rattle.std.proofs.lemmas.List.{length-replicate, get_or-replicate, get_or_past}
 use Rattle.std.proofs.lemmas.List.Sums.{sum_by-cons}
 use Rattle.std.proofs.lemmas.Option.{slice_get-map, slice_get_within, slice_get-get_or, get_or_from_slice_get}
-use Rattle.scasp_graph.specs.Components.{turned, member_at, root_of, joined, AreComponents}
-use Rattle.scasp_graph.specs.Graphs.{edge_at, EdgeIn, Marks, mark_of, is_marked, marked_count, IsReach, EndsBelow}
-use Rattle.scasp_graph.specs.Walks.{Walk, Reaches, stays}
+use Rattle.scasp_graph.specs.Components.{turned, member_at, root_of, AreComponents}
+use Rattle.scasp_graph.specs.Graphs.{edge_at, EdgeIn, EdgeTo, Marks, mark_of, is_marked, odd_of, marked_count, AreBelow, AreClear, IsListed, IsReach, EndsBelow}
+use Rattle.scasp_graph.specs.Partitions.{rank_of, IsMember, AreKnown, IsSource, placed, ArePlaced}
+use Rattle.scasp_syntax.specs.Same.{same_bool}
+use Rattle.scasp_graph.specs.Walks.{Walk, Reaches, stays, goes}
 use Rattle.scasp_graph.specs.declared.components.Member.{Member}
 use Rattle.scasp_graph.specs.declared.graph.Edge.{Edge}
-use Rattle.scasp_graph.proofs.GraphLemmas.{last_or_below, below_or_not}
-use Rattle.scasp_graph.proofs.ReachLemmas.{some-is, marked_count-below}
+use Rattle.scasp_graph.proofs.GraphLemmas.{below_or_not}
+use Rattle.scasp_graph.proofs.ReachLemmas.{some-is, marked_count-below, marked-below}
 use Rattle.scasp_graph.proofs.WalkLemmas.{differ, kept, reaches-trans, edge-walk}
 use Rattle.scasp_graph.proofs.WalkLemmas as walks
 
@@ -50,175 +55,44 @@ turn-some (Some x) u v b h =
 pub turn-back : (edges : List Edge) (u v : ℕ) (b : Bool) → EdgeIn (map turned edges) u b v → EdgeIn edges v b u
 turn-back edges u v b e = (e.0, turn-some (slice_get edges e.0) u v b (sym (slice_get-map turned edges e.0) ∙ e.1))
 
--- what a walk from the start reaches is marked
-pub reach-marked : (size : ℕ) (edges : List Edge) (start : ℕ) (marks : Marks) → IsReach size edges start marks → (v : ℕ) → Reaches (EdgeIn edges) start v → is_marked marks v ≡ true
-reach-marked size edges start marks r v w =
-    kept (λ u. is_marked marks u ≡ true)
-    (λ p q b e m.
+-- each step of a walk leads to a marked node of `inside`
+pub untold : (edges : List Edge) (inside : Marks) {u v : ℕ} {b : Bool} → Walk (EdgeTo edges inside) u v b → Walk (EdgeIn edges) u v b
+untold edges inside w = walks.mapped (λ (n : ℕ). n) (λ p q b e. e.0) w
+
+-- what is marked is reached
+pub marked-reach : (size : ℕ) (edges : List Edge) (inside : Marks) (start : ℕ) (marks : Marks) (found : List ℕ) → IsReach size edges inside start marks found → (v : ℕ) → is_marked marks v ≡ true → Walk (EdgeIn edges) start v (odd_of marks v)
+marked-reach size edges inside start marks found r v h =
+    let s = some-is (mark_of marks v) h in
+    let e : odd_of marks v ≡ s.0 = ap (λ o. unwrap_or o false) s.1 in
+    subst (Walk (EdgeIn edges) start v) (sym e) (untold edges inside (r.sound v s.0 s.1))
+
+-- from a marked node an edge leads to a marked one, if the search may go there
+pub reach-edge : (size : ℕ) (edges : List Edge) (inside : Marks) (start : ℕ) (marks : Marks) (found : List ℕ) → IsReach size edges inside start marks found → (p q : ℕ) (b : Bool) → EdgeIn edges p b q → is_marked marks p ≡ true → is_marked inside q ≡ true → is_marked marks q ≡ true
+reach-edge size edges inside start marks found r p q b e m i =
     let k = edge-is edges p q b e in
     let f : (edge_at edges e.0).from ≡ p = ap (λ (z : Edge). z.from) k.1 in
     let t : (edge_at edges e.0).to ≡ q = ap (λ (z : Edge). z.to) k.1 in
-    ap (is_marked marks) (sym t) ∙ r.closed e.0 k.0 (ap (is_marked marks) f ∙ m))
-    w.1 (ap is_some r.started)
+    ap (is_marked marks) (sym t) ∙ r.closed e.0 k.0 (ap (is_marked marks) f ∙ m) (ap (is_marked inside) t ∙ i)
 
--- what is marked is reached
-pub marked-reach : (size : ℕ) (edges : List Edge) (start : ℕ) (marks : Marks) → IsReach size edges start marks → (v : ℕ) → is_marked marks v ≡ true → Reaches (EdgeIn edges) start v
-marked-reach size edges start marks r v h = let s = some-is (mark_of marks v) h in (s.0, r.sound v s.0 s.1)
+pub reach-below : (size : ℕ) (edges : List Edge) (inside : Marks) (start : ℕ) (marks : Marks) (found : List ℕ) → IsReach size edges inside start marks found → (v : ℕ) → is_marked marks v ≡ true → v < size
+reach-below size edges inside start marks found r v h = let b = marked-below marks v h in let s = r.sized in omega (arith, b, s)
 
--- a node of a component whose root is known
-pub record IsMember (size : ℕ) (edges : List Edge) (u : ℕ) (m : Member) : Type 0 where
-  pub below : m.root ≤ u
-  pub ahead : Walk (EdgeIn edges) m.root u m.parity
-  pub back : Reaches (EdgeIn edges) u m.root
-  pub plain : m.root ≡ u → m.parity ≡ false
-  pub ranked : (marks : Marks) × (IsReach size edges m.root marks × (m.rank ≡ marked_count marks))
+-- all that leads to the start by nodes that may be visited is marked
+back-marked : (size : ℕ) (edges : List Edge) (free from : Marks) (leading : List ℕ) (start : ℕ) → EndsBelow size edges → IsReach size (map turned edges) free start from leading → {u s : ℕ} {b : Bool} → Walk (EdgeIn edges) u s b → is_marked from s ≡ true → ((w : ℕ) → w < size → Reaches (EdgeIn edges) w s → Reaches (EdgeIn edges) s w → is_marked free w ≡ true) → Reaches (EdgeIn edges) s u → is_marked from u ≡ true
+back-marked size edges free from leading start ends r (stays p) m all h = m
+back-marked size edges free from leading start ends r (goes u v s d f e w) m all h =
+    let k = edge-is edges u v d e in
+    let below : u < size = let t = ends.from e.0 k.0 in let i : (edge_at edges e.0).from ≡ u = ap (λ (z : Edge). z.from) k.1 in omega (arith, t, i) in
+    let rest : is_marked from v ≡ true = back-marked size edges free from leading start ends r w m all (reaches-trans h (d, edge-walk u v d e)) in
+    reach-edge size (map turned edges) free start from leading r v u d (turn edges u v d e) rest (all u below (differ d f, goes u v s d f e w) h)
 
--- the nodes below `done` have roots, and with each node that has one all of its component
-pub record Entered (size : ℕ) (edges : List Edge) (members : List Member) (done : ℕ) : Type 0 where
-  pub sized : length members ≡ size
-  pub each : (u : ℕ) → u < size → root_of members u < size → IsMember size edges u (member_at members u)
-  pub closed : (u v : ℕ) → u < size → v < size → root_of members u < size → Reaches (EdgeIn edges) u v → Reaches (EdgeIn edges) v u → root_of members v ≡ root_of members u
-  pub all : (u : ℕ) → u < done → root_of members u < size
-  pub known : (u : ℕ) → u < size → root_of members u ≤ size
-
-joined-same : (root rank : ℕ) (o : Option Bool) (b : Bool) (m : Member) → (is_some o && b) ≡ false → joined root rank o b m ≡ m
-joined-same root rank None b m h = refl
-joined-same root rank (Some p) true m h = cc
-joined-same root rank (Some p) false m h = refl
-
-joined-new : (root rank : ℕ) (o : Option Bool) (b : Bool) (m : Member) (p : Bool) → o ≡ Some p → b ≡ true → joined root rank o b m ≡ record { root = root; parity = p; rank = rank }
-joined-new root rank o b m p e h = ap (λ z. joined root rank z b m) e ∙ ap (λ z. joined root rank (Some p) z m) h
-
-pub entered-none : (size : ℕ) (edges : List Edge) (members : List Member) → length members ≡ size → ((u : ℕ) → u < size → root_of members u ≡ size) → Entered size edges members 0
-entered-none size edges members l h =
-    record {
-      sized = l;
-      each = λ u b r. let e = h u b in absurd (omega (arith, r, e));
-      closed = λ u v b d r. let e = h u b in absurd (omega (arith, r, e));
-      all = λ u r. absurd (omega (arith, r));
-      known = λ u b. let e = h u b in omega (arith, e);
-    }
-
--- a node whose component is known already
-pub entered-skip : (size : ℕ) (edges : List Edge) (members : List Member) (v : ℕ) → Entered size edges members v → v < size → root_of members v ≢ size → Entered size edges members (v + 1)
-entered-skip size edges members v g below d =
-    record {
-      sized = g.sized;
-      each = g.each;
-      closed = g.closed;
-      all =
-          λ u h.
-          elim (last_or_below u v h) [
-            | inl s ↦
-                (let k = g.known v below in
-                let r : root_of members v < size = omega (arith, k, d) in
-                subst (λ z. root_of members z < size) (sym s) r)
-            | inr l ↦ g.all u l
-          ];
-      known = g.known;
-    }
-
--- a component more
-pub entered-more : (size : ℕ) (edges : List Edge) (members after : List Member) (v : ℕ) (to from : Marks) → Entered size edges members v → v < size → root_of members v ≡ size → IsReach size edges v to → IsReach size (map turned edges) v from → length after ≡ length members → ((u : ℕ) → u < length members → member_at after u ≡ joined v (marked_count to) (mark_of to u) (is_marked from u) (member_at members u)) → Entered size edges after (v + 1)
-entered-more size edges members after v to from g below new rt rf len each =
-    record {
-      sized = len ∙ g.sized;
-      each =
-          λ u b r.
-          elim (cases_Bool (is_marked to u && is_marked from u)) [
-            | inl h ↦ let p = and_parts (is_marked to u) (is_marked from u) h in subst (IsMember size edges u) (sym (fresh u b p.0 p.1)) (newly u b p.0 p.1)
-            | inr h ↦
-                (let same : member_at after u ≡ member_at members u = old u b h in
-                let r' : root_of members u < size = subst (λ (m : Member). m.root < size) same r in
-                subst (IsMember size edges u) (sym same) (g.each u b r'))
-          ];
-      closed =
-          λ u w b d r x y.
-          elim (cases_Bool (is_marked to u && is_marked from u)) [
-            | inl h ↦
-                (let p = and_parts (is_marked to u) (is_marked from u) h in
-                let q = both w (reaches-trans (there u p.0) x) (reaches-trans y (here u p.1)) in
-                ap (λ (m : Member). m.root) (fresh w d q.0 q.1) ∙ sym (ap (λ (m : Member). m.root) (fresh u b p.0 p.1)))
-            | inr h ↦
-                elim (cases_Bool (is_marked to w && is_marked from w)) [
-                  | inl k ↦
-                      (let p = and_parts (is_marked to w) (is_marked from w) k in
-                      let q = both u (reaches-trans (there w p.0) y) (reaches-trans x (here w p.1)) in
-                      absurd (false≢true (sym h ∙ and_from (is_marked to u) (is_marked from u) q.0 q.1)))
-                  | inr k ↦
-                      (let su : member_at after u ≡ member_at members u = old u b h in
-                      let sw : member_at after w ≡ member_at members w = old w d k in
-                      let r' : root_of members u < size = subst (λ (m : Member). m.root < size) su r in
-                      ap (λ (m : Member). m.root) sw ∙ g.closed u w b d r' x y ∙ sym (ap (λ (m : Member). m.root) su))
-                ]
-          ];
-      all =
-          λ u h.
-          elim (cases_Bool (is_marked to u && is_marked from u)) [
-            | inl k ↦
-                (let b : u < size = omega (arith, h, below) in
-                let p = and_parts (is_marked to u) (is_marked from u) k in
-                let e : root_of after u ≡ v = ap (λ (m : Member). m.root) (fresh u b p.0 p.1) in omega (arith, e, below))
-            | inr k ↦
-                elim (last_or_below u v h) [
-                  | inl s ↦
-                      (let q = both v (false, stays v) (false, stays v) in
-                      let t : (is_marked to u && is_marked from u) ≡ true =
-                      ap (λ z. is_marked to z && is_marked from z) s ∙ and_from (is_marked to v) (is_marked from v) q.0 q.1 in
-                      absurd (false≢true (sym k ∙ t)))
-                  | inr l ↦
-                      (let b : u < size = omega (arith, l, below) in
-                      let e : root_of after u ≡ root_of members u = ap (λ (m : Member). m.root) (old u b k) in
-                      let a = g.all u l in omega (arith, e, a))
-                ]
-          ];
-      known =
-          λ u b.
-          elim (cases_Bool (is_marked to u && is_marked from u)) [
-            | inl k ↦
-                (let p = and_parts (is_marked to u) (is_marked from u) k in
-                let e : root_of after u ≡ v = ap (λ (m : Member). m.root) (fresh u b p.0 p.1) in omega (arith, e, below))
-            | inr k ↦
-                (let e : root_of after u ≡ root_of members u = ap (λ (m : Member). m.root) (old u b k) in
-                let a = g.known u b in omega (arith, e, a))
-          ];
-    }
-  where
-    there : (u : ℕ) → is_marked to u ≡ true → Reaches (EdgeIn edges) v u
-    there u m = marked-reach size edges v to rt u m
-
-    here : (u : ℕ) → is_marked from u ≡ true → Reaches (EdgeIn edges) u v
-    here u m = let w = marked-reach size (map turned edges) v from rf u m in (w.0, walks.turned (λ p q b e. turn-back edges p q b e) w.1)
-
-    both : (u : ℕ) → Reaches (EdgeIn edges) v u → Reaches (EdgeIn edges) u v → (is_marked to u ≡ true) × (is_marked from u ≡ true)
-    both u x y = (reach-marked size edges v to rt u x, reach-marked size (map turned edges) v from rf u (y.0, walks.turned (λ p q b e. turn edges p q b e) y.1))
-
-    within : (u : ℕ) → u < size → u < length members
-    within u b = let s = g.sized in omega (arith, b, s)
-
-    old : (u : ℕ) → u < size → (is_marked to u && is_marked from u) ≡ false → member_at after u ≡ member_at members u
-    old u b h = each u (within u b) ∙ joined-same v (marked_count to) (mark_of to u) (is_marked from u) (member_at members u) h
-
-    fresh : (u : ℕ) → u < size → (m : is_marked to u ≡ true) → is_marked from u ≡ true → member_at after u ≡ record { root = v; parity = (some-is (mark_of to u) m).0; rank = marked_count to }
-    fresh u b m f = let s = some-is (mark_of to u) m in each u (within u b) ∙ joined-new v (marked_count to) (mark_of to u) (is_marked from u) (member_at members u) s.0 s.1 f
-
-    newly : (u : ℕ) → u < size → (m : is_marked to u ≡ true) → is_marked from u ≡ true → IsMember size edges u (record { root = v; parity = (some-is (mark_of to u) m).0; rank = marked_count to })
-    newly u b m f =
-        let s = some-is (mark_of to u) m in
-        record {
-          below =
-              elim (below_or_not u v) [
-                | inl l ↦
-                    (let a = g.all u l in
-                    let e : root_of members v ≡ root_of members u = g.closed u v b below a (here u f) (there u m) in
-                    absurd (omega (arith, a, e, new)))
-                | inr l ↦ l
-              ];
-          ahead = rt.sound u s.0 s.1;
-          back = here u f;
-          plain = λ e. let k : mark_of to u ≡ Some false = ap (mark_of to) (sym e) ∙ rt.started in let z = sym s.1 ∙ k in cc;
-          ranked = (to, (rt, refl));
-        }
+-- where a search backwards within what leads to the start comes to the start, the search from the start comes back
+ahead-marked : (size : ℕ) (edges : List Edge) (free from to : Marks) (leading nodes : List ℕ) (start : ℕ) → IsReach size (map turned edges) free start from leading → IsReach size edges from start to nodes → {u s : ℕ} {b : Bool} → Walk (EdgeTo (map turned edges) free) u s b → is_marked to s ≡ true → is_marked from u ≡ true → is_marked to u ≡ true
+ahead-marked size edges free from to leading nodes start r a (stays p) m h = m
+ahead-marked size edges free from to leading nodes start r a (goes u v s d f e w) m h =
+    let there : is_marked from v ≡ true = reach-edge size (map turned edges) free start from leading r u v d e.0 h e.1 in
+    let rest : is_marked to v ≡ true = ahead-marked size edges free from to leading nodes start r a w m there in
+    reach-edge size edges from start to nodes a v u d (turn-back edges u v d e.0) rest h
 
 weight-le : (m n : Option Bool) → (is_some m ≡ true → is_some n ≡ true) → cond {A = ℕ} (is_some m) 1 0 ≤ cond {A = ℕ} (is_some n) 1 0
 weight-le None n h = omega arith
@@ -236,7 +110,7 @@ marked-le (m ∷ ms) (n ∷ ns) l all =
     omega (arith, r, w, count-cons m ms, count-cons n ns)
 
 -- fewer nodes are marked where each is marked in the other list too, and one is not
-marked-fewer : (ms ns : Marks) (i : ℕ) → length ms ≡ length ns → ((u : ℕ) → is_marked ms u ≡ true → is_marked ns u ≡ true) → is_marked ms i ≡ false → is_marked ns i ≡ true → marked_count ms < marked_count ns
+pub marked-fewer : (ms ns : Marks) (i : ℕ) → length ms ≡ length ns → ((u : ℕ) → is_marked ms u ≡ true → is_marked ns u ≡ true) → is_marked ms i ≡ false → is_marked ns i ≡ true → marked_count ms < marked_count ns
 marked-fewer [] [] i l all n y = absurd (false≢true y)
 marked-fewer [] (n ∷ ns) i l all k y = absurd (omega (arith, l))
 marked-fewer (m ∷ ms) [] i l all n y = absurd (omega (arith, l))
@@ -250,61 +124,295 @@ marked-fewer (m ∷ ms) (n ∷ ns) (suc i) l all k y =
     let w = weight-le m n (all 0) in
     omega (arith, r, w, count-cons m ms, count-cons n ns)
 
-pub entered-all : (size : ℕ) (edges : List Edge) (members : List Member) (done : ℕ) → EndsBelow size edges → Entered size edges members done → size ≤ done → AreComponents size edges members
-entered-all size edges members done ends g h =
+-- a search from a node that leads to the start, and not back, finds fewer nodes that lead there
+pub source-smaller : (size : ℕ) (edges : List Edge) (free from to after : Marks) (leading nodes later : List ℕ) (start next : ℕ) → IsReach size (map turned edges) free start from leading → IsReach size edges from start to nodes → IsReach size (map turned edges) free next after later → IsListed leading next → is_marked to next ≡ false → length later < length leading
+source-smaller size edges free from to after leading nodes later start next r a n l not-to =
+    let fewer = marked-fewer after from start (n.sized ∙ sym r.sized) subset lacks (ap is_some r.started) in
+    let x = r.counted in
+    let y = n.counted in
+    omega (arith, fewer, x, y)
+  where
+    here : is_marked from next ≡ true
+    here = ap (is_marked from) (sym l.1.1) ∙ r.marked l.0 l.1.0
+
+    walk : (v : ℕ) → is_marked after v ≡ true → (b : Bool) × Walk (EdgeTo (map turned edges) free) next v b
+    walk v h = let s = some-is (mark_of after v) h in (s.0, n.sound v s.0 s.1)
+
+    subset : (v : ℕ) → is_marked after v ≡ true → is_marked from v ≡ true
+    subset v h =
+        kept (λ u. is_marked from u ≡ true)
+        (λ p q b e m. reach-edge size (map turned edges) free start from leading r p q b e.0 m e.1) (walk v h).1 here
+
+    lacks : is_marked after start ≡ false
+    lacks =
+        elim (cases_Bool (is_marked after start)) [
+          | inl h ↦
+              (let t : is_marked to next ≡ true =
+              ahead-marked size edges free from to leading nodes start r a (walk start h).1 (ap is_some a.started) here in
+              absurd (false≢true (sym not-to ∙ t)))
+          | inr h ↦ h
+        ]
+
+pub clear-none : (size : ℕ) (marks : Marks) → marks ≡ replicate size None → AreClear size marks
+clear-none size marks e =
     record {
-      sized = g.sized;
+      sized = ap length e ∙ length-replicate size None;
+      none =
+          λ v.
+          ap is_some (ap (λ z. mark_of z v) e)
+          ∙ elim (below_or_not v size) [
+            | inl h ↦ ap is_some (get_or-replicate size v None None h)
+            | inr h ↦ (let l : length (replicate {A = Option Bool} size None) ≡ size = length-replicate size None in ap is_some (get_or_past (replicate size None) v None (omega (arith, h, l))))
+          ];
+    }
+
+pub known-none : (size : ℕ) (edges : List Edge) (members : List Member) (free : Marks) → length members ≡ size → length free ≡ size → ((u : ℕ) → u < size → is_marked free u ≡ true) → AreKnown size edges members free size
+known-none size edges members free l f all =
+    record {
+      sized = l;
+      freed = f;
+      each = λ u b h. absurd (false≢true (sym h ∙ all u b));
+      together = λ u v b d h x y. absurd (false≢true (sym h ∙ all u b));
+      before = λ u v n b d e h. absurd (false≢true (sym h ∙ all v d));
+      counted = let c : marked_count free ≤ length free = marked_count-below free in omega (arith, c, f);
+      fits = omega arith;
+    }
+
+-- a component more
+module _ (size : ℕ) (edges : List Edge) (ends : EndsBelow size edges) (members after : List Member) (free rest from to : Marks) (left : ℕ) (nodes : List ℕ) (known : AreKnown size edges members free left) (source : IsSource size edges free from to nodes) (made : ArePlaced members free left nodes from to after rest) where
+  s : ℕ
+  s = source.start
+
+  to-from : (u : ℕ) → is_marked to u ≡ true → is_marked from u ≡ true
+  to-from u h = source.ahead.within u h
+
+  from-free : (u : ℕ) → is_marked from u ≡ true → is_marked free u ≡ true
+  from-free u h = source.back.within u h
+
+  there : (u : ℕ) → is_marked from u ≡ true → Walk (EdgeIn edges) source.start u (odd_of to u)
+  there u h = marked-reach size edges from source.start to nodes source.ahead u (source.all u h)
+
+  here : (u : ℕ) → is_marked from u ≡ true → Walk (EdgeIn edges) u source.start (odd_of from u)
+  here u h = walks.turned (λ p q b e. turn-back edges p q b e) (marked-reach size (map turned edges) free source.start from source.leading source.back u h)
+
+  started : is_marked from source.start ≡ true
+  started = ap is_some source.back.started
+
+  bound : (u : ℕ) → is_marked from u ≡ true → u < size
+  bound u h = reach-below size (map turned edges) free source.start from source.leading source.back u h
+
+  -- the component of the start is free
+  all-free : (w : ℕ) → w < size → Reaches (EdgeIn edges) w source.start → Reaches (EdgeIn edges) source.start w → is_marked free w ≡ true
+  all-free w b x y =
+      elim (cases_Bool (is_marked free w)) [
+        | inl h ↦ h
+        | inr h ↦
+            (let k = (known.together w source.start b (bound source.start started) h x y).0 in
+            absurd (false≢true (sym k ∙ from-free source.start started)))
+      ]
+
+  both : (u : ℕ) → Reaches (EdgeIn edges) source.start u → Reaches (EdgeIn edges) u source.start → is_marked from u ≡ true
+  both u x y = back-marked size edges free from source.leading source.start ends source.back y.1 started all-free x
+
+  -- the nodes of the component are listed
+  is-listed : (u : ℕ) → is_marked from u ≡ true → IsListed nodes u
+  is-listed u h = source.ahead.listed u (source.all u h)
+
+  from-listed : (u : ℕ) → IsListed nodes u → is_marked from u ≡ true
+  from-listed u l = to-from u (ap (is_marked to) (sym l.1.1) ∙ source.ahead.marked l.0 l.1.0)
+
+  root-from : is_marked from made.root ≡ true
+  root-from = from-listed made.root made.listed
+
+  fresh : (u : ℕ) → is_marked from u ≡ true → member_at after u ≡ placed made.root left from to u
+  fresh u h = (made.each u (is-listed u h)).0
+
+  taken : (u : ℕ) → is_marked from u ≡ true → is_marked rest u ≡ false
+  taken u h = (made.each u (is-listed u h)).1
+
+  unlisted : (u : ℕ) → is_marked from u ≡ false → IsListed nodes u → ⊥
+  unlisted u h l = false≢true (sym h ∙ from-listed u l)
+
+  old : (u : ℕ) → is_marked from u ≡ false → member_at after u ≡ member_at members u
+  old u h = (made.others u (unlisted u h)).0
+
+  old-free : (u : ℕ) → is_marked from u ≡ false → is_marked rest u ≡ is_marked free u
+  old-free u h = ap is_some (made.others u (unlisted u h)).1
+
+  known-free : (u : ℕ) → is_marked free u ≡ false → is_marked from u ≡ false
+  known-free u h =
+      elim (cases_Bool (is_marked from u)) [ inl m ↦ absurd (false≢true (sym h ∙ from-free u m)) | inr m ↦ m ]
+
+  free-left : (u : ℕ) → is_marked rest u ≡ true → is_marked free u ≡ true
+  free-left u h =
+      elim (cases_Bool (is_marked from u)) [
+        | inl m ↦ absurd (false≢true (sym (taken u m) ∙ h))
+        | inr m ↦ sym (old-free u m) ∙ h
+      ]
+
+  pub free-stays : (u : ℕ) → is_marked free u ≡ false → is_marked rest u ≡ false
+  free-stays u h = old-free u (known-free u h) ∙ h
+
+  fewer : marked_count rest < marked_count free
+  fewer = marked-fewer rest free source.start (made.freed) free-left (taken source.start started) (from-free source.start started)
+
+  new-walk : (u : ℕ) → is_marked from u ≡ true → Walk (EdgeIn edges) made.root u (not (nat_eq u made.root) && not (same_bool (odd_of from made.root) (odd_of to u)))
+  new-walk u h =
+      elim (cases_Bool (nat_eq u made.root)) [
+        | inl e ↦
+            (let i : u ≡ made.root = (Decides-eqb u made.root).0 e in
+            let z : (not (nat_eq u made.root) && not (same_bool (odd_of from made.root) (odd_of to u))) ≡ false =
+            ap (λ t. not t && not (same_bool (odd_of from made.root) (odd_of to u))) e in
+            subst (Walk (EdgeIn edges) made.root u) (sym z) (subst (λ v. Walk (EdgeIn edges) made.root v false) (sym i) (stays made.root)))
+        | inr e ↦
+            (let z : (not (nat_eq u made.root) && not (same_bool (odd_of from made.root) (odd_of to u))) ≡ not (same_bool (odd_of from made.root) (odd_of to u)) =
+            ap (λ t. not t && not (same_bool (odd_of from made.root) (odd_of to u))) e in
+            subst (Walk (EdgeIn edges) made.root u) (sym z) (walks.joined (here made.root root-from) u (odd_of to u) (there u h)))
+      ]
+
+  new-member : (u : ℕ) → is_marked from u ≡ true → IsMember size edges (left - 1) u (placed made.root left from to u)
+  new-member u h =
+      let g = known.counted in
+      let w = fewer in
+      record {
+        below = made.least u (is-listed u h);
+        ahead = new-walk u h;
+        back = reaches-trans (odd_of from u, here u h) (odd_of to made.root, there made.root root-from);
+        plain = λ e. ap (λ t. not t && not (same_bool (odd_of from made.root) (odd_of to u))) ((Decides-eqb u made.root).1 (sym e));
+        ranked = omega (arith, g, w);
+        bounded = known.fits;
+      }
+
+  each : (u : ℕ) → u < size → is_marked rest u ≡ false → IsMember size edges (left - 1) u (member_at after u)
+  each u b h =
+      elim (cases_Bool (is_marked from u)) [
+        | inl m ↦ subst (IsMember size edges (left - 1) u) (sym (fresh u m)) (new-member u m)
+        | inr m ↦
+            (let k = known.each u b (sym (old-free u m) ∙ h) in
+            let r = k.ranked in
+            subst (IsMember size edges (left - 1) u) (sym (old u m))
+            (record { below = k.below; ahead = k.ahead; back = k.back; plain = k.plain; ranked = omega (arith, r); bounded = k.bounded }))
+      ]
+
+  root-is : (u : ℕ) → is_marked from u ≡ true → root_of after u ≡ made.root
+  root-is u h = ap (λ (m : Member). m.root) (fresh u h)
+
+  rank-is : (u : ℕ) → is_marked from u ≡ true → rank_of after u ≡ left
+  rank-is u h = ap (λ (m : Member). m.rank) (fresh u h)
+
+  together : (u v : ℕ) → u < size → v < size → is_marked rest u ≡ false → Reaches (EdgeIn edges) u v → Reaches (EdgeIn edges) v u → (is_marked rest v ≡ false) × ((root_of after v ≡ root_of after u) × (rank_of after v ≡ rank_of after u))
+  together u v b d h x y =
+      elim (cases_Bool (is_marked from u)) [
+        | inl m ↦
+            (let n : is_marked from v ≡ true = both v (reaches-trans (odd_of to u, there u m) x) (reaches-trans y (odd_of from u, here u m)) in
+            (taken v n, (root-is v n ∙ sym (root-is u m), rank-is v n ∙ sym (rank-is u m))))
+        | inr m ↦
+            (let k = known.together u v b d (sym (old-free u m) ∙ h) x y in
+            let n : is_marked from v ≡ false = known-free v k.0 in (
+              old-free v n ∙ k.0,
+              (
+                ap (λ (z : Member). z.root) (old v n) ∙ k.1.0 ∙ sym (ap (λ (z : Member). z.root) (old u m)),
+                ap (λ (z : Member). z.rank) (old v n) ∙ k.1.1 ∙ sym (ap (λ (z : Member). z.rank) (old u m)),
+              ),
+            ))
+      ]
+
+  before : (u v : ℕ) (b : Bool) → u < size → v < size → EdgeIn edges u b v → is_marked rest v ≡ false → (is_marked rest u ≡ false) × ((root_of after v ≡ root_of after u) ⊎ (rank_of after v < rank_of after u))
+  before u v b lu lv e h =
+      elim (cases_Bool (is_marked from v)) [
+        | inl n ↦
+            elim (cases_Bool (is_marked free u)) [
+              | inl f ↦
+                  (let m : is_marked from u ≡ true =
+                  reach-edge size (map turned edges) free source.start from source.leading source.back v u b (turn edges u v b e) n f in
+                  (taken u m, inl (root-is v n ∙ sym (root-is u m))))
+              | inr f ↦
+                  (let m : is_marked from u ≡ false = known-free u f in
+                  let r = (known.each u lu f).ranked in
+                  let x = rank-is v n in
+                  let y : rank_of after u ≡ rank_of members u = ap (λ (z : Member). z.rank) (old u m) in
+                  (old-free u m ∙ f, inr (omega (arith, r, x, y))))
+            ]
+        | inr n ↦
+            (let k = known.before u v b lu lv e (sym (old-free v n) ∙ h) in
+            let m : is_marked from u ≡ false = known-free u k.0 in
+            let rv : root_of after v ≡ root_of members v = ap (λ (z : Member). z.root) (old v n) in
+            let ru : root_of after u ≡ root_of members u = ap (λ (z : Member). z.root) (old u m) in
+            let kv : rank_of after v ≡ rank_of members v = ap (λ (z : Member). z.rank) (old v n) in
+            let ku : rank_of after u ≡ rank_of members u = ap (λ (z : Member). z.rank) (old u m) in
+            (old-free u m ∙ k.0, elim k.1 [ inl q ↦ inl (rv ∙ q ∙ sym ru) | inr q ↦ inr (omega (arith, q, kv, ku)) ]))
+      ]
+
+  pub known-more : AreKnown size edges after rest (left - 1)
+  known-more =
+      let f = fewer in
+      let g = known.counted in
+      let l = known.fits in
+      record {
+        sized = made.sized ∙ known.sized;
+        freed = made.freed ∙ known.freed;
+        each = each;
+        together = together;
+        before = before;
+        counted = omega (arith, f, g);
+        fits = omega (arith, l);
+      }
+
+  pub left-some : 0 < left
+  left-some = let f = fewer in let g = known.counted in omega (arith, f, g)
+
+pub known-all : (size : ℕ) (edges : List Edge) (members : List Member) (free : Marks) (left : ℕ) → EndsBelow size edges → AreKnown size edges members free left → ((u : ℕ) → u < size → is_marked free u ≡ false) → AreComponents size edges members
+known-all size edges members free left ends k all =
+    record {
+      sized = k.sized;
       below = λ u b. (member u b).below;
       ahead = λ u b. (member u b).ahead;
       back = λ u b. (member u b).back;
       plain = λ u b. (member u b).plain;
-      together = λ u v b d x y. g.closed u v b d (rooted u b) x y;
-      bounded =
-          λ u b.
-          let k = (member u b).ranked in
-          let c = marked_count-below k.0 in
-          let s = k.1.0.sized in
-          let r = k.1.1 in
-          omega (arith, c, s, r);
+      together = λ u v b d x y. (k.together u v b d (all u b) x y).1.0;
+      bounded = λ u b. (member u b).bounded;
       falls =
           λ e b d.
-          let f : ℕ = (edge_at edges e).from in
-          let t : ℕ = (edge_at edges e).to in
           falls_between (edge_at edges e).from (edge_at edges e).to (edge_at edges e).negated (ends.from e b) (ends.to e b) (edge-in edges e b) d;
     }
   where
+    member : (u : ℕ) → u < size → IsMember size edges left u (member_at members u)
+    member u b = k.each u b (all u b)
+
     rooted : (u : ℕ) → u < size → root_of members u < size
-    rooted u b = g.all u (omega (arith, b, h))
+    rooted u b = let h = (member u b).below in omega (arith, h, b)
 
-    member : (u : ℕ) → u < size → IsMember size edges u (member_at members u)
-    member u b = g.each u b (rooted u b)
+    root-rank : (u : ℕ) → u < size → rank_of members (root_of members u) ≡ rank_of members u
+    root-rank u b = (k.together u (root_of members u) b (rooted u b) (all u b) (member u b).back ((member_at members u).parity, (member u b).ahead)).1.1
 
-    root_root : (u : ℕ) → u < size → root_of members (root_of members u) ≡ root_of members u
-    root_root u b = g.closed u (root_of members u) b (rooted u b) (rooted u b) (member u b).back ((member_at members u).parity, (member u b).ahead)
-
-    reach : (u : ℕ) → u < size → (marks : Marks) × (IsReach size edges (root_of members u) marks × ((member_at members (root_of members u)).rank ≡ marked_count marks))
-    reach u b =
-        let k = (member (root_of members u) (rooted u b)).ranked in
-        (k.0, (subst (λ r. IsReach size edges r k.0) (root_root u b) k.1.0, k.1.1))
-
-    falls_between : (f t : ℕ) (n : Bool) → f < size → t < size → EdgeIn edges f n t → root_of members t ≢ root_of members f → (member_at members (root_of members t)).rank < (member_at members (root_of members f)).rank
+    falls_between : (f t : ℕ) (n : Bool) → f < size → t < size → EdgeIn edges f n t → root_of members t ≢ root_of members f → rank_of members (root_of members t) < rank_of members (root_of members f)
     falls_between f t n bf bt e d =
-        let rf = reach f bf in
-        let rt = reach t bt in
-        let along : Reaches (EdgeIn edges) f t = (n, edge-walk f t n e) in
-        let down : Reaches (EdgeIn edges) (root_of members f) (root_of members t) =
-        reaches-trans ((member_at members f).parity, (member f bf).ahead) (reaches-trans along (member t bt).back) in
-        let all = λ (u : ℕ) (m : is_marked rt.0 u ≡ true).
-        reach-marked size edges (root_of members f) rf.0 rf.1.0 u (reaches-trans down (marked-reach size edges (root_of members t) rt.0 rt.1.0 u m)) in
-        let here : is_marked rf.0 (root_of members f) ≡ true = ap is_some rf.1.0.started in
-        let fewer : marked_count rt.0 < marked_count rf.0 =
-        elim (cases_Bool (is_marked rt.0 (root_of members f))) [
-          | inl m ↦
-              (let back : Reaches (EdgeIn edges) t f =
-              reaches-trans (member t bt).back (reaches-trans (marked-reach size edges (root_of members t) rt.0 rt.1.0 (root_of members f) m) ((member_at members f).parity, (member f bf).ahead)) in
-              absurd (d (g.closed f t bf bt (rooted f bf) along back)))
-          | inr m ↦ marked-fewer rt.0 rf.0 (root_of members f) (rt.1.0.sized ∙ sym rf.1.0.sized) all m here
-        ] in
-        let x = rf.1.1 in
-        let y = rt.1.1 in
-        omega (arith, fewer, x, y)
+        elim (k.before f t n bf bt e (all t bt)).1 [
+          | inl q ↦ absurd (d q)
+          | inr q ↦ (let x = root-rank f bf in let y = root-rank t bt in omega (arith, q, x, y))
+        ]
+
+-- the searches from some node, backwards among the free nodes and forwards among those found
+pub record Searched (size : ℕ) (edges : List Edge) (free from to : Marks) (leading nodes : List ℕ) : Type 0 where
+  pub start : ℕ
+  pub back : IsReach size (map turned edges) free start from leading
+  pub ahead : IsReach size edges from start to nodes
+
+pub searched : (size : ℕ) (edges other : List Edge) (free from to : Marks) (leading nodes : List ℕ) (start : ℕ) → other ≡ map turned edges → IsReach size other free start from leading → IsReach size edges from start to nodes → Searched size edges free from to leading nodes
+searched size edges other free from to leading nodes start e r a =
+    record { start = start; back = subst (λ z. IsReach size z free start from leading) e r; ahead = a }
+
+pub source-found : (size : ℕ) (edges : List Edge) (free from to : Marks) (leading nodes : List ℕ) → Searched size edges free from to leading nodes → ((k : ℕ) → k < length leading → is_marked to (get_or leading k 0) ≡ true) → IsSource size edges free from to nodes
+source-found size edges free from to leading nodes s h =
+    record {
+      start = s.start;
+      leading = leading;
+      back = s.back;
+      ahead = s.ahead;
+      all = λ v m. let k = s.back.listed v m in ap (is_marked to) (sym k.1.1) ∙ h k.0 k.1.0;
+    }
+
+-- the nodes found are nodes
+pub found-below : (size : ℕ) (edges : List Edge) (inside : Marks) (start : ℕ) (marks : Marks) (found : List ℕ) → IsReach size edges inside start marks found → AreBelow size found
+found-below size edges inside start marks found r =
+    record { each = λ k h. reach-below size edges inside start marks found r (get_or found k 0) (r.marked k h) }

@@ -23,41 +23,38 @@ pub root-below : (size : ℕ) (edges : List Edge) (members : List Member) → Ar
 root-below size edges members k u b = let h = k.below u b in omega (arith, b, h)
 
 -- the level of an edge's component is raised above the level to which it leads
-pub raising-up : (size : ℕ) (edges : List Edge) (members : List Member) (first levels : List ℕ) (raised : Bool) (n : ℕ) → EndsBelow size edges → AreComponents size edges members → Raising size edges members first levels raised n → n < length edges → root_to edges members n ≢ root_from edges members n → get_or levels (root_from edges members n) 0 ≤ get_or levels (root_to edges members n) 0 → Raising size edges members first (set levels (root_from edges members n) (get_or levels (root_to edges members n) 0 + 1)) true (n + 1)
-raising-up size edges members first levels raised n ends k r b d low =
-    record {
-      rising = record {
-        sized = length-set levels (root_from edges members n) (get_or levels (root_to edges members n) 0 + 1) ∙ r.rising.sized;
-        bounded =
-            λ u h.
-            elim (same_or_not u (root_from edges members n)) [
-              | inl s ↦
-                  (let e : get_or after u 0 ≡ get_or levels (root_to edges members n) 0 + 1 = ap (λ z. get_or after z 0) s ∙ here in
-                  let t = r.rising.bounded (root_to edges members n) to-below in
-                  let f = k.falls n b d in
-                  let m : (member_at members u).rank ≡ (member_at members (root_from edges members n)).rank = ap (λ z. (member_at members z).rank) s in
-                  omega (arith, e, t, f, m))
-              | inr o ↦ (let e = other u o in let t = r.rising.bounded u h in omega (arith, e, t))
-            ];
-        caused =
-            λ u h.
-            elim (same_or_not u (root_from edges members n)) [
-              | inl s ↦
-                  (let e : get_or after u 0 ≡ get_or levels (root_to edges members n) 0 + 1 = ap (λ z. get_or after z 0) s ∙ here in
-                  let t : get_or after (root_to edges members n) 0 ≡ get_or levels (root_to edges members n) 0 = other (root_to edges members n) d in
-                  inr (n, (record { within = b; here = sym s; there = λ q. d (q ∙ s) }, omega (arith, e, t))))
-              | inr o ↦
-                  (let e = other u o in
-                  elim (r.rising.caused u h) [
-                    | inl z ↦ inl (e ∙ z)
-                    | inr c ↦ (let g = grows (root_to edges members c.0) in let w = c.1.1 in inr (c.0, (c.1.0, omega (arith, e, g, w))))
-                  ])
-            ];
-      };
-      grown = let g = r.grown in omega (arith, g, summed, low);
-      rises = λ t. let g = r.grown in omega (arith, g, summed, low);
-      settled = λ f. absurd (true≢false f);
-    }
+pub rising-up : (size : ℕ) (edges : List Edge) (members : List Member) (levels : List ℕ) (n : ℕ) → EndsBelow size edges → AreComponents size edges members → AreRising size edges members levels → n < length edges → root_to edges members n ≢ root_from edges members n → get_or levels (root_from edges members n) 0 ≤ get_or levels (root_to edges members n) 0 → AreRising size edges members (set levels (root_from edges members n) (get_or levels (root_to edges members n) 0 + 1)) × (level_sum levels < level_sum (set levels (root_from edges members n) (get_or levels (root_to edges members n) 0 + 1)))
+rising-up size edges members levels n ends k r b d low = (
+  record {
+    sized = length-set levels (root_from edges members n) (get_or levels (root_to edges members n) 0 + 1) ∙ r.sized;
+    bounded =
+        λ u h.
+        elim (same_or_not u (root_from edges members n)) [
+          | inl s ↦
+              (let e : get_or after u 0 ≡ get_or levels (root_to edges members n) 0 + 1 = ap (λ z. get_or after z 0) s ∙ here in
+              let t = r.bounded (root_to edges members n) to-below in
+              let f = k.falls n b d in
+              let m : (member_at members u).rank ≡ (member_at members (root_from edges members n)).rank = ap (λ z. (member_at members z).rank) s in
+              omega (arith, e, t, f, m))
+          | inr o ↦ (let e = other u o in let t = r.bounded u h in omega (arith, e, t))
+        ];
+    caused =
+        λ u h.
+        elim (same_or_not u (root_from edges members n)) [
+          | inl s ↦
+              (let e : get_or after u 0 ≡ get_or levels (root_to edges members n) 0 + 1 = ap (λ z. get_or after z 0) s ∙ here in
+              let t : get_or after (root_to edges members n) 0 ≡ get_or levels (root_to edges members n) 0 = other (root_to edges members n) d in
+              inr (n, (record { within = b; here = sym s; there = λ q. d (q ∙ s) }, omega (arith, e, t))))
+          | inr o ↦
+              (let e = other u o in
+              elim (r.caused u h) [
+                | inl z ↦ inl (e ∙ z)
+                | inr c ↦ (let g = grows (root_to edges members c.0) in let w = c.1.1 in inr (c.0, (c.1.0, omega (arith, e, g, w))))
+              ])
+        ];
+  },
+  (let t = summed in omega (arith, t, low)),
+)
   where
     after : List ℕ
     after = set levels (root_from edges members n) (get_or levels (root_to edges members n) 0 + 1)
@@ -69,7 +66,7 @@ raising-up size edges members first levels raised n ends k r b d low =
     to-below = root-below size edges members k (edge_at edges n).to (ends.to n b)
 
     lt : root_from edges members n < length levels
-    lt = let s = r.rising.sized in let f = from-below in omega (arith, s, f)
+    lt = let s = r.sized in let f = from-below in omega (arith, s, f)
 
     here : get_or (set levels (root_from edges members n) (get_or levels (root_to edges members n) 0 + 1)) (root_from edges members n) 0 ≡ get_or levels (root_to edges members n) 0 + 1
     here = get_or-set_same levels (root_from edges members n) (get_or levels (root_to edges members n) 0 + 1) 0 lt
@@ -90,6 +87,17 @@ raising-up size edges members first levels raised n ends k r b d low =
 
     summed : level_sum (set levels (root_from edges members n) (get_or levels (root_to edges members n) 0 + 1)) + get_or levels (root_from edges members n) 0 ≡ level_sum levels + (get_or levels (root_to edges members n) 0 + 1)
     summed = sum_by-set (λ (x : ℕ). x) levels (root_from edges members n) (get_or levels (root_to edges members n) 0 + 1) 0 lt
+
+-- an edge whose component was raised
+pub raising-up : (size : ℕ) (edges : List Edge) (members : List Member) (first levels after : List ℕ) (raised : Bool) (n : ℕ) → Raising size edges members first levels raised n → AreRising size edges members after → level_sum levels < level_sum after → Raising size edges members first after true (n + 1)
+raising-up size edges members first levels after raised n r rising more =
+    let g = r.grown in
+    record {
+      rising = rising;
+      grown = omega (arith, g, more);
+      rises = λ t. omega (arith, g, more);
+      settled = λ f. absurd (true≢false f);
+    }
 
 -- an edge that is settled
 pub raising-on : (size : ℕ) (edges : List Edge) (members : List Member) (first levels : List ℕ) (raised : Bool) (n : ℕ) → Raising size edges members first levels raised n → IsSettled edges members levels n → Raising size edges members first levels raised (n + 1)

@@ -3,10 +3,12 @@ pub mod CheckedLemmas
 pub mod ComponentLemmas
 pub mod EntryLemmas
 pub mod GraphLemmas
-pub mod KeyLemmas
 pub mod LevelLemmas
 pub mod MapLemmas
 pub mod NumberingLemmas
+pub mod OrderLemmas
+pub mod PlaceLemmas
+pub mod PlacingLemmas
 pub mod PredLemmas
 pub mod ReachLemmas
 pub mod UniqueLemmas

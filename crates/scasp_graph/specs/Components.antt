@@ -1,5 +1,5 @@
 -- Strong components: nodes with walks to one another.
-use Rattle.std.specs.Prelude.{◌≡◌, ◌≢◌, ℕ, ◌<◌, ◌≤◌, Bool, true, false, List, length, Option, None, Some, slice_index_or}
+use Rattle.std.specs.Prelude.{◌≡◌, ◌≢◌, ℕ, ◌<◌, ◌≤◌, false, List, length, slice_index_or}
 use Rattle.scasp_graph.specs.Graphs.{EdgeIn, edge_at}
 use Rattle.scasp_graph.specs.Walks.{Walk, Reaches}
 use Rattle.scasp_graph.specs.declared.components.Member.{Member}
@@ -14,12 +14,6 @@ member_at members u = slice_index_or members u (record { root = 0; parity = fals
 
 abbrev pub root_of : List Member → ℕ → ℕ
 root_of members u = (member_at members u).root
-
--- the member, or a new one of this root where a walk of known parity leads there and some walk leads back
-abbrev pub joined : ℕ → ℕ → Option Bool → Bool → Member → Member
-joined root rank (Some parity) true m = record { root = root; parity = parity; rank = rank }
-joined root rank (Some parity) false m = m
-joined root rank None back m = m
 
 -- Each node has the first node of its component as root, with the parity of a walk from there. Edges between
 -- components lead to lower ranks.

@@ -1,5 +1,5 @@
 -- Graphs whose nodes are numbers, and what is known of them while they are searched.
-use Rattle.std.specs.Prelude.{◌≡◌, ◌≢◌, ℕ, ◌-◌, ◌<◌, ◌≤◌, Bool, true, false, cond, List, length, Option, None, Some, is_some, slice_get, slice_index_or, sum_by}
+use Rattle.std.specs.Prelude.{◌≡◌, ◌≢◌, ℕ, ◌-◌, ◌<◌, ◌≤◌, Bool, true, false, cond, List, length, Option, None, Some, is_some, slice_get, slice_index_or, sum_by, unwrap_or}
 use Rattle.scasp_graph.specs.Walks.{Walk}
 use Rattle.scasp_graph.specs.declared.graph.Edge.{Edge}
 use Rattle.scasp_graph.specs.declared.graph.Graph.{Graph}
@@ -40,13 +40,38 @@ mark_of marks v = slice_index_or marks v None
 abbrev pub is_marked : Marks → ℕ → Bool
 is_marked marks v = is_some (mark_of marks v)
 
+-- whether the node has the mark of an odd walk
+abbrev pub odd_of : Marks → ℕ → Bool
+odd_of marks v = unwrap_or (mark_of marks v) false
+
 -- the number of marked nodes
 abbrev pub marked_count : Marks → ℕ
 marked_count marks = sum_by (λ m. cond (is_some m) 1 0) marks
 
--- the marked nodes are those to which a walk leads from the start
-pub record IsReach (size : ℕ) (edges : List Edge) (start : ℕ) (marks : Marks) : Type 0 where
+-- each node of the list is below the size
+pub record AreBelow (size : ℕ) (nodes : List ℕ) : Type 0 where
+  pub each : (k : ℕ) → k < length nodes → slice_index_or nodes k 0 < size
+
+-- the node is in the list
+abbrev pub IsListed : List ℕ → ℕ → Type 0
+IsListed nodes v = (k : ℕ) × ((k < length nodes) × (slice_index_or nodes k 0 ≡ v))
+
+-- no node is marked
+pub record AreClear (size : ℕ) (marks : Marks) : Type 0 where
+  pub sized : length marks ≡ size
+  pub none : (v : ℕ) → is_marked marks v ≡ false
+
+-- an edge to a marked node of `inside`
+abbrev pub EdgeTo : List Edge → Marks → ℕ → Bool → ℕ → Type 0
+EdgeTo edges inside u negated v = EdgeIn edges u negated v × (is_marked inside v ≡ true)
+
+-- the marked nodes, which are listed, are those to which a walk leads from the start within the marked nodes of `inside`
+pub record IsReach (size : ℕ) (edges : List Edge) (inside : Marks) (start : ℕ) (marks : Marks) (found : List ℕ) : Type 0 where
   pub sized : length marks ≡ size
   pub started : mark_of marks start ≡ Some false
-  pub sound : (v : ℕ) (b : Bool) → mark_of marks v ≡ Some b → Walk (EdgeIn edges) start v b
-  pub closed : (e : ℕ) → e < length edges → is_marked marks (edge_at edges e).from ≡ true → is_marked marks (edge_at edges e).to ≡ true
+  pub within : (v : ℕ) → is_marked marks v ≡ true → is_marked inside v ≡ true
+  pub sound : (v : ℕ) (b : Bool) → mark_of marks v ≡ Some b → Walk (EdgeTo edges inside) start v b
+  pub closed : (e : ℕ) → e < length edges → is_marked marks (edge_at edges e).from ≡ true → is_marked inside (edge_at edges e).to ≡ true → is_marked marks (edge_at edges e).to ≡ true
+  pub listed : (v : ℕ) → is_marked marks v ≡ true → IsListed found v
+  pub marked : (k : ℕ) → k < length found → is_marked marks (slice_index_or found k 0) ≡ true
+  pub counted : length found ≡ marked_count marks

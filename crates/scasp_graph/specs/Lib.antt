@@ -4,11 +4,12 @@ pub mod Examples
 pub mod Graphs
 pub mod Growing
 pub mod Judged
-pub mod Keys
 pub mod Levels
 pub mod Map
 pub mod Numbering
 pub mod OddRules
+pub mod Orders
+pub mod Partitions
 pub mod RightMap
 pub mod Searching
 pub mod Walks

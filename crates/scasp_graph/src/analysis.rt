@@ -12,6 +12,7 @@ use crate::graph::{Edge, Graph};
 use crate::levels::{find_levels, find_odd};
 use crate::numbering::{Numbering, Preds};
 use crate::occurrences::number;
+use crate::order::finishing_order;
 use scasp_name::Memory;
 use scasp_syntax::{
     Atom, Clause, Item, Items, Pred, PredMap, PredMaps, Program, RuleList, Sequence,
@@ -197,8 +198,9 @@ pub fn analyse(alloc: Global, program: &Program) -> Result<Analysis, Memory>
     let edges = edges_of(alloc, program, &numbers)?;
     let behind = Graph::new(alloc, preds.len(), turned(alloc, &edges)?)?;
     let ahead = Graph::new(alloc, preds.len(), edges)?;
-    let members = find_components(alloc, &ahead, &behind)?;
-    let levels = find_levels(alloc, &ahead.edges, &members)?;
+    let order = finishing_order(alloc, &ahead)?;
+    let members = find_components(alloc, &ahead, &behind, &order)?;
+    let levels = find_levels(alloc, &ahead, &order, &members)?;
     let odd = find_odd(alloc, &ahead.edges, &members)?;
     let odd_rules = odd_rules_of(alloc, program, &numbers, &members, &odd)?;
     let map = map_of(alloc, &preds, &members, &levels, &odd)?;

@@ -1,6 +1,6 @@
 //! Graphs whose nodes are numbers, and what can be reached in them.
-ghost use Rattle.std.specs.Prelude.{◌≡◌, true, Some, not, ◌<◌, ◌≤◌, length, vec_len, IfOk, OnOk};
-ghost use Rattle.scasp_graph.specs.Graphs.{EndsBelow, IsGraph, IsReach, is_marked, mark_of};
+ghost use Rattle.std.specs.Prelude.{◌≡◌, ℕ, true, Some, not, ◌<◌, ◌≤◌, length, IfOk, OnOk};
+ghost use Rattle.scasp_graph.specs.Graphs.{AreBelow, AreClear, EndsBelow, IsGraph, IsListed, IsReach, is_marked, mark_of, odd_of};
 ghost use Rattle.scasp_syntax.specs.Same.{same_bool};
 ghost use Rattle.scasp_graph.specs.Searching.{with_mark, with_node};
 
@@ -47,24 +47,34 @@ impl Graph {
         })
     }
 
-    /// For each node whether a walk leads to it from the start, and whether that walk is odd.
-    pub fn reach(&self, alloc: Global, start: usize) -> Result<Vec<Option<bool>>, Memory>
+    /// Marks the start, and each node to which a walk leads from there within the marked nodes of `inside`, with
+    /// whether that walk is odd. The nodes, in the order in which they are found.
+    pub fn search(
+        &self,
+        alloc: Global,
+        start: usize,
+        inside: &[Option<bool>],
+        marks: &mut Vec<Option<bool>>,
+    ) -> Result<Vec<usize>, Memory>
         requires graph { IsGraph self.now }
         requires start { start < self.now.size }
-        ensures { IfOk result (λ marks. IsReach self.now.size self.now.edges.items start marks.items) }
+        requires sized { length inside.now ≡ self.now.size }
+        requires inside { is_marked inside.now start ≡ true }
+        requires clear { AreClear self.now.size marks.old.items }
+        ensures { IfOk result (λ found. IsReach self.now.size self.now.edges.items inside.now start marks.new.items found.items) }
     {
-        let mut marks = vec![in alloc; None; self.size]?;
         let mut queue = Vec::new(alloc);
-        mark(&mut marks, &mut queue, start, false)?;
+        mark(inside, marks, &mut queue, start, false)?;
         let mut done = 0usize;
         while done < queue.len() {
             let node = queue[done];
-            let parity = parity_of(&marks, node);
+            let parity = parity_of(marks, node);
             let mut at = self.first[node];
             while at > 0 {
                 let edge = self.edges[at - 1];
                 mark(
-                    &mut marks,
+                    inside,
+                    marks,
                     &mut queue,
                     edge.to,
                     differ(parity, edge.negated),
@@ -73,14 +83,15 @@ impl Graph {
             }
             done += 1;
         }
-        Ok(marks)
+        Ok(queue)
     }
 }
 
 /// The parity that a marked node has.
-fn parity_of(marks: &[Option<bool>], node: usize) -> bool
+pub fn parity_of(marks: &[Option<bool>], node: usize) -> bool
     requires { node < length marks.now }
-    ensures { is_marked marks.now node ≡ true → mark_of marks.now node ≡ Some result }
+    ensures marked { is_marked marks.now node ≡ true → mark_of marks.now node ≡ Some result }
+    ensures value { result ≡ odd_of marks.now node }
 {
     match marks[node] {
         Some(parity) => parity,
@@ -95,20 +106,33 @@ pub fn differ(first: bool, second: bool) -> bool
     first != second
 }
 
-/// Marks the node and puts it into the queue unless it is marked.
+/// Marks a node of `inside` and puts it into the queue unless it is marked.
 fn mark(
+    inside: &[Option<bool>],
     marks: &mut Vec<Option<bool>>,
     queue: &mut Vec<usize>,
     node: usize,
     parity: bool,
 ) -> Result<(), Memory>
-    requires { node < length marks.old.items }
-    ensures marks { OnOk result (marks.new.items ≡ with_mark marks.old.items node parity) }
-    ensures queue { OnOk result (queue.new.items ≡ with_node marks.old.items queue.old.items node) }
+    requires within { node < length marks.old.items }
+    requires sized { length inside.now ≡ length marks.old.items }
+    ensures marks { OnOk result (marks.new.items ≡ with_mark inside.now marks.old.items node parity) }
+    ensures queue { OnOk result (queue.new.items ≡ with_node inside.now marks.old.items queue.old.items node) }
 {
-    if marks[node].is_none() {
+    if inside[node].is_some() && marks[node].is_none() {
         queue.push(node)?;
         marks[node] = Some(parity);
     }
     Ok(())
+}
+
+/// Takes the marks away, all of which are at these nodes.
+pub fn clear(marks: &mut Vec<Option<bool>>, nodes: &[usize])
+    requires within { AreBelow (length marks.old.items) nodes.now }
+    requires listed { (v : ℕ) → is_marked marks.old.items v ≡ true → IsListed nodes.now v }
+    ensures { AreClear (length marks.old.items) marks.new.items }
+{
+    for node in nodes {
+        marks[*node] = None;
+    }
 }

@@ -4,16 +4,16 @@
 mod analysis;
 mod components;
 mod graph;
-mod key;
 pub mod laws;
 mod levels;
 mod map;
 mod numbering;
 mod occurrences;
+mod order;
 #[cfg(test)]
 mod tests;
 
 pub use analysis::{Analysis, analyse};
 pub use map::{MapFault, has_number, map_holds};
-pub use numbering::Preds;
-pub use occurrences::{predicates, same_pred};
+pub use numbering::{Numbering, Preds};
+pub use occurrences::{number, predicates};

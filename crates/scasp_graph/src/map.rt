@@ -5,7 +5,6 @@ ghost use Rattle.scasp_syntax.specs.Programs.{pred_of};
 ghost use Rattle.scasp_graph.specs.Map.{entry_of, keeps_entry, keeps_item, keeps_below, keeps, map_faults, MapHolds};
 ghost use Rattle.scasp_graph.specs.Judged.{judged};
 
-use crate::occurrences::same_pred;
 use scasp_syntax::{Atom, Clause, Item, Items, Pred, PredMap, PredMaps, Program, RuleList};
 
 /// The first clause, counted from 1, that breaks a map.
@@ -19,7 +18,7 @@ fn entry_of(map: &PredMaps, pred: Pred) -> PredMap
     ensures { result ≡ entry_of map.now pred }
 {
     for entry in map.as_slice() {
-        if same_pred(&pred, &entry.pred) {
+        if pred == entry.pred {
             return *entry;
         }
     }

@@ -1,10 +1,8 @@
 //! Predicates and their places, found by hashing.
 ghost use Rattle.std.specs.Prelude.{◌≡◌, [], length, IfOk, OnOk};
 ghost use Rattle.scasp_graph.specs.Growing.{with_pred};
-ghost use Rattle.scasp_graph.specs.Keys.{key_of, pred_of_key};
 ghost use Rattle.scasp_graph.specs.Numbering.{place_in};
 
-use crate::key::PredKey;
 use indexmap::IndexSet;
 use scasp_name::Memory;
 use scasp_syntax::{Pred, Sequence};
@@ -17,17 +15,16 @@ pub type Preds = Sequence<Pred>;
 /// Distinct predicates in order, each with its place.
 #[derive(Drop)]
 pub struct Numbering {
-    keys: IndexSet<PredKey>,
+    preds: IndexSet<Pred>,
 }
 
 impl Model for Numbering {
-    ghost use Rattle.std.specs.Prelude.{List, map};
+    ghost use Rattle.std.specs.Prelude.{List};
     ghost use Rattle.scasp_syntax.specs.declared.atom.Pred.{Pred};
-    ghost use Rattle.scasp_graph.specs.Keys.{pred_of_key};
 
     ghost Value = { List Pred };
 
-    ghost view = { λ n. map pred_of_key n.keys.keys };
+    ghost view = { λ n. n.preds.keys };
 }
 
 impl Numbering {
@@ -36,7 +33,7 @@ impl Numbering {
         ensures { result ≡ [] }
     {
         Numbering {
-            keys: IndexSet::new(alloc),
+            preds: IndexSet::new(alloc),
         }
     }
 
@@ -44,14 +41,14 @@ impl Numbering {
     pub fn len(&self) -> usize
         ensures { result ≡ length self.now }
     {
-        self.keys.len()
+        self.preds.len()
     }
 
     /// The place of the predicate, or the number of predicates.
     pub fn place(&self, pred: &Pred) -> usize
         ensures { result ≡ place_in self.now pred.now }
     {
-        match self.keys.get_index_of(&PredKey::of(pred)) {
+        match self.preds.get_index_of(pred) {
             Some(place) => place,
             None => self.len(),
         }
@@ -61,8 +58,15 @@ impl Numbering {
     pub fn insert(&mut self, pred: &Pred) -> Result<(), Memory>
         ensures { OnOk result (self.new ≡ with_pred self.old pred.now) }
     {
-        self.keys.insert(PredKey::of(pred))?;
+        self.preds.insert(*pred)?;
         Ok(())
+    }
+
+    /// The predicates in order.
+    pub fn as_slice(&self) -> &[Pred]
+        ensures { result.now ≡ self.now }
+    {
+        self.preds.as_slice()
     }
 
     /// The list of the predicates.
@@ -70,8 +74,8 @@ impl Numbering {
         ensures { IfOk result (λ preds. preds ≡ self.now) }
     {
         let mut preds = Sequence::new(alloc);
-        for key in self.keys.as_slice() {
-            preds.push(key.pred())?;
+        for pred in self.as_slice() {
+            preds.push(*pred)?;
         }
         Ok(preds)
     }

@@ -1,21 +1,13 @@
 //! The predicates of a program.
 ghost use Rattle.std.specs.Prelude.{◌≡◌, IfOk, OnOk};
 ghost use Rattle.std.specs.List.{flat_map};
-ghost use Rattle.scasp_syntax.specs.Same.{same_pred};
 ghost use Rattle.scasp_syntax.specs.Programs.{body_preds, clause_preds, predicates};
 ghost use Rattle.scasp_graph.specs.Growing.{grown, query_preds};
 
 use crate::numbering::{Numbering, Preds};
 use scasp_name::Memory;
-use scasp_syntax::{Clause, Clauses, Item, Items, Pred, Program, Queries};
+use scasp_syntax::{Clause, Clauses, Item, Items, Program, Queries};
 use std::alloc::Global;
-
-/// Whether the predicates are the same.
-pub fn same_pred(first: &Pred, second: &Pred) -> bool
-    ensures { result ≡ same_pred first.now second.now }
-{
-    first.minus == second.minus && first.name == second.name && first.arity == second.arity
-}
 
 /// Puts the predicates of the body at the end that are not in the list.
 fn push_body(preds: &mut Numbering, body: &Items) -> Result<(), Memory>
@@ -59,8 +51,7 @@ fn push_queries(preds: &mut Numbering, queries: &Queries) -> Result<(), Memory>
     Ok(())
 }
 
-/// The predicates of the program in order of first occurrence: the clauses in order, each with its head first,
-/// then the queries.
+/// The predicates of the program, numbered in order of first occurrence.
 pub fn number(alloc: Global, program: &Program) -> Result<Numbering, Memory>
     ensures { IfOk result (λ preds. preds ≡ predicates program.now) }
 {
@@ -70,7 +61,8 @@ pub fn number(alloc: Global, program: &Program) -> Result<Numbering, Memory>
     Ok(preds)
 }
 
-/// The list of these predicates.
+/// The predicates of the program in order of first occurrence, as a list: the clauses in order, each with its head
+/// first, then the queries.
 pub fn predicates(alloc: Global, program: &Program) -> Result<Preds, Memory>
     ensures { IfOk result (λ preds. preds ≡ predicates program.now) }
 {

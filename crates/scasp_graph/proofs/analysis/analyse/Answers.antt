@@ -1,4 +1,4 @@
-use Rattle.std.proofs.Common.{◌≡◌, ◌∙◌, ℕ, Bool, List, length, map, ap, sym, subst}
+use Rattle.std.proofs.Common.{◌≡◌, ◌∙◌, ℕ, Bool, List, length, map, refl, ap, sym, subst}
 use Rattle.scasp_syntax.specs.declared.atom.Pred.{Pred}
 use Rattle.scasp_graph.specs.Components.{turned, AreComponents}
 use Rattle.scasp_graph.specs.Graphs.{EndsBelow}
@@ -41,20 +41,19 @@ returns c =
       edges_are = c.in_ok-ahead.ensures.edges ∙ c.in_ok-edges.ensures ∙ ap (λ z. map (numbered_edge z) (dependencies c.args.program.now)) (sym c.in_ok-preds.ensures);
       components = parts;
       levelled =
-          levels-moved (length c.deref-3.result.now) (length preds) c.deref-2.result.now edges c.deref-3.result.now members levels
-          (ap length c.deref-3.ensures.value ∙ parts.sized) c.deref-2.ensures.value c.deref-3.ensures.value c.in_ok-levels.ensures;
+          levels-moved c.in_ok-ahead.ahead.size (length preds) edges edges c.deref-4.result.now members levels size refl c.deref-4.ensures.value c.in_ok-levels.ensures;
       oddness =
-          odd-moved (length c.deref-5.result.now) (length preds) c.deref-4.result.now edges c.deref-5.result.now members odd
-          (ap length c.deref-5.ensures.value ∙ parts.sized) c.deref-4.ensures.value c.deref-5.ensures.value c.in_ok-odd.ensures;
+          odd-moved (length c.deref-6.result.now) (length preds) c.deref-5.result.now edges c.deref-6.result.now members odd
+          (ap length c.deref-6.ensures.value ∙ parts.sized) c.deref-5.ensures.value c.deref-6.ensures.value c.in_ok-odd.ensures;
     } in
     let rules : c.in_ok-odd_rules.odd_rules ≡ odd_from preds members odd 1 c.args.program.now.clauses =
-    c.in_ok-odd_rules.ensures ∙ ap (λ z. odd_from z c.deref-6.result.now c.deref-7.result.now 1 c.args.program.now.clauses) (sym c.in_ok-preds.ensures)
-    ∙ ap (λ (ms : List Member). odd_from preds ms c.deref-7.result.now 1 c.args.program.now.clauses) c.deref-6.ensures.value
-    ∙ ap (λ (bs : List Bool). odd_from preds members bs 1 c.args.program.now.clauses) c.deref-7.ensures.value in
+    c.in_ok-odd_rules.ensures ∙ ap (λ z. odd_from z c.deref-7.result.now c.deref-8.result.now 1 c.args.program.now.clauses) (sym c.in_ok-preds.ensures)
+    ∙ ap (λ (ms : List Member). odd_from preds ms c.deref-8.result.now 1 c.args.program.now.clauses) c.deref-7.ensures.value
+    ∙ ap (λ (bs : List Bool). odd_from preds members bs 1 c.args.program.now.clauses) c.deref-8.ensures.value in
     let entries : c.in_ok-map.map ≡ entries_from members levels odd 0 preds =
-    c.in_ok-map.ensures ∙ ap (λ (ms : List Member). entries_from ms c.deref-9.result.now c.deref-10.result.now 0 preds) c.deref-8.ensures.value
-    ∙ ap (λ (ls : List ℕ). entries_from members ls c.deref-10.result.now 0 preds) c.deref-9.ensures.value
-    ∙ ap (λ (bs : List Bool). entries_from members levels bs 0 preds) c.deref-10.ensures.value in
+    c.in_ok-map.ensures ∙ ap (λ (ms : List Member). entries_from ms c.deref-10.result.now c.deref-11.result.now 0 preds) c.deref-9.ensures.value
+    ∙ ap (λ (ls : List ℕ). entries_from members ls c.deref-11.result.now 0 preds) c.deref-10.ensures.value
+    ∙ ap (λ (bs : List Bool). entries_from members levels bs 0 preds) c.deref-11.ensures.value in
     record {
       odd = subst (AreOddRules c.args.program.now) (sym rules) (odd-right c.args.program.now preds edges members levels odd known);
       right = subst (IsRightMap c.args.program.now) (sym entries) (map-right c.args.program.now preds edges members levels odd known);

@@ -1,6 +1,5 @@
-use Rattle.std.proofs.Common.{◌≡◌, ◌++◌, drop, map}
-use Rattle.scasp_graph.specs.Keys.{pred_of_key}
+use Rattle.std.proofs.Common.{◌≡◌, ◌++◌, drop}
 use Rattle.scasp_graph.proofs.numbering.Numbering.predicates.Given as goal
 
-abbrev pub invariant-loop-key : goal.invariant-loop-key
-invariant-loop-key l = l.preds ++ map pred_of_key (drop l.key-index l.key-items) ≡ map pred_of_key l.key-items
+abbrev pub invariant-loop-pred : goal.invariant-loop-pred
+invariant-loop-pred l = l.preds ++ drop l.pred-index l.pred-items ≡ l.pred-items
