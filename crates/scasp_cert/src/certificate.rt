@@ -7,9 +7,8 @@ ghost use Rattle.scasp_cert.specs.Certificate.{check_of, checks_of};
 use crate::lists::item_at;
 use crate::tree::{Case, Nodes};
 use scasp_name::Memory;
-use scasp_syntax::{Cons, Hint, PredMaps, Terms};
+use scasp_syntax::{Cons, Hint, PredMaps, Sequence, Terms};
 use std::alloc::Global;
-use std::marker::Model;
 
 /// An answer to a query. Its free variables are those numbered below the length of `sample`.
 #[derive(Drop)]
@@ -54,19 +53,7 @@ pub struct Clash {
 }
 
 /// A list of clashes.
-#[derive(Drop)]
-pub struct Clashes {
-    list: Vec<Clash>,
-}
-
-impl Model for Clashes {
-    ghost use Rattle.std.specs.Prelude.{List};
-    ghost use Rattle.scasp_cert.specs.declared.certificate.Clash.{Clash};
-
-    ghost Value = { List Clash };
-
-    ghost view = { λ c. c.list.items };
-}
+pub type Clashes = Sequence<Clash>;
 
 impl Checks {
     /// No check. It takes no memory.
@@ -105,47 +92,6 @@ impl Checks {
         ensures err { OnErr result (checks_of self.new ≡ checks_of self.old) }
     {
         self.list.push(check)?;
-        Ok(())
-    }
-}
-
-impl Clashes {
-    /// No clash. It takes no memory.
-    pub fn new(alloc: Global) -> Clashes
-        ensures { result ≡ [] }
-    {
-        Clashes {
-            list: Vec::new(alloc),
-        }
-    }
-
-    /// How many clashes there are.
-    pub fn len(&self) -> usize
-        ensures { result ≡ length self.now }
-    {
-        self.list.len()
-    }
-
-    /// The clashes, in order.
-    pub fn as_slice(&self) -> &[Clash]
-        ensures { result.now ≡ self.now }
-    {
-        self.list.as_slice()
-    }
-
-    /// The clash at a place from 0, if there is one.
-    pub fn get(&self, i: usize) -> Option<&Clash>
-        ensures { option_copied result ≡ slice_get self.now i }
-    {
-        item_at(self.as_slice(), i)
-    }
-
-    /// Puts a clash last. An error leaves the list as it was.
-    pub fn push(&mut self, clash: Clash) -> Result<(), Memory>
-        ensures ok { OnOk result (self.new ≡ self.old ++ clash ∷ []) }
-        ensures err { OnErr result (self.new ≡ self.old) }
-    {
-        self.list.push(clash)?;
         Ok(())
     }
 }

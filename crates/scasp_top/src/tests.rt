@@ -187,7 +187,7 @@ fn events(
     alloc: Global,
     program: &Program,
     budget: u64,
-) -> Result<Vec<(u64, &'static str)>, scasp_name::Memory> {
+) -> Result<Vec<(u64, &'static str)>, Memory> {
     let mut met = Vec::new(alloc);
     if program.query(1).is_none() {
         return Ok(met);
