@@ -6,7 +6,8 @@ use Rattle.std.proofs.Math.IntN.{*ℤ_comm, +ℤ_idr, +ℤ_idl, zero-*ℤ, +ℤ_
 use Rattle.scasp_num.specs.declared.linear.Coeff.{Coeff}
 use Rattle.scasp_num.specs.Number.{Number, InRange}
 use Rattle.scasp_num.specs.Arithmetic.{◌>>=◌, within}
-use Rattle.scasp_num.specs.Linear.{Linear, Each, Ascends, normal_form, weighted, Compares, Meets, coefficient, others_times, put_constant, put_of, replaced}
+use Rattle.scasp_list.specs.Each.{Each}
+use Rattle.scasp_num.specs.Linear.{Linear, Ascends, normal_form, weighted, Compares, Meets, coefficient, others_times, put_constant, put_of, replaced}
 use Rattle.scasp_num.proofs.Integers.{*ℤ_assoc, *ℤ_right_comm, +ℤ-*ℤ}
 use Rattle.scasp_num.proofs.Numbers.{within-some}
 use Rattle.scasp_num.proofs.Exact.{bind-some}

@@ -2,7 +2,8 @@
 use Rattle.std.specs.Prelude.{ℕ, ◌==◌, if◌then◌else◌, ℤ, pos, ◌+ℤ◌, ◌*ℤ◌, List, [], ◌∷◌}
 use Rattle.scasp_num.specs.declared.linear.Coeff.{Coeff}
 use Rattle.scasp_num.specs.Number.{Number, IsFraction}
-use Rattle.scasp_num.specs.Linear.{Linear, Each, Compares}
+use Rattle.scasp_list.specs.Each.{Each}
+use Rattle.scasp_num.specs.Linear.{Linear, Compares}
 
 -- the sum of the coefficients times the values, as a fraction: the numerator, and the denominator
 abbrev pub row_sum : (ℕ → Number) → List Coeff → ℤ × ℤ

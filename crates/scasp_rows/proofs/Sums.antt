@@ -1,5 +1,5 @@
 -- The sum of two rows: which values it compares, and that it is in normal form.
-use Rattle.std.proofs.Common.{◌≡◌, ◌≢◌, ◌↔◌, ℕ, Bool, true, ◌&&◌, ℤ, pos, ◌+ℤ◌, ◌*ℤ◌, ◌<ℤ◌, ◌≤ℤ◌, unsigned_abs, int_div, Some, List, [], ◌∷◌, ◌++◌, refl, sym, ap, subst, ◌∙◌, arith}
+use Rattle.std.proofs.Common.{◌≡◌, ◌≢◌, ◌↔◌, ℕ, true, ℤ, pos, ◌+ℤ◌, ◌*ℤ◌, ◌<ℤ◌, ◌≤ℤ◌, unsigned_abs, int_div, Some, List, [], ◌∷◌, ◌++◌, refl, sym, ap, subst, ◌∙◌, arith}
 use Rattle.std.proofs.lemmas.Bool.{and_parts}
 use Rattle.std.proofs.lemmas.Int.{ints}
 use Rattle.std.proofs.Math.IntN.{*ℤ_comm, *ℤ-zero, +ℤ_idl, +ℤ_assoc}
@@ -9,7 +9,9 @@ use Rattle.scasp_num.specs.declared.linear.Op.{Op}
 use Rattle.scasp_num.specs.declared.linear.Op.TheVariants as op
 use Rattle.scasp_num.specs.Number.{Number, IsFraction, InRange}
 use Rattle.scasp_num.specs.Arithmetic.{◌>>=◌, sum_of}
-use Rattle.scasp_num.specs.Linear.{Linear, Each, Ascends, IsNormal, weighted, Compares, Meets, normal_form}
+use Rattle.scasp_list.specs.Each.{Each}
+use Rattle.scasp_list.proofs.EachLemmas.{Each-left, Each-right}
+use Rattle.scasp_num.specs.Linear.{Linear, Ascends, IsNormal, weighted, Compares, Meets, normal_form}
 use Rattle.scasp_num.specs.Values.{Holds, HaveDenominator}
 use Rattle.scasp_num.specs.Sums
 use Rattle.scasp_num.specs.Sums.{normal_of, summed, multiple, whole_number, IsTimes, AreTimes}
@@ -154,18 +156,6 @@ step-meets a p b q row s e m d g h =
     (row_sum-meets a p b q row e m d).1
     (Compares-joined p.op q.op (a *ℤ value m d p) (b *ℤ value m d q) (scaled-op a p.op may.0) (scaled-op b q.op may.1) (Compares-scaled a p.op (value m d p) may.0 g) (Compares-scaled b q.op (value m d q) may.1 h))
 
-pub Each-left : {A : Type 0} (P : A → Type 0) (xs ys : List A) → Each P (xs ++ ys) → Each P xs
-Each-left P [] ys e = tt
-Each-left P (x ∷ xs) ys e = (e.0, Each-left P xs ys e.1)
-
-pub Each-right : {A : Type 0} (P : A → Type 0) (xs ys : List A) → Each P (xs ++ ys) → Each P ys
-Each-right P [] ys e = e
-Each-right P (x ∷ xs) ys e = Each-right P xs ys e.1
-
-pub Each-append : {A : Type 0} (P : A → Type 0) (xs ys : List A) → Each P xs → Each P ys → Each P (xs ++ ys)
-Each-append P [] ys e f = f
-Each-append P (x ∷ xs) ys e f = (e.0, Each-append P xs ys e.1 f)
-
 -- a point that meets both rows meets their sum
 pub step-holds : (a : ℤ) (p : Linear) (b : ℤ) (q row : Linear) → may_step a p b q ≡ true → Some row ≡ row_sum a p b q → (v : RationalPoint) → Holds v p → Holds v q → Holds v row
 step-holds a p b q row s e v g h =
@@ -179,9 +169,6 @@ step-holds a p b q row s e v g h =
     let of_p = Holds-Meets v m d p c.2 (Each-left P p.coeffs q.coeffs of_rest) in
     let of_q = Holds-Meets v m d q c.2 (Each-right P p.coeffs q.coeffs of_rest) in
     of_row.1 (step-meets a p b q row s e m d (of_p.0 g) (of_q.0 h))
-
-pub both-true : {s t : Bool} → s ≡ true → t ≡ true → (s && t) ≡ true
-both-true {s} {t} e f = ap (λ b. b && t) e ∙ f
 
 pub joined-comparing : (o u : Op) → o ≢ op.Ne → u ≢ op.Ne → joined o u ≢ op.Ne
 joined-comparing op.Eq op.Eq n k e = cc

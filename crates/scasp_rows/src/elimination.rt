@@ -1,7 +1,8 @@
 //! The elimination of variables (Fourier 1826, Motzkin 1936).
 ghost use Rattle.std.specs.Prelude.{◌≡◌, ◌+◌, ◌++◌, [], ◌∷◌, IfOk, OnOk, filter, length};
 ghost use Rattle.std.specs.Option.{option_copied};
-ghost use Rattle.scasp_num.specs.Linear.{Each, IsNormal};
+ghost use Rattle.scasp_list.specs.Each.{Each};
+ghost use Rattle.scasp_num.specs.Linear.{IsNormal};
 ghost use Rattle.scasp_rows.specs.Elimination.{Ends, all_looked, all_paired, by_bounds, eliminated, factor, first_equation, has_sign, limited, looked, made, made_without, met, elimination, placed, variables, with_terms, others, paired, replaced, rows_with, solved, without};
 
 use crate::rows::{

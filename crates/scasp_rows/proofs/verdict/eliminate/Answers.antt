@@ -1,6 +1,7 @@
 use Rattle.std.proofs.Common.{◌≡◌, Ok, Err, List, refl, sym, subst, ◌∙◌, ap}
 use Rattle.scasp_num.specs.declared.hints.Step.{Step}
-use Rattle.scasp_num.specs.Linear.{Linear, Each, IsNormal}
+use Rattle.scasp_list.specs.Each.{Each}
+use Rattle.scasp_num.specs.Linear.{Linear, IsNormal}
 use Rattle.scasp_rows.specs.declared.state.Halt.{Halt}
 use Rattle.scasp_rows.specs.declared.state.Halt.TheVariants as halt
 use Rattle.scasp_rows.specs.declared.state.State.{State}
