@@ -35,7 +35,7 @@ use Rattle.scasp_lines.proofs.UniversalLemmas.{covering-grows, covering-known}
 
 -- ---- entries
 
--- so many new_parts that are not known
+-- so many parts that are not known
 new-between : (j : ℕ → Bool) (k m : ℕ) → ((y : ℕ) → k ≤ y → y < k + m → j y ≡ false) → none_known j k m ≡ true
 new-between j k zero h = refl
 new-between j k (suc m) h =

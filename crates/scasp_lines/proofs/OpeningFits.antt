@@ -14,7 +14,7 @@ use Rattle.scasp_lines.specs.OpeningLaws.{OpeningFits, OpeningGrows}
 use Rattle.scasp_lines.specs.Openings.{Opening, bound_to, with_bound, with_assumed, with_shape, equal, with_clash, open_variable, open_term, open_terms}
 use Rattle.scasp_lines.specs.SimpleForm.{term_with}
 use Rattle.scasp_lines.proofs.KnownLemmas.{wider-tm, wider-tms}
-use Rattle.scasp_lines.proofs.PartLemmas.{part-above, part-below, parts-pass, new-parts}
+use Rattle.scasp_lines.proofs.PartLemmas.{nat-eq, part-above, part-below, parts-pass, new-parts}
 
 pub tm-term : (t : Tm) → tm_of (term_with t) ≡ t
 tm-term (var x) = refl
@@ -25,7 +25,7 @@ pub equal-known : (k : ℕ → Bool) (t l : Tm) → is_known k t ≡ true → is
 equal-known k t l p q =
     and_from (is_known k (tm_of (term_with t))) (is_known k (tm_of (term_with l))) (ap (is_known k) (tm-term t) ∙ p) (ap (is_known k) (tm-term l) ∙ q)
 
--- a variable below the new_parts is none of them, and one that is not known and above them is not known with them
+-- a variable below the parts is none of them, and one that is not known and above them is not known with them
 pub no-part_below : (k m y : ℕ) → y < k → is_part k m y ≡ false
 no-part_below k m y l = elim (cases_Bool (is_part k m y)) [
   | inl p ↦ (let less = part-above k m y p in absurd (omega (arith, less, l)))
@@ -47,6 +47,14 @@ bound-more bound x l z t P h here there = elim (cases_Bool (nat_eq z x)) [
   where
     some-same : Some l ≡ Some t → l ≡ t
     some-same e = cc
+
+-- what is bound stays so where a variable that is not bound gets a term
+pub bound-kept : (bound : List (ℕ × Tm)) (x : ℕ) (u : Tm) (y : ℕ) (t : Tm) → bound_to bound x ≡ None → bound_to bound y ≡ Some t
+    → bound_to ((x, u) ∷ bound) y ≡ Some t
+bound-kept bound x u y t none h = elim (cases_Bool (nat_eq y x)) [
+  | inl e ↦ (let is = nat-eq y x e in let same : bound_to bound y ≡ None = ap (bound_to bound) is ∙ none in absurd (cc))
+  | inr e ↦ cond-false (nat_eq y x) (Some u) (bound_to bound y) e ∙ h
+]
 
 module _ (n : ℕ) where
   grows-none : (o : Opening) → OpeningFits n o → OpeningGrows n o o
@@ -80,7 +88,7 @@ module _ (n : ℕ) where
         only = λ y l h. h;
       }
 
-  grows-shape : (o : Opening) (y f m : ℕ) → OpeningFits n o → knows n o.opened y ≡ true → OpeningGrows n o (with_shape o y f m)
+  pub grows-shape : (o : Opening) (y f m : ℕ) → OpeningFits n o → knows n o.opened y ≡ true → OpeningGrows n o (with_shape o y f m)
   grows-shape o y f m fit k =
       record {
         fits = record {

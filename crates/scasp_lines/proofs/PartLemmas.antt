@@ -38,7 +38,7 @@ set-off v k (cons t ts) y h =
     let p = or_parts (nat_eq y k) (is_part (suc k) (length (items ts)) y) h in
     cond-false (nat_eq y k) t (set_all v (suc k) ts y) p.0 ∙ set-off v (suc k) ts y p.1
 
--- new_parts from j on do not see what k below j stands for
+-- parts from j on do not see what k below j stands for
 pub parts-later : (v : Sub) (k : ℕ) (t : Tm) (j n : ℕ) → k < j → all_under (set_to v k t) (new_parts j n) ≡ all_under v (new_parts j n)
 parts-later v k t j zero l = refl
 parts-later v k t j (suc n) l =
@@ -56,6 +56,10 @@ set-on v k (cons t ts) =
 pub long-parts : (w : Sub) (k m : ℕ) → length (items (all_under w (new_parts k m))) ≡ m
 long-parts w k zero = refl
 long-parts w k (suc m) = ap suc (long-parts w (suc k) m)
+
+pub length-parts : (k m : ℕ) → length (items (new_parts k m)) ≡ m
+length-parts k zero = refl
+length-parts k (suc m) = ap suc (length-parts (suc k) m)
 
 pub first_of : Tms → Tm → Tm
 first_of nil t = t

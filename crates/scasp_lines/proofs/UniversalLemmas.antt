@@ -14,7 +14,7 @@ use Rattle.scasp_lines.specs.Covers.{Cover, with_universal, with_universals, val
 use Rattle.scasp_lines.specs.Ways.{set_to}
 use Rattle.scasp_lines.proofs.KnownLemmas.{agree-tm, wider-tm}
 use Rattle.scasp_lines.proofs.ListLemmas.{list_all-member, list_any-member}
-use Rattle.scasp_lines.proofs.OpeningFits.{bound-more, grows-terms}
+use Rattle.scasp_lines.proofs.OpeningFits.{bound-kept, bound-more, grows-terms}
 use Rattle.scasp_lines.proofs.OpeningLemmas.{opens-terms}
 use Rattle.scasp_lines.proofs.PartLemmas.{set_to-ground, nat-eq, nat-self}
 use Rattle.scasp_lines.proofs.WaysLemmas.{met-agree}
@@ -25,18 +25,12 @@ not-same x y l = elim (cases_Bool (nat_eq y x)) [ inl e ↦ (let q = nat-eq y x 
 -- ---- what each variable stands for
 
 -- what is bound stays so
-bound-kept : (n x : ℕ) (c : Cover) (y : ℕ) (t : Tm) → bound_to c.bound y ≡ Some t → bound_to (with_universals n x c).bound y ≡ Some t
-bound-kept zero x c y t h = h
-bound-kept (suc n) x c y t h = bound-kept n (suc x) (with_universal (bound_to c.bound x) x c) y t (by (bound_to c.bound x) refl)
+all-kept : (n x : ℕ) (c : Cover) (y : ℕ) (t : Tm) → bound_to c.bound y ≡ Some t → bound_to (with_universals n x c).bound y ≡ Some t
+all-kept zero x c y t h = h
+all-kept (suc n) x c y t h = all-kept n (suc x) (with_universal (bound_to c.bound x) x c) y t (by (bound_to c.bound x) refl)
   where
     by : (o : Option Tm) → bound_to c.bound x ≡ o → bound_to (with_universal o x c).bound y ≡ Some t
-    by None e =
-        cond-false (nat_eq y x) (Some (var c.next)) (bound_to c.bound y)
-        (elim (cases_Bool (nat_eq y x)) [
-          | inl i ↦ (let q = nat-eq y x i in let none : bound_to c.bound y ≡ None = ap (bound_to c.bound) q ∙ e in absurd (cc))
-          | inr i ↦ i
-        ])
-        ∙ h
+    by None e = bound-kept c.bound x (var c.next) y t e h
     by (Some u) e = h
 
 pub record Bound (bound : List (ℕ × Tm)) (y : ℕ) : Type 0 where
@@ -63,13 +57,13 @@ all-bound (suc n) x c y l m = elim (cases_Bool (nat_eq y x)) [
     first None e q =
         record {
           to = var c.next;
-          is = bound-kept n (suc x) (with_universal (bound_to c.bound x) x c) y (var c.next)
+          is = all-kept n (suc x) (with_universal (bound_to c.bound x) x c) y (var c.next)
               (ap (λ (o : Option Tm). bound_to (with_universal o x c).bound y) e ∙ cond-true (nat_eq y x) (Some (var c.next)) (bound_to c.bound y) (ap (λ z. nat_eq z x) q ∙ nat-self x));
         }
     first (Some t) e q =
         record {
           to = t;
-          is = bound-kept n (suc x) (with_universal (bound_to c.bound x) x c) y t
+          is = all-kept n (suc x) (with_universal (bound_to c.bound x) x c) y t
               (ap (λ (o : Option Tm). bound_to (with_universal o x c).bound y) e ∙ ap (bound_to c.bound) q ∙ e);
         }
 

@@ -15,13 +15,13 @@ use Rattle.scasp_lines.specs.Said.{true_atoms, false_atoms, is_closed_over}
 use Rattle.scasp_lines.specs.Samples.{atom, one, constant, is_true, is_not, rule, ask, answer, numbers, dues}
 use Rattle.scasp_lines.specs.Walk.{Line}
 
-abbrev p : Atom
+abbrev pub p : Atom
 p = atom 2 nil
 
-abbrev r : Tm → Atom
+abbrev pub r : Tm → Atom
 r t = atom 3 (one t)
 
-abbrev s : Tm → Atom
+abbrev pub s : Tm → Atom
 s t = atom 4 (one t)
 
 abbrev pub f : Tm → Tm
@@ -67,7 +67,7 @@ their_dues :
     ≡ goal (is_not p) ∷ nothing ∷ nothing ∷ goal (is_true (r (var 0))) ∷ goal (is_true (s (f (var 0)))) ∷ []
 their_dues = refl
 
-abbrev free : Sub
+abbrev pub free : Sub
 free x = constant 0
 
 -- each line below the case has an instance for each value

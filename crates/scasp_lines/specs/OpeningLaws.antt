@@ -8,7 +8,7 @@ use Rattle.scasp_lines.specs.Known.{is_known}
 use Rattle.scasp_lines.specs.Opened.{Opened, is_met, knows, well}
 use Rattle.scasp_lines.specs.Openings.{Opening, bound_to}
 
--- What opened is well, the next new_parts are new, and what the head's variables stand for is known.
+-- What opened is well, the next parts are new, and what the head's variables stand for is known.
 pub record OpeningFits (n : ℕ) (o : Opening) : Type 0 where
   pub well : IsTrue (well n o.opened)
   pub unseen : (y : ℕ) → o.hidden ≤ y → IsFalse (knows n o.opened y)
@@ -19,7 +19,7 @@ pub record OpeningSays (d : List Tm) (s : Sub) (o : Opening) (v : Sub) : Type 0 
   pub met : IsTrue (list_all (is_met d v) o.opened)
   pub says : (x : ℕ) (t : Tm) → bound_to o.bound x ≡ Some t → under v t ≡ s x
 
--- From o to q more opened: that fits, the new_parts are numbered upwards, what was known is, and of what was not known only new new_parts are.
+-- From o to q more opened: that fits, the parts are numbered upwards, what was known is, and of what was not known only new parts are.
 pub record OpeningGrows (n : ℕ) (o q : Opening) : Type 0 where
   pub fits : OpeningFits n q
   pub rises : o.hidden ≤ q.hidden
@@ -29,9 +29,7 @@ pub record OpeningGrows (n : ℕ) (o q : Opening) : Type 0 where
 -- Some values that agree with v on what was known meet what opened and give the head's variables the terms of s.
 pub record OpeningIsMet (n : ℕ) (d : List Tm) (s : Sub) (o q : Opening) (v : Sub) : Type 0 where
   pub by : Sub
-  pub fits : OpeningFits n q
   pub holds : OpeningSays d s q by
-  pub more : (x : ℕ) → IsTrue (knows n o.opened x) → IsTrue (knows n q.opened x)
   pub same : (x : ℕ) → IsTrue (knows n o.opened x) → by x ≡ v x
   pub ground : ((x : ℕ) → IsTrue (is_ground (v x))) → (x : ℕ) → IsTrue (is_ground (by x))
 

@@ -15,7 +15,7 @@ use Rattle.scasp_lines.specs.Sides.{Shape, shape_of}
 use Rattle.scasp_lines.specs.Walk.{Part, of_node, of_rule, of_check, of_case, Line, Setting}
 use Rattle.scasp_syntax.specs.declared.con.Con.TheVariants as con
 
--- it is no excluded shape that has new_parts
+-- it is no excluded shape that has parts
 abbrev pub excludes_no_parts : Con → Bool
 excludes_no_parts (con.Eq t u) = true
 excludes_no_parts (con.Neq t u) = true
@@ -25,7 +25,7 @@ excludes_no_parts (con.Num t) = true
 excludes_no_parts (con.NotNum t) = true
 excludes_no_parts (con.Row r) = true
 
--- the variables of a split's constraint are known, or its variable where it has a shape; it excludes no shape that has new_parts
+-- the variables of a split's constraint are known, or its variable where it has a shape; it excludes no shape that has parts
 abbrev pub is_split_known : (ℕ → Bool) → Option Shape → Con → Bool
 is_split_known known (Some s) c = known s.of
 is_split_known known None c = is_con_known known c && excludes_no_parts c
@@ -49,7 +49,7 @@ is_line_scoped n l = is_part_scoped (knows n l.here.opened) l.next l.part
 abbrev pub are_lines_scoped : Program → Certificate → Bool
 are_lines_scoped p c = list_all (is_line_scoped (free_of c)) (lines p c)
 
--- What opened is well; no part from the next one on is known, and no universal from the next one on; and all universals are below the new_parts.
+-- What opened is well; no part from the next one on is known, and no universal from the next one on; and all universals are below the parts.
 pub record PlaceFits (s : Setting) (here : Place) (next : ℕ) : Type 0 where
   pub well : IsTrue (well s.free here.opened)
   pub unseen : (y : ℕ) → here.hidden ≤ y → IsFalse (knows s.free here.opened y)

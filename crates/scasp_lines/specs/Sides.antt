@@ -10,7 +10,7 @@ use Rattle.scasp_lines.specs.Opened.{Opened, shaped, assumed}
 use Rattle.scasp_lines.specs.Places.{Place, is_universal}
 use Rattle.scasp_syntax.specs.declared.con.Con.TheVariants as con
 
--- A variable against a name with new new_parts.
+-- A variable against a name with new parts.
 pub record Shape : Type 0 where
   pub of : ℕ
   pub name : ℕ

@@ -13,11 +13,13 @@ ghost use Rattle.scasp_syntax.specs.declared.clause.Query.{Query as ThisQuery};
 ghost use Rattle.scasp_syntax.specs.declared.con.Con.{Con as ThisCon};
 ghost use Rattle.scasp_syntax.specs.declared.program.Program.{Program as ThisProgram};
 ghost use Rattle.scasp_cert.specs.Certificate.{Certificate};
+ghost use Rattle.scasp_cert.specs.Flat.{is_flat};
 ghost use Rattle.scasp_cert.specs.Instances.{Said};
 ghost use Rattle.scasp_cert.specs.Lines.{all_lines};
 ghost use Rattle.scasp_cert.specs.Trees.{Branch, listed};
 ghost use Rattle.scasp_lines.specs.Below.{HasBelow, HasNode, count};
 ghost use Rattle.scasp_lines.specs.Bodies.{Body};
+ghost use Rattle.scasp_lines.specs.ClosedDomainOnly.{a, certificate, free, program};
 ghost use Rattle.scasp_lines.specs.Contexts.{context};
 ghost use Rattle.scasp_lines.specs.Covers.{cover_from, covering, value_of};
 ghost use Rattle.scasp_lines.specs.Descent.{Ends};
@@ -50,6 +52,7 @@ pub fn ways_are_instances()
 /// literal's terms have the values of the head's, values that agree on what was known meet it.
 pub fn openings_are_met()
     ensures fits { (n : ℕ) (heads literals : Tms) (o : Opening) → OpeningFits n o → IsTrue (are_known (knows n o.opened) literals) → OpeningGrows n o (open_terms heads literals o) }
+    ensures equal { (d : List Tm) (s v : Sub) (heads literals : Tms) (o : Opening) → length (items heads) ≡ length (items literals) → OpeningSays d s (open_terms heads literals o) v → all_under v literals ≡ all_under s heads }
     ensures met { (n : ℕ) (d : List Tm) (s : Sub) (heads literals : Tms) (o : Opening) (v : Sub) → OpeningFits n o → OpeningSays d s o v → IsTrue (are_known (knows n o.opened) literals) → all_under v literals ≡ all_under s heads → OpeningIsMet n d s o (open_terms heads literals o) v }
 {}
 
@@ -118,4 +121,11 @@ pub fn lines_have_lines_below()
 pub fn cases_are_exhaustive()
     ensures negation { (v : Sub) (k : ℕ) (c : ThisCon) → IsTrue (excludes_no_parts c) → holds v (negated k c) ≡ not (holds v c) }
     ensures case { (p : ThisProgram) (c : Certificate) → IsTrue (are_lines_scoped p c) → (d : List Tm) (b : Branch) (l : Line) (body : Body) (v : Sub) → Contains (lines p c) l → l.part ≡ of_case body b → IsTrue (list_all (is_met d v) l.here.opened) → Ends (setting p.clauses c) d l body v }
+{}
+
+/// Of the program `p :- not r(X). r(X) :- s(f(X)). s(Y).` the answer to `?- not p.` lists f(X) for each value of X.
+/// So no domain that has a constant is closed for it; and it is not flat.
+pub fn some_domains_are_never_closed()
+    ensures not_flat { IsFalse (is_flat certificate) }
+    ensures never { (d : List Tm) → IsTrue (list_any (same_tm a) d) → IsTrue (is_closed_over program certificate free d) → ⊥ }
 {}
