@@ -26,7 +26,7 @@ use Rattle.scasp_lines.specs.Lines.{setting, free_of, lines, walk_of}
 use Rattle.scasp_lines.specs.Ways.{set_all}
 use Rattle.scasp_lines.proofs.BelowLemmas.{has-below, branch-root}
 use Rattle.scasp_lines.proofs.FitLemmas.{lines-fit}
-use Rattle.scasp_lines.proofs.ListLemmas.{list_all-member}
+use Rattle.scasp_list.proofs.MemberLemmas.{list_all-member}
 use Rattle.scasp_lines.proofs.NegationLemmas.{negated-holds}
 use Rattle.scasp_lines.proofs.PartLemmas.{nat-eq, part-unknown, set-off, set-on, set_all-ground}
 use Rattle.scasp_lines.proofs.SubWalkLemmas.{certificate-whole, line-whole}

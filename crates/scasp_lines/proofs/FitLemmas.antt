@@ -28,7 +28,7 @@ use Rattle.scasp_lines.specs.Rooms.{room_of_clause}
 use Rattle.scasp_lines.proofs.CounterLemmas.{rule-rises, check-rises}
 use Rattle.scasp_lines.proofs.EverywhereLemmas.{everywhere}
 use Rattle.scasp_lines.proofs.KnownLemmas.{wider-tm}
-use Rattle.scasp_lines.proofs.ListLemmas.{list_all-from, list_all-member}
+use Rattle.scasp_list.proofs.MemberLemmas.{list_all-from, list_all-member}
 use Rattle.scasp_lines.proofs.OpeningFits.{grows-terms, no-part_above}
 use Rattle.scasp_lines.proofs.Passages.{Claim, HoldsFor, Passes}
 use Rattle.scasp_lines.proofs.UniversalLemmas.{covering-grows, covering-known}

@@ -25,7 +25,7 @@ use Rattle.scasp_lines.specs.Dues.{Due, first_due, other_dues}
 use Rattle.scasp_lines.specs.Walk.{Part, of_node, of_rule, of_check, of_case, Line, Setting, node_walk, nodes_walk, branch_walk, covers_walk, part_walk}
 use Rattle.scasp_lines.specs.Sides.{Shape, shape_of, sides_by, sides}
 use Rattle.scasp_lines.specs.Lines.{walk_of}
-use Rattle.scasp_lines.proofs.ListLemmas.{Contains-none, Contains-cases}
+use Rattle.scasp_list.proofs.MemberLemmas.{Contains-none, Contains-cases}
 use Rattle.scasp_lines.proofs.WaysLemmas.{instance-before}
 
 pub extends-same : (os : List Opened) → Extends os os

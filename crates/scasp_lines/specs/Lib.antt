@@ -24,6 +24,7 @@ pub mod Below
 pub mod Descent
 pub mod Samples
 pub mod ForallOverFacts
+pub mod LoopThroughNegation
 pub mod LinearDenial
 pub mod ClosedDomainOnly
 pub mod OpeningExamples

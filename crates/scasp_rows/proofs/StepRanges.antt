@@ -5,7 +5,9 @@ use Rattle.std.specs.List.{list_any}
 use native.Mathlib.Nat.{div-le_self}
 use Rattle.scasp_num.specs.declared.hints.Step.{Step}
 use Rattle.scasp_num.specs.Number.{InRange}
-use Rattle.scasp_num.specs.Linear.{Linear, Each, IsNormal, is_zero, negated_if}
+use Rattle.scasp_list.specs.Each.{Each}
+use Rattle.scasp_list.proofs.EachLemmas.{Each-append, Each-filter}
+use Rattle.scasp_num.specs.Linear.{Linear, IsNormal, is_zero, negated_if}
 use Rattle.scasp_num.specs.SameRow.{same_row}
 use Rattle.scasp_num.proofs.Joins.{coefficient-range}
 use Rattle.scasp_num.proofs.Numbers.{unsigned_abs-over}
@@ -18,8 +20,8 @@ use Rattle.scasp_rows.specs.Points.{is_constant, is_false}
 use Rattle.scasp_rows.specs.Steps.{row_sum}
 use Rattle.scasp_rows.specs.Elimination.{and_then, looked, sum_looked, made, factor, first_equation, others, share, size_over, against, replaced, solved, has_sign, rows_with, met, paired, all_paired, by_equation, made_without, limited, without, eliminated, variables, all_looked, elimination}
 use Rattle.scasp_rows.specs.Steps.{StepInRange}
-use Rattle.scasp_rows.proofs.Sums.{Each-append, row_sum-IsNormal}
-use Rattle.scasp_rows.proofs.Soundness.{Each-filter, first_equation-each, others-each}
+use Rattle.scasp_rows.proofs.Sums.{row_sum-IsNormal}
+use Rattle.scasp_rows.proofs.Soundness.{first_equation-each, others-each}
 
 -- the row is in normal form
 abbrev Normal : Standing → Type 0

@@ -1,6 +1,6 @@
 //! Whether rational values meet all rows, by the elimination of their variables.
 ghost use Rattle.std.specs.Prelude.{◌≡◌, ◌↔◌, IfOk, IsTrue};
-ghost use Rattle.scasp_num.specs.Linear.{Each};
+ghost use Rattle.scasp_list.specs.Each.{Each};
 ghost use Rattle.scasp_rows.specs.Points.{IsMet, NoDisequation};
 ghost use Rattle.scasp_rows.specs.Steps.{ReachesFalse, StepInRange};
 ghost use Rattle.scasp_rows.specs.Verdicts.{IfUnsat, Says, verdict_of};
