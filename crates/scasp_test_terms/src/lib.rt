@@ -1,0 +1,5 @@
+//! Tests of tokens.
+#![tactic(auto)]
+
+#[cfg(test)]
+mod lexis;
