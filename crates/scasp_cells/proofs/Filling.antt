@@ -193,6 +193,18 @@ module _ {X Z : Type 0} where
         few = omega arith;
       }
 
+-- and an empty one less
+module _ {X Z : Type 0} where
+  fills_less : (size len : ℕ) (ss : List (Segment X Z)) (s : Segment X Z) → FillsFrom size len (ss ++ s ∷ []) → len + size ≤ size * 2 ^ length ss → FillsFrom size len ss × (s.len ≡ 0)
+  fills_less size len [] s f le = (omega arith, omega (arith, f.1))
+  fills_less size len (r ∷ ss) s f le =
+      let least : 0 ≤ length ss = omega arith in
+      let one : 2 ^ 0 ≤ 2 ^ length ss = pow_mono least in
+      let more : size * 1 ≤ size * 2 ^ length ss = mul-le-mul_left size one in
+      let twice : size * 2 ^ suc (length ss) ≡ (size + size) * 2 ^ length ss = rw pow-suc (omega arith) in
+      let rest = fills_less (size + size) (len - size) ss s f.2 (omega arith) in
+      ((f.0, f.1, rest.0), rest.1)
+
 module _ {X Z : Type 0} (len : ℕ) (ss : List (Segment X Z)) (filled : IsFilled len ss) where
   pub len_small : len < 2 ^ 63
   len_small = let few : length ss ≤ 63 = omega (arith, filled.few) in let small : 2 ^ length ss ≤ 2 ^ 63 = pow_mono few in omega (arith, filled.within)
@@ -202,6 +214,36 @@ module _ {X Z : Type 0} (len : ℕ) (ss : List (Segment X Z)) (filled : IsFilled
 
 pub seen_spare : {X Z : Type 0} (len : ℕ) (ss : List (Segment X Z)) (v : Stack X) → stack_of len ss ≡ v → (2 ^ length ss - 1) - len ≡ v.spare
 seen_spare {X} len ss v e = ap (λ (w : Stack X). w.spare) e
+
+-- what is left when the last segment is freed, where more is spare than there are items
+module _ {X Z : Type 0} (len : ℕ) (v : Stack X) where
+  pub record IsFreed (ss : List (Segment X Z)) (s : Segment X Z) : Type 0 where
+    pub empty : s.len ≡ 0
+    pub filled : IsFilled len ss
+    pub items : joined ss ≡ v.items
+    pub spare : length v.items + ((2 ^ length ss - 1) - len) + ((2 ^ length ss - 1) - len) + 1 ≡ v.spare
+
+  pub freed : (all ss : List (Segment X Z)) (s : Segment X Z) → IsFilled len all → stack_of len all ≡ v → length v.items < v.spare → all ≡ ss ++ s ∷ [] → IsFreed ss s
+  freed all ss s filled seen more split =
+      let len_is = seen_len len all filled v seen in
+      let spare_is = seen_spare len all v seen in
+      let longer : length all ≡ suc (length ss) = omega (arith, ap length split, length-append ss (s ∷ [])) in
+      let twice : 2 ^ length all ≡ 2 ^ length ss * 2 = rw longer (pow-suc 2 (length ss)) in
+      let room : len < 2 ^ length ss = omega arith in
+      let less = fills_less 1 len ss s (rw split at filled.in_order) (omega arith) in
+      let none : s.items ≡ [] = nil_from_length s.items (omega (arith, s.ok.0, less.1)) in
+      record {
+        empty = less.1;
+        filled = record { in_order = less.0; within = room; few = omega (arith, filled.few) };
+        items = sym (joined-more ss s none) ∙ ap joined (sym split) ∙ ap (λ (w : Stack X). w.items) seen;
+        spare = omega arith;
+      }
+
+  pub none_spare : (all : List (Segment X Z)) → IsFilled len all → stack_of len all ≡ v → length v.items < v.spare → length all ≡ 0 → ⊥
+  none_spare all filled seen more none =
+      let spare_is = seen_spare len all v seen in
+      let one : 2 ^ length all ≡ 2 ^ 0 = ap (λ (n : ℕ). 2 ^ n) none in
+      omega arith
 
 -- the segment of a place that is filled is there
 pub segment_within : (n len at k off : ℕ) → at + 1 ≡ 2 ^ k + off → at < len → len < 2 ^ n → k < n

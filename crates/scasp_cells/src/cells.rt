@@ -72,16 +72,19 @@ impl<T> Cells<T> {
         room(self.segments.len()) - self.len
     }
 
-    /// Makes room for `n` more items. What was reserved before an `Err` stays reserved.
+    /// Makes room for `n` more items. After an error the stack is unchanged.
     pub fn reserve(&mut self, n: u64) -> Result<(), Memory>
         requires { length self.old.items + n < 2 ^ 63 }
         ensures items { self.new.items ≡ self.old.items }
         ensures ok { OnOk result (n ≤ self.new.spare) }
+        ensures unchanged { OnErr result (self.new ≡ self.old) }
         ensures kept { self.old.spare ≤ self.new.spare }
         ensures enough { n ≤ self.old.spare → IsOk result × (self.new.spare ≡ self.old.spare) }
     {
+        let count = self.segment_count();
         while self.spare() < n {
             if !self.grow() {
+                self.shrink(count);
                 return Err(Memory);
             }
         }
@@ -96,6 +99,35 @@ impl<T> Cells<T> {
         ensures same { OnFalse result (self.new.spare ≡ self.old.spare) }
     {
         add_segment(&mut self.segments)
+    }
+
+    // The number of segments.
+    fn segment_count(&self) -> usize
+        ensures { 2 ^ result ≡ length self.now.items + self.now.spare + 1 }
+    {
+        self.segments.len()
+    }
+
+    // Frees the segments from the number `count` on, which are empty.
+    fn shrink(&mut self, count: usize)
+        requires { (length self.old.items < 2 ^ count) × (2 ^ count ≤ length self.old.items + self.old.spare + 1) }
+        ensures items { self.new.items ≡ self.old.items }
+        ensures spare { length self.new.items + self.new.spare + 1 ≡ 2 ^ count }
+    {
+        while self.segment_count() > count {
+            self.free_last();
+        }
+    }
+
+    // Frees the last segment, where the items have room without it.
+    fn free_last(&mut self)
+        requires { length self.old.items < self.old.spare }
+        ensures items { self.new.items ≡ self.old.items }
+        ensures spare { length self.new.items + self.new.spare + self.new.spare + 1 ≡ self.old.spare }
+    {
+        if let Some(segment) = self.segments.pop() {
+            let _alloc = segment.free();
+        }
     }
 
     /// Puts `item` on top and returns its place. It comes back where there is no memory for it, which

@@ -94,7 +94,7 @@ impl<T, A: Allocator> Segment<T, A> {
     }
 
     // Frees the block of an empty segment, and returns the handle.
-    fn free(self) -> A
+    pub(crate) fn free(self) -> A
         requires { self.len ≡ 0 }
     {
         if self.cap != 0 {

@@ -1,3 +1,4 @@
+-- Certificates as values: an answer with its trees and what stands beside them.
 use Rattle.std.specs.Prelude.{ℕ, List, map}
 use Rattle.scasp_syntax.specs.Tm.{Tms}
 use Rattle.scasp_syntax.specs.declared.con.Con.{Con}

@@ -1,3 +1,4 @@
+-- States of the search: the trees in the making and the literals open around them.
 use Rattle.std.specs.Prelude.{ℕ, List, [], ◌∷◌, ◌++◌}
 use Rattle.scasp_syntax.specs.Tm.{Tms}
 use Rattle.scasp_syntax.specs.declared.atom.Atom.{Atom}

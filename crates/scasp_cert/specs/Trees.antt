@@ -1,3 +1,4 @@
+-- Justification trees and case trees as values.
 use Rattle.std.specs.Prelude.{ℕ, List, [], ◌∷◌}
 use Rattle.scasp_syntax.specs.Tm.{Tms}
 use Rattle.scasp_syntax.specs.declared.atom.Atom.{Atom}

@@ -1,3 +1,4 @@
+-- Which values the code's trees are.
 use Rattle.std.specs.Prelude.{ℕ, List}
 use Rattle.scasp_cert.specs.Trees.{Tree, Branch, pos_tree, neg_tree, loop_tree, seen_tree, test_tree, split, void, leaf, head, listed, covering}
 use Rattle.scasp_cert.specs.declared.tree.Node.{Node}

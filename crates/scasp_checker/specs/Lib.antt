@@ -2,4 +2,5 @@ pub mod Accepted
 pub mod Examples
 pub mod Faults
 pub mod Judged
+pub mod MapLevels
 pub mod Verdicts

@@ -4,8 +4,6 @@
 pub mod laws;
 mod planning;
 mod plans;
-#[cfg(test)]
-mod tests;
 
 pub use planning::plan;
 pub use plans::{Plan, Plans, RulePlan, RulePlans};

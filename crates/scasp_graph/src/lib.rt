@@ -10,8 +10,6 @@ mod map;
 mod numbering;
 mod occurrences;
 mod order;
-#[cfg(test)]
-mod tests;
 
 pub use analysis::{Analysis, analyse};
 pub use map::{MapFault, has_number, map_holds};

@@ -17,10 +17,10 @@ use Rattle.scasp_model.specs.declared.program.GroundClause.{GroundClause}
 abbrev atom : ℕ → Tms → Atom
 atom name args = record { minus = false; name = name; args = args }
 
-abbrev lit : Bool → Atom → Lit
+abbrev pub lit : Bool → Atom → Lit
 lit positive a = record { positive = positive; atom = a }
 
-abbrev rule : Option Atom → List Lit → GroundClause
+abbrev pub rule : Option Atom → List Lit → GroundClause
 rule head body = record { head = head; body = body }
 
 abbrev a : Tm
@@ -55,16 +55,16 @@ domain = refl
 no_domain : is_domain (a ∷ b ∷ a ∷ []) ≡ false
 no_domain = refl
 
-abbrev p : Atom
+abbrev pub p : Atom
 p = atom 2 nil
 
-abbrev q : Atom
+abbrev pub q : Atom
 q = atom 3 nil
 
-abbrev r : Atom
+abbrev pub r : Atom
 r = atom 4 nil
 
-abbrev s : Atom
+abbrev pub s : Atom
 s = atom 5 nil
 
 -- p. r :- p, not q, s. r :- q. s :- not p. :- r, not q, p. Where p is true and q false.

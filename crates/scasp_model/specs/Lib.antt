@@ -2,6 +2,9 @@ pub mod Atoms
 pub mod Examples
 pub mod Grounding
 pub mod Least
+pub mod Levelled
+pub mod LevelledExamples
+pub mod Levels
 pub mod Programs
 pub mod Reduct
 pub mod Residual

@@ -26,3 +26,12 @@ is_without_not g = list_all (λ c. is_positive c.body) g
 abbrev pub is_headless : Option Atom → Bool
 is_headless None = true
 is_headless (Some a) = false
+
+-- the clause has a head that passes the test
+abbrev pub head_is : (Atom → Bool) → Option Atom → Bool
+head_is test None = false
+head_is test (Some a) = test a
+
+-- the rules whose heads pass the test
+abbrev pub rules_for : (Atom → Bool) → List GroundClause → List GroundClause
+rules_for test g = filter (λ c. head_is test c.head) g

@@ -7,8 +7,6 @@ mod least_model;
 mod program;
 mod reduct;
 mod stable;
-#[cfg(test)]
-mod tests;
 
 pub use least_model::{is_without_not, least};
 pub use program::{AtomList, DefiniteRule, DefiniteRules, Domain, GroundClause, GroundProgram};

@@ -4,8 +4,6 @@
 mod items;
 pub mod laws;
 mod listing;
-#[cfg(test)]
-mod tests;
 
 pub use items::{CheckItem, CheckItems};
 pub use listing::checks;

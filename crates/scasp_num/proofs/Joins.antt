@@ -8,11 +8,12 @@ use Rattle.std.proofs.lemmas.Int.{ints}
 use Rattle.scasp_num.specs.declared.linear.Coeff.{Coeff}
 use Rattle.scasp_num.specs.Number.{InRange}
 use Rattle.scasp_num.specs.Arithmetic.{◌>>=◌, within}
-use Rattle.scasp_num.specs.Linear.{Linear, Each, Ascends, normal_form, weighted, Compares, Meets, coefficient, others_times, merged, join_of, replaced}
+use Rattle.scasp_list.specs.Each.{Each}
+use Rattle.scasp_list.proofs.EachLemmas.{Each-map}
+use Rattle.scasp_num.specs.Linear.{Linear, Ascends, normal_form, weighted, Compares, Meets, coefficient, others_times, merged, join_of, replaced}
 use Rattle.scasp_num.proofs.Integers.{+ℤ-*ℤ}
 use Rattle.scasp_num.proofs.Numbers.{within-some, ltb_lt}
 use Rattle.scasp_num.proofs.Exact.{bind-some}
-use Rattle.scasp_num.proofs.NormalForms.{Each-map}
 use Rattle.scasp_num.proofs.Meaning.{normal_form-meets_of}
 use Rattle.scasp_num.proofs.Puts.{replaced-weighted}
 

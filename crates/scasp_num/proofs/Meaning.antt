@@ -8,7 +8,8 @@ use Rattle.std.proofs.lemmas.Int.{ints}
 use Rattle.scasp_num.specs.declared.linear.Coeff.{Coeff}
 use Rattle.scasp_num.specs.declared.linear.Op.{Op}
 use Rattle.scasp_num.specs.declared.linear.Op.TheVariants as op
-use Rattle.scasp_num.specs.Linear.{Linear, Each, divisor, is_zero, is_symmetric, is_negated, negated_if, shares, normal_form, weighted, Compares, Meets, negation, negated, opposite}
+use Rattle.scasp_list.specs.Each.{Each}
+use Rattle.scasp_num.specs.Linear.{Linear, divisor, is_zero, is_symmetric, is_negated, negated_if, shares, normal_form, weighted, Compares, Meets, negation, negated, opposite}
 use Rattle.scasp_num.proofs.Integers.{*ℤ_right_comm, +ℤ-*ℤ, neg-*ℤ, *ℤ-cancel}
 use Rattle.scasp_num.proofs.Exact.{over-times}
 use Rattle.scasp_num.proofs.NormalForms.{share, divisor-dvd, divisor-above, zero_is}

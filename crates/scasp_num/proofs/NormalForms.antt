@@ -9,7 +9,8 @@ use Rattle.scasp_num.specs.declared.linear.Op.{Op}
 use Rattle.scasp_num.specs.declared.linear.Op.TheVariants as op
 use Rattle.scasp_num.specs.Gcd.{gcd}
 use Rattle.scasp_num.specs.Number.{InRange}
-use Rattle.scasp_num.specs.Linear.{Linear, Each, Ascends, integers, common_divisor, divisor, is_zero, leads_below, is_symmetric, is_negated, negated_if, shares, normal_form, negated, negation, opposite, IsNormal}
+use Rattle.scasp_list.specs.Each.{Each}
+use Rattle.scasp_num.specs.Linear.{Linear, Ascends, integers, common_divisor, divisor, is_zero, leads_below, is_symmetric, is_negated, negated_if, shares, normal_form, negated, negation, opposite, IsNormal}
 use Rattle.scasp_num.proofs.Gcds.{gcd-is, gcd-mul, gcd-zero, gcd_comm}
 use Rattle.scasp_num.proofs.Numbers.{div-pos, unsigned_abs-over, below-zero}
 
@@ -25,11 +26,6 @@ unsigned_abs-negated_if false z = refl
 
 pub unsigned_abs-share : (n : Bool) (g : ℕ) (c : ℤ) → unsigned_abs (share n g c) ≡ unsigned_abs c / g
 unsigned_abs-share n g c = unsigned_abs-negated_if n (int_div c (pos g)) ∙ unsigned_abs-over c g
-
--- what holds of each item, from what holds of each
-pub Each-map : {A : Type 0} (P Q : A → Type 0) → ((x : A) → P x → Q x) → (xs : List A) → Each P xs → Each Q xs
-Each-map P Q f [] e = tt
-Each-map P Q f (x ∷ xs) e = (f x e.0, Each-map P Q f xs e.1)
 
 -- shares of each item: P of a coefficient gives Q of its share
 Each-shares : (P Q : Coeff → Type 0) (n : Bool) (g : ℕ) → ((k : Coeff) → is_zero k.c ≡ false → P k → Q (record { x = k.x; c = share n g k.c })) → (ks : List Coeff) → Each P ks → Each Q (shares n g ks)

@@ -1,5 +1,5 @@
 -- Laws of bounded arithmetic on numbers.
-use Rattle.std.proofs.Common.{Result, Ok, Err, to_z, of_z, T, eq-eqb, ◌≡◌, ℕ, zero, suc, ◌*◌, ◌/◌, ◌^◌, ◌<◌, ◌≢◌, Bool, true, false, ◌&&◌, nat_lt, ℤ, pos, negsuc, ◌+ℤ◌, ◌-ℤ◌, ◌*ℤ◌, neg_ℤ, ◌<ℤ◌, unsigned_abs, int_div, Some, None, refl, sym, ap, subst, ◌∙◌, arith}
+use Rattle.std.proofs.Common.{Result, Ok, Err, to_z, of_z, T, eq-eqb, ◌≡◌, ℕ, zero, suc, ◌*◌, ◌/◌, ◌^◌, ◌<◌, ◌≢◌, Bool, true, false, nat_lt, ℤ, pos, negsuc, ◌+ℤ◌, ◌-ℤ◌, ◌*ℤ◌, neg_ℤ, ◌<ℤ◌, unsigned_abs, int_div, Some, None, refl, sym, ap, subst, ◌∙◌, arith}
 use Rattle.std.specs.Int.{◌∣◌, w128}
 use borrow.Author.Tests.{ltb-true}
 use Rattle.std.proofs.Math.Nat.{mul-div_cancel', mul-pos, dvd-mul_left}
@@ -8,6 +8,7 @@ use Rattle.std.specs.Prelude.{if◌then◌else◌, IsErr}
 use Rattle.std.specs.Result.{result_ok}
 use Rattle.std.proofs.lemmas.Int.{ints, to_z-of_z, fits_signed_from_abs, unsigned_abs-mul}
 use Rattle.std.proofs.Math.Bool.{not, beq}
+use Rattle.std.proofs.lemmas.Bool.{and_from}
 use Rattle.std.proofs.lemmas.Bool.Decides.{nat_tests}
 use Rattle.scasp_num.specs.Gcd.{gcd}
 use Rattle.scasp_num.specs.Number.{Number, IsReduced, IsReduced-prop, IsFraction, InRange}
@@ -46,11 +47,8 @@ true_from : (b : Bool) → T b → b ≡ true
 true_from true h = refl
 true_from false h = absurd h
 
-both : (x y : Bool) → x ≡ true → y ≡ true → (x && y) ≡ true
-both x y p q = rw (p, q)
-
 is_reduced-of : (a b : ℤ) → IsReduced a b → is_reduced a b ≡ true
-is_reduced-of a b r = both _ _ (true_from _ r.positive.lt) (eq-eqb _ 1 r.lowest)
+is_reduced-of a b r = and_from _ _ (true_from _ r.positive.lt) (eq-eqb _ 1 r.lowest)
 
 -- the number of a number's parts
 pub number-of : (q : Number) → Some q ≡ number q.num q.den

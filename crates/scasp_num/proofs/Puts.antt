@@ -6,14 +6,15 @@ use Rattle.std.proofs.Math.IntN.{*ℤ_comm, +ℤ_idr, +ℤ_idl, zero-*ℤ, +ℤ_
 use Rattle.scasp_num.specs.declared.linear.Coeff.{Coeff}
 use Rattle.scasp_num.specs.Number.{Number, InRange}
 use Rattle.scasp_num.specs.Arithmetic.{◌>>=◌, within}
-use Rattle.scasp_num.specs.Linear.{Linear, Each, Ascends, normal_form, weighted, Compares, Meets, coefficient, others_times, put_constant, put_of, replaced}
+use Rattle.scasp_list.specs.Each.{Each}
+use Rattle.scasp_num.specs.Linear.{Linear, Ascends, normal_form, weighted, Compares, Meets, coefficient, others_times, put_constant, put_of, replaced}
 use Rattle.scasp_num.proofs.Integers.{*ℤ_assoc, *ℤ_right_comm, +ℤ-*ℤ}
 use Rattle.scasp_num.proofs.Numbers.{within-some}
 use Rattle.scasp_num.proofs.Exact.{bind-some}
 use Rattle.scasp_num.proofs.Meaning.{normal_form-meets_of}
 
 -- a list of what is left, from the first term that is kept
-kept-some : (d : ℤ) (x : ℕ) (k : Coeff) (ks others : List Coeff) → Some others ≡ (within (d *ℤ k.c) >>= (λ c. others_times d x ks >>= (λ rest. Some (record { x = k.x; c = c } ∷ rest)))) → (c : ℤ) × (rest : List Coeff) × (c ≡ d *ℤ k.c) × InRange c × (Some rest ≡ others_times d x ks) × (others ≡ record { x = k.x; c = c } ∷ rest)
+pub kept-some : (d : ℤ) (x : ℕ) (k : Coeff) (ks others : List Coeff) → Some others ≡ (within (d *ℤ k.c) >>= (λ c. others_times d x ks >>= (λ rest. Some (record { x = k.x; c = c } ∷ rest)))) → (c : ℤ) × (rest : List Coeff) × (c ≡ d *ℤ k.c) × InRange c × (Some rest ≡ others_times d x ks) × (others ≡ record { x = k.x; c = c } ∷ rest)
 kept-some d x k ks others e =
     let a = bind-some (within (d *ℤ k.c)) (λ c. others_times d x ks >>= (λ rest. Some (record { x = k.x; c = c } ∷ rest))) others e in
     let b = bind-some (others_times d x ks) (λ rest. Some (record { x = k.x; c = a.0 } ∷ rest)) others a.2 in
@@ -44,7 +45,7 @@ others_times-Ascends d x (k ∷ ks) others e a = by (k.x == x) e (λ rest g. oth
         let s = kept-some d x k ks others e in
         subst (λ (o : List Coeff). Ascends o) (sym s.5) (others_times-each (λ j. k.x < j.x) (λ j. k.x < j.x) d x (λ j c h _. h) ks s.1 s.4 a.0, rest s.1 s.4)
 
-coefficient-none : (x : ℕ) (ks : List Coeff) → Each (λ j. x < j.x) ks → coefficient x ks ≡ pos 0
+pub coefficient-none : (x : ℕ) (ks : List Coeff) → Each (λ j. x < j.x) ks → coefficient x ks ≡ pos 0
 coefficient-none x [] h = refl
 coefficient-none x (k ∷ ks) h = by (k.x == x) refl (coefficient-none x ks h.1)
   where

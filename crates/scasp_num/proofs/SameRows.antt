@@ -1,7 +1,7 @@
 -- The test of equality of rows decides it.
-use Rattle.std.proofs.Common.{◌≡◌, ◌==◌, ◌↔◌, IsTrue, Bool, true, false, ◌&&◌, List, [], ◌∷◌, refl, subst, eq-eqb}
+use Rattle.std.proofs.Common.{◌≡◌, ◌==◌, ◌↔◌, IsTrue, true, ◌&&◌, List, [], ◌∷◌, refl, subst, eq-eqb}
 use Rattle.std.specs.Ordering.{int_eq}
-use Rattle.std.proofs.lemmas.Bool.{and_parts, eqb-true}
+use Rattle.std.proofs.lemmas.Bool.{and_from, and_parts, eqb-true}
 use Rattle.std.proofs.lemmas.Bool.Decides.{Decides-int_eq}
 use Rattle.scasp_num.specs.declared.linear.Coeff.{Coeff}
 use Rattle.scasp_num.specs.declared.linear.Op.{Op}
@@ -50,14 +50,10 @@ row-same p q e =
 
 -- ---- a row is the same as itself
 
-both : (a b : Bool) → a ≡ true → b ≡ true → (a && b) ≡ true
-both true b e f = f
-both false b e f = cc
-
 same-terms : (ks : List Coeff) → same_terms ks ks ≡ true
 same-terms [] = refl
 same-terms (k ∷ ks) =
-    both (k.x == k.x && int_eq k.c k.c) (same_terms ks ks) (both (k.x == k.x) (int_eq k.c k.c) (eq-eqb k.x k.x refl) ((Decides-int_eq k.c k.c).1 refl)) (same-terms ks)
+    and_from (k.x == k.x && int_eq k.c k.c) (same_terms ks ks) (and_from (k.x == k.x) (int_eq k.c k.c) (eq-eqb k.x k.x refl) ((Decides-int_eq k.c k.c).1 refl)) (same-terms ks)
 
 same-op : (o : Op) → same_op o o ≡ true
 same-op op.Eq = refl
@@ -67,8 +63,8 @@ same-op op.Ne = refl
 
 same-row : (p : Linear) → same_row p p ≡ true
 same-row p =
-    both (same_op p.op p.op && int_eq p.constant p.constant) (same_terms p.coeffs p.coeffs)
-    (both (same_op p.op p.op) (int_eq p.constant p.constant) (same-op p.op) ((Decides-int_eq p.constant p.constant).1 refl)) (same-terms p.coeffs)
+    and_from (same_op p.op p.op && int_eq p.constant p.constant) (same_terms p.coeffs p.coeffs)
+    (and_from (same_op p.op p.op) (int_eq p.constant p.constant) (same-op p.op) ((Decides-int_eq p.constant p.constant).1 refl)) (same-terms p.coeffs)
 
 pub row-decided : (p q : Linear) → IsTrue (same_row p q) ↔ (p ≡ q)
 row-decided p q = (row-same p q, λ e. subst (λ (r : Linear). same_row p r ≡ true) e (same-row p))

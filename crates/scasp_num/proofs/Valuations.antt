@@ -7,12 +7,13 @@ use Rattle.std.proofs.Math.Nat.{dvd_trans, dvd-mul_left, dvd-mul_right}
 use Rattle.std.proofs.Math.IntN.{*ℤ_comm, zero-*ℤ}
 use Rattle.scasp_num.specs.declared.linear.Coeff.{Coeff}
 use Rattle.scasp_num.specs.Number.{Number, IsFraction}
-use Rattle.scasp_num.specs.Linear.{Linear, Each, Ascends, weighted, Compares, Meets, put_of, join_of, negation, replaced}
+use Rattle.scasp_list.specs.Each.{Each}
+use Rattle.scasp_list.proofs.EachLemmas.{Each-map, Each-left, Each-right}
+use Rattle.scasp_num.specs.Linear.{Linear, Ascends, weighted, Compares, Meets, put_of, join_of, negation, replaced}
 use Rattle.scasp_num.specs.Values.{row_sum, Holds, with_value, HaveDenominator}
 use Rattle.scasp_num.proofs.Integers.{*ℤ_assoc, *ℤ_right_comm, +ℤ-*ℤ}
 use Rattle.scasp_num.proofs.Numbers.{times-pos}
 use Rattle.scasp_num.proofs.Exact.{over-times}
-use Rattle.scasp_num.proofs.NormalForms.{Each-map}
 use Rattle.scasp_num.proofs.Meaning.{negation-meets, compares-scaled}
 use Rattle.scasp_num.proofs.Puts.{put_of-meets}
 use Rattle.scasp_num.proofs.Joins.{join_of-meets}
@@ -26,7 +27,7 @@ row_sum-times v m d (k ∷ ks) h = by k.c (m k.x) (v k.x).num (v k.x).den (weigh
     by c x qn qd w r s e f =
         +ℤ-*ℤ (c *ℤ x) w (qd *ℤ s) ∙ (λ i. (sym (*ℤ_assoc (c *ℤ x) qd s) ∙ ap (λ y. y *ℤ s) (*ℤ_assoc c x qd ∙ ap (λ y. c *ℤ y) (sym e) ∙ sym (*ℤ_assoc c qn d)) ∙ *ℤ_right_comm (c *ℤ qn) d s) i +ℤ (ap (λ y. w *ℤ y) (*ℤ_comm qd s) ∙ sym (*ℤ_assoc w s qd) ∙ ap (λ y. y *ℤ qd) f ∙ *ℤ_right_comm r d qd) i) ∙ sym (+ℤ-*ℤ (c *ℤ qn *ℤ s) (r *ℤ qd) d)
 
-row_sum-pos : (v : ℕ → Number) (ks : List Coeff) → pos 0 <ℤ (row_sum v ks).1
+pub row_sum-pos : (v : ℕ → Number) (ks : List Coeff) → pos 0 <ℤ (row_sum v ks).1
 row_sum-pos v [] = omega (arith, ints)
 row_sum-pos v (k ∷ ks) = times-pos (v k.x).den (row_sum v ks).1 (v k.x).reduced.positive (row_sum-pos v ks)
 
@@ -65,14 +66,6 @@ numerators-are v ks = Each-map (λ k. unsigned_abs (v k.x).den ∣ unsigned_abs 
 -- some whole numbers and one denominator above 0 are the values of all these terms
 pub denominator-exists : (v : ℕ → Number) (ks : List Coeff) → (m : ℕ → ℤ) × (d : ℤ) × (pos 0 <ℤ d) × HaveDenominator v m d ks
 denominator-exists v ks = (numerators v ks, (row_sum v ks).1, row_sum-pos v ks, numerators-are v ks)
-
-Each-left : {A : Type 0} (P : A → Type 0) (xs ys : List A) → Each P (xs ++ ys) → Each P xs
-Each-left P [] ys e = tt
-Each-left P (x ∷ xs) ys e = (e.0, Each-left P xs ys e.1)
-
-Each-right : {A : Type 0} (P : A → Type 0) (xs ys : List A) → Each P (xs ++ ys) → Each P ys
-Each-right P [] ys e = e
-Each-right P (x ∷ xs) ys e = Each-right P xs ys e.1
 
 -- ---- the operations, under any values
 

@@ -12,13 +12,14 @@ use Rattle.scasp_num.specs.declared.linear.Op.{Op}
 use Rattle.scasp_num.specs.Gcd.{gcd}
 use Rattle.scasp_num.specs.Number.{Number, IsFraction, InRange}
 use Rattle.scasp_num.specs.Arithmetic.{◌>>=◌, within, sum_of}
-use Rattle.scasp_num.specs.Linear.{Linear, Each, Ascends, normal_form, weighted, Compares, Meets}
+use Rattle.scasp_list.specs.Each.{Each}
+use Rattle.scasp_list.proofs.EachLemmas.{Each-map}
+use Rattle.scasp_num.specs.Linear.{Linear, Ascends, normal_form, weighted, Compares, Meets}
 use Rattle.scasp_num.specs.Sums.{added, summed, multiple, whole_number, whole, normal_of, IsTimes, AreTimes}
 use Rattle.scasp_num.proofs.Gcds.{gcd-is}
 use Rattle.scasp_num.proofs.Integers.{*ℤ_assoc, *ℤ_right_comm, +ℤ-*ℤ, *ℤ-cancel}
 use Rattle.scasp_num.proofs.Numbers.{within-some, ltb_lt, times-pos, over-pos, unsigned_abs-over}
 use Rattle.scasp_num.proofs.Exact.{bind-some, sum_of-exact, over-times}
-use Rattle.scasp_num.proofs.NormalForms.{Each-map}
 use Rattle.scasp_num.proofs.Meaning.{normal_form-meets_of, compares-scaled}
 use Rattle.scasp_num.proofs.Joins.{later}
 
@@ -154,7 +155,7 @@ summed-times m l sums (p ∷ ps) out e ks (j ∷ js) a b =
 
 -- ---- the least common multiple is one
 
-multiple-step : (l d : ℤ) → (unsigned_abs l ∣ unsigned_abs (l *ℤ int_div d (pos (gcd (unsigned_abs l) (unsigned_abs d))))) × (unsigned_abs d ∣ unsigned_abs (l *ℤ int_div d (pos (gcd (unsigned_abs l) (unsigned_abs d)))))
+pub multiple-step : (l d : ℤ) → (unsigned_abs l ∣ unsigned_abs (l *ℤ int_div d (pos (gcd (unsigned_abs l) (unsigned_abs d))))) × (unsigned_abs d ∣ unsigned_abs (l *ℤ int_div d (pos (gcd (unsigned_abs l) (unsigned_abs d)))))
 multiple-step l d =
     let a = unsigned_abs l in
     let b = unsigned_abs d in

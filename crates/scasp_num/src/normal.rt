@@ -1,7 +1,8 @@
 //! The normal form of a row.
 ghost use Rattle.std.specs.Prelude.{◌≡◌, ◌<◌, pos, int_div, max, length, IfOk};
 ghost use Rattle.scasp_num.specs.Number.{InRange};
-ghost use Rattle.scasp_num.specs.Linear.{Each, common_divisor, integers, leads_below, is_negated, negated_if, shares, Ascends, normal_form, Meets, negated};
+ghost use Rattle.scasp_list.specs.Each.{Each};
+ghost use Rattle.scasp_num.specs.Linear.{common_divisor, integers, leads_below, is_negated, negated_if, shares, Ascends, normal_form, Meets, negated};
 ghost use Rattle.std.specs.Prelude.{List, ◌∷◌, map, unsigned_abs, ℕ, ℤ, ◌↔◌};
 
 use crate::Memory;

@@ -2,7 +2,8 @@
 ghost use Rattle.std.specs.Prelude.{◌≡◌, IfOk};
 ghost use Rattle.std.specs.Result.{result_ok};
 ghost use Rattle.scasp_num.specs.Number.{InRange};
-ghost use Rattle.scasp_num.specs.Linear.{Each, Gives, coefficient, others_times, put_constant, merged};
+ghost use Rattle.scasp_list.specs.Each.{Each};
+ghost use Rattle.scasp_num.specs.Linear.{Gives, coefficient, others_times, put_constant, merged};
 
 use crate::bounded::{product, sum};
 use crate::linear::{Coeff, Coeffs, Row, RowErr};

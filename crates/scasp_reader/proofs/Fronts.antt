@@ -9,9 +9,6 @@ pub not-true : (b : Bool) → not b ≡ true → b ≡ false
 not-true true e = cc
 not-true false e = refl
 
-pub both : (a b : Bool) → a ≡ true → b ≡ true → (a && b) ≡ true
-both a b h g = rw (h, g) refl
-
 pub name_at-append : (run rest : List ℕ) → list_all is_name_byte run ≡ true → ends_name rest ≡ true → name_at (run ++ rest) ≡ run
 name_at-append [] [] h e = refl
 name_at-append [] (b ∷ rest) h e = name_at-out b rest (not-true (is_name_byte b) e)

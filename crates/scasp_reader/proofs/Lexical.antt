@@ -2,7 +2,7 @@
 use Rattle.std.proofs.Common.{◌≡◌, ℕ, Bool, true, false, ◌&&◌, not, List, [], ◌∷◌, ◌++◌, length, drop, codes, Option, None, Some, option_map, refl, sym, ap, ◌∙◌, subst, arith, append-nil, if◌then◌else◌}
 use Rattle.std.specs.List.{list_all}
 use Rattle.std.specs.Str.{bytes_eq}
-use Rattle.std.proofs.lemmas.Bool.{and_parts}
+use Rattle.std.proofs.lemmas.Bool.{and_from, and_parts}
 use Rattle.std.proofs.lemmas.List.{drop_at}
 use Rattle.scasp_name.specs.Texts.{with_text}
 use Rattle.scasp_reader.specs.declared.byte_class.Class.{Class}
@@ -13,19 +13,19 @@ use Rattle.scasp_reader.specs.Bytes.{is_blank, is_lower, is_name, is_name_byte, 
 use Rattle.scasp_reader.specs.Lexis.{place_of, Lexes}
 use Rattle.scasp_reader.specs.Lexed.{Lexed, with_tokens, Place, between, in_name, behind_colon, behind_question, lexed_at, lexed_from, lexed_in}
 use Rattle.scasp_reader.proofs.Classes.{ClassMeans, class_means, Blank-from_test, Lower-from_test, is_name_class-class_of}
-use Rattle.scasp_reader.proofs.Fronts.{name_at-append, both, not-true}
+use Rattle.scasp_reader.proofs.Fronts.{name_at-append, not-true}
 use Rattle.scasp_reader.proofs.Lexing.{goes_on, stops, lexed-word}
 use Rattle.scasp_reader.proofs.Spelled.{of_map}
 
 -- a blank more in front
 Lexes-blank : (names : List (List ℕ)) (b : ℕ) (bs : List ℕ) (ts : List Token) (new : List (List ℕ)) → is_blank b ≡ true → Lexes names bs ts new → Lexes names (b ∷ bs) ts new
-Lexes-blank names b bs [] new m h = (both (is_blank b) (list_all is_blank bs) m h.0, h.1)
-Lexes-blank names b bs (Dot ∷ ts) new m (blanks, rest, h, e, l) = (b ∷ blanks, rest, both (is_blank b) (list_all is_blank blanks) m h, ap (λ x. b ∷ x) e, l)
-Lexes-blank names b bs (Comma ∷ ts) new m (blanks, rest, h, e, l) = (b ∷ blanks, rest, both (is_blank b) (list_all is_blank blanks) m h, ap (λ x. b ∷ x) e, l)
-Lexes-blank names b bs (If ∷ ts) new m (blanks, rest, h, e, l) = (b ∷ blanks, rest, both (is_blank b) (list_all is_blank blanks) m h, ap (λ x. b ∷ x) e, l)
-Lexes-blank names b bs (Query ∷ ts) new m (blanks, rest, h, e, l) = (b ∷ blanks, rest, both (is_blank b) (list_all is_blank blanks) m h, ap (λ x. b ∷ x) e, l)
+Lexes-blank names b bs [] new m h = (and_from (is_blank b) (list_all is_blank bs) m h.0, h.1)
+Lexes-blank names b bs (Dot ∷ ts) new m (blanks, rest, h, e, l) = (b ∷ blanks, rest, and_from (is_blank b) (list_all is_blank blanks) m h, ap (λ x. b ∷ x) e, l)
+Lexes-blank names b bs (Comma ∷ ts) new m (blanks, rest, h, e, l) = (b ∷ blanks, rest, and_from (is_blank b) (list_all is_blank blanks) m h, ap (λ x. b ∷ x) e, l)
+Lexes-blank names b bs (If ∷ ts) new m (blanks, rest, h, e, l) = (b ∷ blanks, rest, and_from (is_blank b) (list_all is_blank blanks) m h, ap (λ x. b ∷ x) e, l)
+Lexes-blank names b bs (Query ∷ ts) new m (blanks, rest, h, e, l) = (b ∷ blanks, rest, and_from (is_blank b) (list_all is_blank blanks) m h, ap (λ x. b ∷ x) e, l)
 Lexes-blank names b bs (Word place ∷ ts) new m (text, n, p, (blanks, rest, h, e, l)) =
-    (text, n, p, (b ∷ blanks, rest, both (is_blank b) (list_all is_blank blanks) m h, ap (λ x. b ∷ x) e, l))
+    (text, n, p, (b ∷ blanks, rest, and_from (is_blank b) (list_all is_blank blanks) m h, ap (λ x. b ∷ x) e, l))
 
 -- bytes that stand at a place of a text, and spell these tokens from there on
 abbrev Follows : Place → List (List ℕ) → List ℕ → List Token → List (List ℕ) → Type 0
@@ -100,7 +100,7 @@ module _ (b : ℕ) (bs : List ℕ) (names : List (List ℕ)) (follows : (next : 
   follows-name : (lexed : Lexed) (t : Bool) → is_name_byte b ≡ t → at in_name (class_of b) ≡ Some lexed → FollowsAs in_name names (b ∷ bs) lexed
   follows-name lexed true q e =
       let f = follows in_name names lexed (sym (goes_on names _ _ (class_of b) (is_name_class-class_of b ∙ q)) ∙ e) in
-      (b ∷ f.0, f.1, both (is_name_byte b) (list_all is_name_byte f.0) q f.2, f.3, ap (λ r. b ∷ r) f.4, f.5)
+      (b ∷ f.0, f.1, and_from (is_name_byte b) (list_all is_name_byte f.0) q f.2, f.3, ap (λ r. b ∷ r) f.4, f.5)
   follows-name lexed false q e =
       let l = follows-between lexed (class_of b) (class_means b) (sym (stops names _ _ (class_of b) (is_name_class-class_of b ∙ q)) ∙ e) in
       ([], b ∷ bs, refl, rw q refl, refl, l)
@@ -138,7 +138,7 @@ lexed_in-name names [] rest n e = cc
 lexed_in-name names (b ∷ bs) rest n e =
     let p = and_parts (is_lower b && list_all is_name_byte bs) (not (bytes_eq (b ∷ bs) (codes "not"))) n in
     let q = and_parts (is_lower b) (list_all is_name_byte bs) p.0 in
-    let all : list_all is_name_byte (b ∷ bs) ≡ true = both (is_name_byte b) (list_all is_name_byte bs) (rw q.0 refl) q.1 in
+    let all : list_all is_name_byte (b ∷ bs) ≡ true = and_from (is_name_byte b) (list_all is_name_byte bs) (rw q.0 refl) q.1 in
     let is_front : name_at (b ∷ bs ++ rest) ≡ b ∷ bs = name_at-append (b ∷ bs) rest all e in
     let no_not : bytes_eq (name_at (b ∷ bs ++ rest)) (codes "not") ≡ false = ap (λ x. bytes_eq x (codes "not")) is_front ∙ not-true _ p.1 in
     let Q : List ℕ → Type 0 = λ x. lexed_in names (b ∷ bs ++ rest) ≡ option_map (with_tokens (Word (place_of names x) ∷ [])) (lexed_in (with_text names x) (drop (length x) (b ∷ bs ++ rest))) in

@@ -8,7 +8,8 @@ use Rattle.scasp_num.specs.declared.linear.Op.{Op}
 use Rattle.scasp_num.specs.declared.linear.Op.TheVariants as op
 use Rattle.scasp_num.specs.Number.{Number, IsFraction}
 use Rattle.scasp_num.specs.Arithmetic.{◌>>=◌, sum_of, difference_of, negation_of}
-use Rattle.scasp_num.specs.Linear.{Each, Compares, is_equation}
+use Rattle.scasp_list.specs.Each.{Each}
+use Rattle.scasp_num.specs.Linear.{Compares, is_equation}
 use Rattle.scasp_num.proofs.Integers.{*ℤ_assoc, *ℤ-+ℤ, +ℤ-*ℤ, *ℤ_right_comm, *ℤ-cancel, neg-*ℤ}
 use Rattle.scasp_num.proofs.Numbers.{times-pos, some-same}
 use Rattle.scasp_num.proofs.Exact.{bind-some, sum_of-exact, difference_of-is}

@@ -6,11 +6,12 @@ use Rattle.std.proofs.Math.IntN.{*ℤ_comm, *ℤ-zero, zero-*ℤ}
 use Rattle.scasp_num.specs.declared.linear.Coeff.{Coeff}
 use Rattle.scasp_num.specs.declared.linear.Op.{Op}
 use Rattle.scasp_num.specs.declared.linear.Op.TheVariants as op
-use Rattle.scasp_num.specs.Linear.{Linear, Each, weighted, Compares, Meets}
+use Rattle.scasp_list.specs.Each.{Each}
+use Rattle.scasp_list.proofs.EachLemmas.{Each-map}
+use Rattle.scasp_num.specs.Linear.{Linear, weighted, Compares, Meets}
 use Rattle.scasp_num.proofs.Integers
 use Rattle.scasp_num.proofs.Integers.{*ℤ_assoc, *ℤ-+ℤ, +ℤ-*ℤ, *ℤ_right_comm}
 use Rattle.scasp_num.proofs.Meaning.{compares-scaled}
-use Rattle.scasp_num.proofs.NormalForms.{Each-map}
 use Rattle.scasp_rows.specs.Points.{NoDisequation}
 use Rattle.scasp_rows.specs.Steps.{joined}
 use Rattle.scasp_rows.proofs.Sums.{value, Compares-joined}

@@ -9,13 +9,15 @@ use Rattle.scasp_num.specs.declared.linear.Coeff.{Coeff}
 use Rattle.scasp_num.specs.declared.linear.Op.TheVariants as op
 use Rattle.scasp_num.specs.Gcd.{gcd}
 use Rattle.scasp_num.specs.Number.{Number, IsFraction}
-use Rattle.scasp_num.specs.Linear.{Linear, Each, IsNormal, Compares, Meets, coefficient}
+use Rattle.scasp_list.specs.Each.{Each}
+use Rattle.scasp_list.proofs.EachLemmas.{Each-map, Each-both, Each-filter}
+use Rattle.scasp_num.specs.Linear.{Linear, IsNormal, Compares, Meets, coefficient}
 use Rattle.scasp_num.specs.Values.{Holds, HaveDenominator}
 use Rattle.scasp_num.proofs.Gcds.{gcd-is, gcd-divided, gcd-pos_right}
 use Rattle.scasp_num.proofs.Integers.{*ℤ_assoc}
 use Rattle.scasp_num.proofs.Numbers.{times-pos, unsigned_abs-over, unsigned_abs-pos, over-pos, ne_from-pos}
 use Rattle.scasp_num.proofs.Exact.{over-times}
-use Rattle.scasp_num.proofs.NormalForms.{Each-map, zero_is}
+use Rattle.scasp_num.proofs.NormalForms.{zero_is}
 use Rattle.scasp_num.proofs.Valuations.{Holds-Meets}
 use Rattle.scasp_rows.specs.declared.state.Halt.TheVariants as halt
 use Rattle.scasp_rows.specs.declared.state.Sign.TheVariants as sign
@@ -26,9 +28,9 @@ use Rattle.scasp_rows.specs.Elimination.{looked, factor, solves, first_equation,
 use Rattle.scasp_rows.proofs.Sums.{value}
 use Rattle.scasp_rows.proofs.Shares.{turned}
 use Rattle.scasp_rows.proofs.Values.{moved, zeroed, zeroed-at, zeroed-value}
-use Rattle.scasp_rows.proofs.Soundness.{first_equation-solves, first_equation-each, others-each, filter-passes, Each-filter}
+use Rattle.scasp_rows.proofs.Soundness.{first_equation-solves, first_equation-each, others-each, filter-passes}
 use Rattle.scasp_rows.proofs.Forward.{Met, Became, Between, has, Fine, Lacks, fine-less, and_then-ok, same_state, looked-ok, solved-ok, all_paired-ok}
-use Rattle.scasp_rows.proofs.Extending.{Extends, extended, solves-sized, equation-extends, became-extends, bounds-extend, Each-both}
+use Rattle.scasp_rows.proofs.Extending.{Extends, extended, solves-sized, equation-extends, became-extends, bounds-extend}
 
 -- some values m x / d meet the rows
 abbrev pub HasValues : List Standing → Type 0

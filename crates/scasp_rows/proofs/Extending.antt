@@ -6,10 +6,12 @@ use Rattle.std.proofs.lemmas.Int.{ints, by_lt_z}
 use Rattle.std.proofs.Math.IntN.{zero-*ℤ}
 use Rattle.scasp_num.specs.declared.linear.Op.{Op}
 use Rattle.scasp_num.specs.declared.linear.Op.TheVariants as op
-use Rattle.scasp_num.specs.Linear.{Each, IsNormal, is_zero, is_equation, Compares, Meets}
+use Rattle.scasp_list.specs.Each.{Each}
+use Rattle.scasp_list.proofs.EachLemmas.{Each-map, Each-both, Each-filter}
+use Rattle.scasp_num.specs.Linear.{IsNormal, is_zero, is_equation, Compares, Meets}
 use Rattle.scasp_num.proofs.Numbers.{times-pos, unsigned_abs-pos, lt_ltb}
 use Rattle.scasp_num.proofs.Meaning.{compares-scaled}
-use Rattle.scasp_num.proofs.NormalForms.{Each-map, zero_is}
+use Rattle.scasp_num.proofs.NormalForms.{zero_is}
 use Rattle.scasp_rows.specs.declared.state.Sign.TheVariants as sign
 use Rattle.scasp_rows.specs.declared.state.Standing.{Standing}
 use Rattle.scasp_rows.specs.Steps.{joined}
@@ -19,7 +21,7 @@ use Rattle.scasp_rows.proofs.Sums.{value}
 use Rattle.scasp_rows.proofs.Shares.{turned, share-above, share-dvd_left, share-dvd_right, size_over-times, against-times}
 use Rattle.scasp_rows.proofs.Bounds.{below-compares, middle-low, middle-high, above-low, below-high, fractions-chain, solved-equation, solved-row, met-rows}
 use Rattle.scasp_rows.proofs.Values.{moved, value-at}
-use Rattle.scasp_rows.proofs.Soundness.{not_true, below-nonzero, above-nonzero, filter-passes, Each-filter}
+use Rattle.scasp_rows.proofs.Soundness.{not_true, below-nonzero, above-nonzero, filter-passes}
 use Rattle.scasp_rows.proofs.Forward.{Met, Fine, Between, Became, below-size, above-size}
 
 -- the row is met where x has the value z/e in place of 0
@@ -165,10 +167,6 @@ IsUpper x r = factor x r ≡ size x r
 
 abbrev pub Solution : (ℕ → ℤ) → ℤ → ℕ → List Standing → List Standing → Type 0
 Solution m d x ls us = (e : ℤ) × (z : ℤ) × (pos 0 <ℤ e) × Each (Extends m d x e z) ls × Each (Extends m d x e z) us
-
-pub Each-both : {A : Type 0} (P Q : A → Type 0) (xs : List A) → Each P xs → Each Q xs → Each (λ x. P x × Q x) xs
-Each-both P Q [] e f = tt
-Each-both P Q (x ∷ xs) e f = ((e.0, f.0), Each-both P Q xs e.1 f.1)
 
 Each-all : {A B : Type 0} (R : A → B → Type 0) (xs : List A) (b : B) (bs : List B) → Each (λ x. Each (R x) (b ∷ bs)) xs → Each (λ x. R x b) xs
 Each-all R [] b bs h = tt

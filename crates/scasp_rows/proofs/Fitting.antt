@@ -15,19 +15,19 @@ use Rattle.scasp_num.specs.declared.linear.Op.TheVariants as op
 use Rattle.scasp_num.specs.Gcd.{gcd, gcd_within}
 use Rattle.scasp_num.specs.Number.{Number, IsReduced, IsFraction, InRange}
 use Rattle.scasp_num.specs.Arithmetic.{◌>>=◌, in_range, within, sum_of, unsigned_abs-neg}
-use Rattle.scasp_num.specs.Linear.{Linear, Each, Ascends, IsNormal, coefficient, merged, normal_form}
+use Rattle.scasp_list.specs.Each.{Each}
+use Rattle.scasp_list.proofs.EachLemmas.{Each-map, Each-append, Each-both}
+use Rattle.scasp_num.specs.Linear.{Linear, Ascends, IsNormal, coefficient, merged, normal_form}
 use Rattle.scasp_num.specs.Sums
 use Rattle.scasp_num.specs.Sums.{added, summed, multiple, whole_number, normal_of}
 use Rattle.scasp_num.proofs.Numbers.{ltb_lt, lt_ltb, some-same}
 use Rattle.scasp_num.proofs.Exact.{bind-some, lowest-exact, lowest-fits, sum_of-exact, sum_of-fits}
 use Rattle.scasp_num.proofs.SameNumber.{same_number}
 use Rattle.scasp_num.proofs.Joins.{later, merged-range, merged-Ascends}
-use Rattle.scasp_num.proofs.NormalForms.{Each-map}
 use Rattle.scasp_rows.specs.Samples.{strict, alternatives}
 use Rattle.scasp_rows.specs.Steps.{whole, times, terms_sum, joined, row_sum, products, sums_with, step_integers}
-use Rattle.scasp_rows.proofs.Sums.{scaled, Each-append}
+use Rattle.scasp_rows.proofs.Sums.{scaled}
 use Rattle.scasp_rows.proofs.Values.{coefficient-absent}
-use Rattle.scasp_rows.proofs.Extending.{Each-both}
 
 -- ---- whole numbers
 

@@ -8,12 +8,14 @@ use Rattle.std.proofs.Math.IntN.{*ℤ_comm, *ℤ-zero, zero-*ℤ, +ℤ_idl}
 use Rattle.scasp_num.specs.declared.linear.Coeff.{Coeff}
 use Rattle.scasp_num.specs.declared.linear.Op.TheVariants as op
 use Rattle.scasp_num.specs.declared.hints.Step.{Step}
-use Rattle.scasp_num.specs.Linear.{Linear, Each, IsNormal, is_zero, Compares, compares, Meets, coefficient}
+use Rattle.scasp_list.specs.Each.{Each}
+use Rattle.scasp_list.proofs.EachLemmas.{Each-map, Each-append}
+use Rattle.scasp_num.specs.Linear.{Linear, IsNormal, is_zero, Compares, compares, Meets, coefficient}
 use Rattle.scasp_num.specs.SameRow.{same_row}
 use Rattle.scasp_num.proofs.Comparing.{compares-is}
 use Rattle.scasp_num.proofs.Integers.{*ℤ-cancel}
 use Rattle.scasp_num.proofs.Meaning.{compares-scaled}
-use Rattle.scasp_num.proofs.NormalForms.{Each-map, zero_is}
+use Rattle.scasp_num.proofs.NormalForms.{zero_is}
 use Rattle.scasp_num.proofs.SameRows.{row-same}
 use Rattle.scasp_rows.specs.declared.state.Halt.{Halt}
 use Rattle.scasp_rows.specs.declared.state.Halt.TheVariants as halt
@@ -22,7 +24,7 @@ use Rattle.scasp_rows.specs.declared.state.State.{State}
 use Rattle.scasp_rows.specs.Points.{is_constant, is_false}
 use Rattle.scasp_rows.specs.Steps.{joined, row_sum}
 use Rattle.scasp_rows.specs.Elimination.{and_then, looked, sum_looked, made, factor, share, size_over, against, replaced, solved, met, paired, all_paired}
-use Rattle.scasp_rows.proofs.Sums.{value, Each-append, joined-comparing, row_sum-IsNormal, row_sum-op, row_sum-meets}
+use Rattle.scasp_rows.proofs.Sums.{value, joined-comparing, row_sum-IsNormal, row_sum-op, row_sum-meets}
 use Rattle.scasp_rows.proofs.Shares.{turned, share-above, share-dvd_left, share-dvd_right, size_over-times, against-times}
 use Rattle.scasp_rows.proofs.Bounds.{cancelled, solved-equation, met-rows}
 use Rattle.scasp_rows.proofs.Values.{row_sum-coefficient}

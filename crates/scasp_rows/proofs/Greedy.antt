@@ -8,12 +8,14 @@ use Rattle.scasp_num.specs.declared.linear.Op.TheVariants as op
 use Rattle.scasp_num.specs.declared.hints.Step.{Step}
 use Rattle.scasp_num.specs.Number.{Number}
 use Rattle.scasp_num.specs.Arithmetic.{◌>>=◌}
-use Rattle.scasp_num.specs.Linear.{Linear, Each, IsNormal, weighted, Compares, Meets}
+use Rattle.scasp_list.specs.Each.{Each}
+use Rattle.scasp_list.proofs.EachLemmas.{Each-map, Each-left, Each-right, Each-append, Each-both}
+use Rattle.scasp_num.specs.Linear.{Linear, IsNormal, weighted, Compares, Meets}
 use Rattle.scasp_num.specs.Sums.{normal_of}
+use Rattle.scasp_num.proofs.Kept.{normal_of-op, normal_of-IsNormal}
 use Rattle.scasp_num.proofs.Integers.{*ℤ_assoc, *ℤ-+ℤ}
 use Rattle.scasp_num.proofs.Numbers.{some-same}
 use Rattle.scasp_num.proofs.Exact.{bind-some}
-use Rattle.scasp_num.proofs.NormalForms.{Each-map}
 use Rattle.scasp_num.proofs.Wholes.{normal_of-meets}
 use Rattle.scasp_rows.specs.declared.state.Halt.{Halt}
 use Rattle.scasp_rows.specs.declared.state.Halt.TheVariants as halt
@@ -22,11 +24,10 @@ use Rattle.scasp_rows.specs.Points.{NoDisequation}
 use Rattle.scasp_rows.specs.Steps.{whole, times}
 use Rattle.scasp_rows.specs.Elimination.{elimination}
 use Rattle.scasp_rows.specs.Samples.{strict, alternatives, unless_unsat, first_met, first_of, if_some, with_all}
-use Rattle.scasp_rows.proofs.Sums.{value, scaled, scaled-weighted, times-are, whole-times, normal_of-op, normal_of-IsNormal, Each-left, Each-right, Each-append}
+use Rattle.scasp_rows.proofs.Sums.{value, scaled, scaled-weighted, times-are, whole-times}
 use Rattle.scasp_rows.proofs.Reaching.{false_reached}
 use Rattle.scasp_rows.proofs.Soundness.{unsat_reached}
 use Rattle.scasp_rows.proofs.Completeness.{sat-values, point_by, point-meets}
-use Rattle.scasp_rows.proofs.Extending.{Each-both}
 use Rattle.scasp_rows.proofs.Pointing.{then-ok}
 use Rattle.scasp_rows.proofs.Combining.{mixed, mixed-value, mixed-above, all-mixed, below-mixed, larger}
 use Rattle.scasp_rows.proofs.Independence.{SomeNonzero, all-values, each-second}

@@ -3,12 +3,14 @@ use Rattle.std.proofs.Common.{◌≢◌, ◌⊎◌, inl, inr, ◌↔◌, ℕ, �
 use Rattle.scasp_num.specs.declared.linear.Coeff.{Coeff}
 use Rattle.scasp_num.specs.declared.linear.Op.{Op}
 use Rattle.scasp_num.specs.Number.{IsFraction}
-use Rattle.scasp_num.specs.Linear.{Linear, Each, Compares, Meets}
+use Rattle.scasp_list.specs.Each.{Each}
+use Rattle.scasp_list.proofs.EachLemmas.{Each-left, Each-right}
+use Rattle.scasp_num.specs.Linear.{Linear, Compares, Meets}
 use Rattle.scasp_num.specs.Values.{HaveDenominator}
 use Rattle.scasp_num.proofs.Valuations.{Holds-Meets, denominator-exists}
 use Rattle.scasp_rows.specs.Points.{RationalPoint, MeetsAll, IsMet, NoDisequation}
 use Rattle.scasp_rows.specs.Samples.{MeetsSome, MeetsBoth, OnlyDisequations}
-use Rattle.scasp_rows.proofs.Sums.{value, Each-left, Each-right}
+use Rattle.scasp_rows.proofs.Sums.{value}
 use Rattle.scasp_rows.proofs.Completeness.{point_by, point-denominator, point-meets}
 use Rattle.scasp_rows.proofs.Combining.{mixed, mixed-value, mixed-above, all-mixed, nonzero-mixed, larger}
 

@@ -9,13 +9,14 @@ use Rattle.scasp_num.specs.declared.linear.RatPair.{RatPair}
 use Rattle.scasp_num.specs.declared.hints.Step.{Step}
 use Rattle.scasp_num.specs.Number.{Number, IsFraction}
 use Rattle.scasp_num.specs.Arithmetic.{◌>>=◌, sum_of, difference_of}
-use Rattle.scasp_num.specs.Linear.{Linear, Each, IsNormal, Compares, Meets, negated_if}
+use Rattle.scasp_list.specs.Each.{Each}
+use Rattle.scasp_list.proofs.EachLemmas.{Each-map, Each-both, Each-at}
+use Rattle.scasp_num.specs.Linear.{Linear, IsNormal, Compares, Meets, negated_if}
 use Rattle.scasp_num.specs.Values.{Holds, HaveDenominator}
 use Rattle.scasp_num.proofs.Integers.{*ℤ_assoc, +ℤ-*ℤ, *ℤ_right_comm, neg-*ℤ}
 use Rattle.scasp_num.proofs.Numbers.{times-pos, some-same, below-zero}
 use Rattle.scasp_num.proofs.Exact.{bind-some}
 use Rattle.scasp_num.proofs.Meaning.{compares-scaled}
-use Rattle.scasp_num.proofs.NormalForms.{Each-map}
 use Rattle.scasp_num.proofs.Valuations.{Holds-Meets}
 use Rattle.scasp_rows.specs.declared.state.Halt.{Halt}
 use Rattle.scasp_rows.specs.declared.state.Halt.TheVariants as halt
@@ -30,10 +31,9 @@ use Rattle.scasp_rows.specs.Samples.{value_in, is_less, bound, between, middle, 
 use Rattle.scasp_rows.proofs.Sums.{value}
 use Rattle.scasp_rows.proofs.Shares.{turned}
 use Rattle.scasp_rows.proofs.Values.{moved, zeroed, zeroed-at}
-use Rattle.scasp_rows.proofs.Reaching.{Each-at}
 use Rattle.scasp_rows.proofs.Soundness.{first_equation-solves, below-nonzero, above-nonzero}
 use Rattle.scasp_rows.proofs.Forward.{Met, Became, Between, Fine, Lacks, below-size, above-size}
-use Rattle.scasp_rows.proofs.Extending.{Extends, Bounding, Meeting, IsLower, IsUpper, solves-sized, equation-extends, became-extends, between-meets, kept-extends, bounding, no-equation, from-filter, one-sign, Each-both}
+use Rattle.scasp_rows.proofs.Extending.{Extends, Bounding, Meeting, IsLower, IsUpper, solves-sized, equation-extends, became-extends, between-meets, kept-extends, bounding, no-equation, from-filter, one-sign}
 use Rattle.scasp_rows.proofs.Completeness.{Conditions, others-back, all-extended, made_without-conditions, without-made, zeroed-met, fine-none, all-among, variables-lack, all_looked-ok, given-rows}
 use Rattle.scasp_rows.proofs.Solving.{Less, AtMost, HasAll, most-less, less-most, solution-is}
 use Rattle.scasp_rows.proofs.Choosing

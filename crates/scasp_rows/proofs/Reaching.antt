@@ -1,24 +1,20 @@
 -- Rows from which steps reach a false constant row are met by no point.
 use Rattle.std.proofs.Common.{◌≡◌, ℕ, zero, suc, Bool, true, false, not, Some, None, List, [], ◌∷◌, ◌++◌, refl, sym, subst, arith}
-use Rattle.std.specs.Prelude.{if◌then◌else◌, slice_get, ◌||◌}
+use Rattle.std.specs.Prelude.{if◌then◌else◌, ◌||◌}
 use Rattle.std.specs.List.{list_any}
 use Rattle.std.proofs.lemmas.Bool.{and_parts}
 use Rattle.std.proofs.lemmas.Int.{ints}
 use Rattle.scasp_num.specs.declared.linear.Coeff.{Coeff}
 use Rattle.scasp_num.specs.declared.hints.Step.{Step}
 use Rattle.scasp_num.specs.Arithmetic.{◌>>=◌}
-use Rattle.scasp_num.specs.Linear.{Linear, Each, Compares, compares}
+use Rattle.scasp_list.proofs.EachLemmas.{Each-append, Each-at}
+use Rattle.scasp_num.specs.Linear.{Linear, Compares, compares}
 use Rattle.scasp_num.specs.Values.{Holds}
 use Rattle.scasp_num.proofs.Comparing.{compares-true}
 use Rattle.scasp_num.proofs.Exact.{bind-some}
 use Rattle.scasp_rows.specs.Points.{RationalPoint, MeetsAll, is_constant, is_false}
 use Rattle.scasp_rows.specs.Steps.{row_sum, may_step, row_numbered, row_made, with_steps, ReachesFalse}
-use Rattle.scasp_rows.proofs.Sums.{step-holds, Each-append}
-
-pub Each-at : {A : Type 0} (P : A → Type 0) (xs : List A) (i : ℕ) (x : A) → Each P xs → Some x ≡ slice_get xs i → P x
-Each-at P [] i x e f = cc
-Each-at P (y ∷ ys) zero x e f = subst P (let same : y ≡ x = cc in same) e.0
-Each-at P (y ∷ ys) (suc i) x e f = Each-at P ys i x e.1 f
+use Rattle.scasp_rows.proofs.Sums.{step-holds}
 
 numbered-holds : (v : RationalPoint) (rows : List Linear) (n : ℕ) (r : Linear) → MeetsAll v rows → Some r ≡ row_numbered rows n → Holds v r
 numbered-holds v rows zero r e f = cc

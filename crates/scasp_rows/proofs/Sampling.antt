@@ -2,9 +2,10 @@
 use Rattle.std.proofs.Common.{◌≡◌, ◌⊎◌, inl, inr, Some, None, Option, Result, Ok, Err, List, [], ◌∷◌, ◌++◌, refl, sym, ap, subst, ◌∙◌}
 use Rattle.scasp_num.specs.declared.linear.RatPair.{RatPair}
 use Rattle.scasp_num.specs.declared.hints.Step.{Step}
-use Rattle.scasp_num.specs.Linear.{Linear, Each, IsNormal, Meets}
+use Rattle.scasp_list.specs.Each.{Each}
+use Rattle.scasp_list.proofs.EachLemmas.{Each-map}
+use Rattle.scasp_num.specs.Linear.{Linear, IsNormal, Meets}
 use Rattle.scasp_num.specs.Values.{Holds}
-use Rattle.scasp_num.proofs.NormalForms.{Each-map}
 use Rattle.scasp_num.proofs.Valuations.{Holds-Meets}
 use Rattle.scasp_rows.specs.declared.state.Halt.{Halt}
 use Rattle.scasp_rows.specs.declared.state.Halt.TheVariants as halt

@@ -2,17 +2,18 @@
 use Rattle.std.proofs.Common.{◌≡◌, ◌≢◌, ℕ, zero, suc, ◌+◌, Bool, true, false, not, ℤ, pos, negsuc, ◌<ℤ◌, Some, None, Option, Result, Ok, Err, List, [], ◌∷◌, ◌++◌, length, nat_lt, refl, sym, ap, subst, ◌∙◌, arith, add-one, append_assoc, cond}
 use Rattle.std.specs.Prelude.{if◌then◌else◌, int_lt, slice_get, ◌||◌, filter}
 use Rattle.std.specs.List.{list_any}
-use Rattle.std.proofs.lemmas.Bool.{and_parts}
+use Rattle.std.proofs.lemmas.Bool.{and_from, and_parts}
 use Rattle.std.proofs.lemmas.Int.{ints}
 use Rattle.scasp_num.specs.declared.linear.Op.{Op}
 use Rattle.scasp_num.specs.declared.linear.Op.TheVariants as op
 use Rattle.scasp_num.specs.declared.hints.Step.{Step}
 use Rattle.scasp_num.specs.Arithmetic.{◌>>=◌}
-use Rattle.scasp_num.specs.Linear.{Linear, Each, is_equation, is_zero}
+use Rattle.scasp_list.specs.Each.{Each}
+use Rattle.scasp_list.proofs.EachLemmas.{Each-map, Each-append, Each-filter}
+use Rattle.scasp_num.specs.Linear.{Linear, is_equation, is_zero}
 use Rattle.scasp_num.specs.SameRow.{same_row}
 use Rattle.scasp_num.proofs.Comparing.{ne_zero}
 use Rattle.scasp_num.proofs.Exact.{bind-some}
-use Rattle.scasp_num.proofs.NormalForms.{Each-map}
 use Rattle.scasp_rows.specs.declared.state.Halt.{Halt}
 use Rattle.scasp_rows.specs.declared.state.Halt.TheVariants as halt
 use Rattle.scasp_rows.specs.declared.state.Sign.TheVariants as sign
@@ -21,7 +22,7 @@ use Rattle.scasp_rows.specs.declared.state.State.{State}
 use Rattle.scasp_rows.specs.Points.{NoDisequation, is_constant, is_false}
 use Rattle.scasp_rows.specs.Steps.{row_sum, may_scale, may_step, row_numbered, row_made, with_steps, ReachesFalse}
 use Rattle.scasp_rows.specs.Elimination.{and_then, looked, sum_looked, made, factor, solves, first_equation, others, share, size_over, against, replaced, solved, has_sign, rows_with, met, paired, all_paired, by_equation, made_without, limited, without, eliminated, variables, all_looked, elimination}
-use Rattle.scasp_rows.proofs.Sums.{Each-append, both-true, row_sum-op}
+use Rattle.scasp_rows.proofs.Sums.{row_sum-op}
 use Rattle.scasp_rows.proofs.Shares.{share-dvd_left, share-dvd_right, size_over-above, against-nonzero}
 
 -- ---- rows with numbers
@@ -184,14 +185,14 @@ solved-follows rows x p (q ∷ qs) s t h f g =
         let a_is = ne_zero a (not_true (is_zero a) parts.1) in
         let first = scale-above (size_over a k) q.row.op (size_over-above a k a_is (share-dvd_left a b)) g.0.comparing in
         let second = scale-equation (against a b k) p.row.op (against-nonzero a b k (ne_zero b e) (share-dvd_right a b)) parts.0 in
-        follows-then rows t.all (replaced x p q qs s) (solved x p qs) (made-follows rows (size_over a k) q (against a b k) p qs s t g.0 f (both-true first second)) rest
+        follows-then rows t.all (replaced x p q qs s) (solved x p qs) (made-follows rows (size_over a k) q (against a b k) p qs s t g.0 f (and_from _ _ first second)) rest
 
 met-follows : (rows : List Linear) (x : ℕ) (l u : Standing) (s : State) (t : Sound rows s) → factor x l ≢ pos 0 → factor x u ≢ pos 0 → Fits t.all l → Fits t.all u → Follows rows t.all (met x l u s)
 met-follows rows x l u s t a b f g =
     let k = share (factor x l) (factor x u) in
     let first = scale-above (size_over (factor x u) k) l.row.op (size_over-above (factor x u) k b (share-dvd_right (factor x l) (factor x u))) f.comparing in
     let second = scale-above (size_over (factor x l) k) u.row.op (size_over-above (factor x l) k a (share-dvd_left (factor x l) (factor x u))) g.comparing in
-    made-follows rows (size_over (factor x u) k) l (size_over (factor x l) k) u [] s t f g (both-true first second)
+    made-follows rows (size_over (factor x u) k) l (size_over (factor x l) k) u [] s t f g (and_from _ _ first second)
 
 -- the row has x
 abbrev Has : ℕ → Standing → Type 0
@@ -208,14 +209,6 @@ all_paired-follows rows x [] us s t a b f g = (t, λ r k. k)
 all_paired-follows rows x (l ∷ ls) us s t a b f g =
     follows-then rows t.all (paired x l us s) (all_paired x ls us) (paired-follows rows x l us s t a.0 b f.0 g)
     (λ s1 t1 wider. all_paired-follows rows x ls us s1 t1 a.1 b (Each-map (Fits t.all) (Fits t1.all) wider ls f.1) (Each-map (Fits t.all) (Fits t1.all) wider us g))
-
-pub Each-filter : {A : Type 0} (P : A → Type 0) (p : A → Bool) (xs : List A) → Each P xs → Each P (filter p xs)
-Each-filter P p [] e = tt
-Each-filter P p (x ∷ xs) e = by (p x) (Each-filter P p xs e.1)
-  where
-    by : (b : Bool) → Each P (filter p xs) → Each P (cond b (x ∷ filter p xs) (filter p xs))
-    by true f = (e.0, f)
-    by false f = f
 
 pub filter-passes : {A : Type 0} (p : A → Bool) (xs : List A) → Each (λ x. p x ≡ true) (filter p xs)
 filter-passes p [] = tt

@@ -3,7 +3,8 @@ use Rattle.std.specs.Prelude.{◌≢◌, ℕ, Bool, true, false, ◌&&◌, not, 
 use Rattle.scasp_num.specs.declared.linear.Coeff.{Coeff}
 use Rattle.scasp_num.specs.declared.linear.Op.TheVariants as op
 use Rattle.scasp_num.specs.Number.{Number}
-use Rattle.scasp_num.specs.Linear.{Linear, Each, compares}
+use Rattle.scasp_list.specs.Each.{Each}
+use Rattle.scasp_num.specs.Linear.{Linear, compares}
 use Rattle.scasp_num.specs.Values.{Holds}
 
 -- a rational number for each variable

@@ -7,7 +7,8 @@ use Rattle.scasp_num.specs.declared.linear.Op.TheVariants as op
 use Rattle.scasp_num.specs.Gcd.{gcd, gcd_within}
 use Rattle.scasp_num.specs.Number.{Number}
 use Rattle.scasp_num.specs.Arithmetic.{◌>>=◌, is_reduced, IsReduced-from_test, sum_of, difference_of, product_of, quotient_of}
-use Rattle.scasp_num.specs.Linear.{Linear, Each, coefficient}
+use Rattle.scasp_list.specs.Each.{Each}
+use Rattle.scasp_num.specs.Linear.{Linear, coefficient}
 use Rattle.scasp_num.specs.Values.{Holds}
 use Rattle.scasp_num.specs.Sums.{normal_of}
 use Rattle.scasp_rows.specs.declared.state.Halt.{Halt}

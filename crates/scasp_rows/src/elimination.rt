@@ -1,7 +1,8 @@
 //! The elimination of variables (Fourier 1826, Motzkin 1936).
-ghost use Rattle.std.specs.Prelude.{◌≡◌, ◌+◌, ◌++◌, [], ◌∷◌, IfOk, OnOk, filter, length};
+ghost use Rattle.std.specs.Prelude.{◌≡◌, ◌≢◌, ◌+◌, ◌++◌, [], ◌∷◌, IfOk, OnOk, filter, length};
 ghost use Rattle.std.specs.Option.{option_copied};
-ghost use Rattle.scasp_num.specs.Linear.{Each, IsNormal};
+ghost use Rattle.scasp_list.specs.Each.{Each};
+ghost use Rattle.scasp_num.specs.Linear.{IsNormal};
 ghost use Rattle.scasp_rows.specs.Elimination.{Ends, all_looked, all_paired, by_bounds, eliminated, factor, first_equation, has_sign, limited, looked, made, made_without, met, elimination, placed, variables, with_terms, others, paired, replaced, rows_with, solved, without};
 
 use crate::rows::{
@@ -380,9 +381,9 @@ pub(crate) fn started(alloc: Global, rows: &[Row]) -> State
 #[tactic(auto, unfolding(crate::specs::Elimination::elimination))]
 pub(crate) fn elimination(alloc: Global, rows: &[Row]) -> Result<State, Halt>
     ensures exact { Ends result (elimination rows.now) }
-    ensures normal { OnOk result (Each IsNormal rows.now) }
+    ensures normal { result ≢ Err Halt.Memory → Each IsNormal rows.now }
 {
-    let state = all_looked(rows, started(alloc, rows))?;
     let variables = variables(alloc, rows)?;
+    let state = all_looked(rows, started(alloc, rows))?;
     eliminated(alloc, variables.as_slice(), state)
 }

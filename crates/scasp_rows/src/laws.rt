@@ -2,7 +2,8 @@
 ghost use Rattle.std.specs.Prelude.{◌≡◌, ◌↔◌, ℤ, true, is_some, List, Ok, Err};
 ghost use Rattle.scasp_num.specs.declared.hints.Step.{Step};
 ghost use Rattle.scasp_num.specs.declared.linear.RatPair.{RatPair};
-ghost use Rattle.scasp_num.specs.Linear.{Each, IsNormal, Linear};
+ghost use Rattle.scasp_list.specs.Each.{Each};
+ghost use Rattle.scasp_num.specs.Linear.{IsNormal, Linear};
 ghost use Rattle.scasp_rows.specs.Points.{IsMet, MeetsAll, NoDisequation, RationalPoint};
 ghost use Rattle.std.specs.List.{list_all};
 ghost use Rattle.scasp_num.specs.Arithmetic.{in_range};

@@ -1,6 +1,7 @@
 //! Points that meet rows and disequations.
 ghost use Rattle.std.specs.Prelude.{◌≡◌, ◌↔◌, [], ◌∷◌, ◌++◌, IfOk, IfNone, IfSome, IsTrue, OnOk};
-ghost use Rattle.scasp_num.specs.Linear.{Each, Gives, IsNormal};
+ghost use Rattle.scasp_list.specs.Each.{Each};
+ghost use Rattle.scasp_num.specs.Linear.{Gives, IsNormal};
 ghost use Rattle.scasp_rows.specs.Elimination.{Ends};
 ghost use Rattle.scasp_rows.specs.Points.{NoDisequation, RationalPoint};
 ghost use Rattle.scasp_rows.specs.Sampled.{Samples, sample_answer};

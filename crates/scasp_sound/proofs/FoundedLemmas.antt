@@ -1,5 +1,5 @@
 -- Founded atoms: in each closed list and each stable model, in longer programs, and by ranks.
-use Rattle.std.proofs.Common.{◌≡◌, ◌∙◌, ℕ, zero, suc, ◌<◌, Bool, true, false, ◌||◌, not, List, Some, ap, sym, inl, inr, arith}
+use Rattle.std.proofs.Common.{◌≡◌, ◌∙◌, ℕ, Bool, true, false, ◌||◌, not, List, Some, refl, ap, sym, subst, inl, inr}
 use Rattle.std.specs.List.{Contains}
 use Rattle.std.proofs.lemmas.Bool.{true≢false, or_cases, not-true}
 use Rattle.scasp_syntax.specs.declared.atom.Atom.{Atom}
@@ -10,11 +10,12 @@ use Rattle.scasp_model.specs.Reduct.{reduct}
 use Rattle.scasp_model.specs.Stable.{Stable}
 use Rattle.scasp_model.specs.declared.program.GroundClause.{GroundClause}
 use Rattle.scasp_model.proofs.AtomLemmas.{among-within, has_all_from}
-use Rattle.scasp_model.proofs.LeastLemmas.{least_model-closed}
+use Rattle.scasp_sound.specs.Carried.{CarriedByRule}
 use Rattle.scasp_sound.specs.Support.{Founded, by_rule, RestsBelow, Lower, LowerInPair, negated_atoms}
 use Rattle.scasp_sound.proofs.BodyLemmas.{fires-from, unblocked, negated-none, negated-out}
+use Rattle.scasp_sound.proofs.CarriedLemmas.{founded-carried}
 use Rattle.scasp_sound.proofs.LeastInduction.{least_model-induction}
-use Rattle.scasp_sound.proofs.ReductLemmas.{ClosedBy, closed-at, reduct-from}
+use Rattle.scasp_sound.proofs.ReductLemmas.{ClosedBy, least-closed, reduct-from}
 
 -- where none of the false atoms is in s, each list that is closed under the reduct by s has what is founded
 pub founded-within : (g : List GroundClause) (f s x : List Atom) → ClosedBy g s x → ((a : Atom) → among f a ≡ true → among s a ≡ false) → (a : Atom) → Founded g f a → among x a ≡ true
@@ -39,49 +40,38 @@ pub founded-positive : (g : List GroundClause) (f : List Atom) (a : Atom) (c : G
 founded-positive g f a c i e p h =
     by_rule a c (record { listed = i; head = e; negated = negated-none f c.body p }) h
 
-module _ (g : List GroundClause) (t f : List Atom) (Below : Atom → Atom → Type 0) (rests : (a : Atom) → among t a ≡ true → RestsBelow g t f Below a) where
-  -- an atom of t is founded where all those below it are
-  pub founded-step : (a : Atom) → among t a ≡ true → ((b : Atom) → Below b a → among t b ≡ true → Founded g f b) → Founded g f a
-  founded-step a i below =
-      let r : RestsBelow g t f Below a = rests a i in
-      by_rule a r.clause r.rule
-      (λ b j. below b (r.smaller b j) (among-within t (positive_atoms (r.clause).body) b r.known j))
-
-module _ (g : List GroundClause) (t f : List Atom) (rank : Atom → ℕ) (rests : (a : Atom) → among t a ≡ true → RestsBelow g t f (Lower rank) a) where
-  founded-below : (n : ℕ) (a : Atom) → rank a < n → among t a ≡ true → Founded g f a
-  founded-below zero a l i = absurd (omega (arith, l))
-  founded-below (suc n) a l i =
-      founded-step g t f (Lower rank) rests a i
-      (λ b less j. (let few : rank b < n = omega (arith, l, less) in founded-below n b few j))
-
-  -- what rests on smaller ranks alone is founded
-  pub founded-by_rank : (a : Atom) → among t a ≡ true → Founded g f a
-  founded-by_rank a i = founded-below (suc (rank a)) a (omega arith) i
-
 module _ (g : List GroundClause) (t f : List Atom) (first second : Atom → ℕ) (rests : (a : Atom) → among t a ≡ true → RestsBelow g t f (LowerInPair first second) a) where
-  -- what is below the second rank k, where all that is below the first rank n is founded
-  founded-inner : (n : ℕ) → ((a : Atom) → first a < n → among t a ≡ true → Founded g f a) → (k : ℕ) (a : Atom) → first a < suc n → second a < k → among t a ≡ true → Founded g f a
-  founded-inner n outer zero a l s i = absurd (omega (arith, s))
-  founded-inner n outer (suc k) a l s i =
-      founded-step g t f (LowerInPair first second) rests a i
-      (λ b lower j.
-      elim lower [
-        | inl less ↦ outer b (omega (arith, l, less)) j
-        | inr both ↦ founded-inner n outer k b (omega (arith, l, both.0)) (omega (arith, s, both.1)) j
-      ])
-
-  founded-outer : (n : ℕ) (a : Atom) → first a < n → among t a ≡ true → Founded g f a
-  founded-outer zero a l i = absurd (omega (arith, l))
-  founded-outer (suc n) a l i = founded-inner n (founded-outer n) (suc (second a)) a l (omega arith) i
+  -- each atom of t carries itself
+  carries-itself : (x a : Atom) → (x ≡ a) × (among t a ≡ true) → CarriedByRule g f (λ y b. (y ≡ b) × (among t b ≡ true)) first second x a
+  carries-itself x a h =
+      let r : RestsBelow g t f (LowerInPair first second) a = rests a h.1 in
+      record {
+        clause = r.clause;
+        rule = r.rule;
+        below = λ b j.
+            record {
+              by = b;
+              carries = (refl, among-within t (positive_atoms (r.clause).body) b r.known j);
+              lower = subst (LowerInPair first second b) (sym h.0) (r.smaller b j);
+            };
+      }
 
   pub founded-by_pair : (a : Atom) → among t a ≡ true → Founded g f a
-  founded-by_pair a i = founded-outer (suc (first a)) a (omega arith) i
+  founded-by_pair a i = founded-carried g f (λ x b. (x ≡ b) × (among t b ≡ true)) first second carries-itself a a (refl, i)
+
+-- what rests on smaller ranks alone is founded
+pub founded-by_rank : (g : List GroundClause) (t f : List Atom) (rank : Atom → ℕ) → ((a : Atom) → among t a ≡ true → RestsBelow g t f (Lower rank) a) → (a : Atom) → among t a ≡ true → Founded g f a
+founded-by_rank g t f rank rests =
+    founded-by_pair g t f (λ a. 0) rank
+    (λ a i.
+    (let r : RestsBelow g t f (Lower rank) a = rests a i in
+    record { clause = r.clause; rule = r.rule; known = r.known; smaller = λ b j. inr (refl, r.smaller b j) }))
 
 -- what is founded is in each stable model that has none of the false atoms
 pub founded-in_stable : (g : List GroundClause) (f m : List Atom) → Stable g m → ((b : Atom) → among f b ≡ true → not (among m b) ≡ true) → (a : Atom) → Founded g f a → among m a ≡ true
 founded-in_stable g f m s apart a h =
     s.least_of_reduct a
-    ∙ founded-within g f m (least_model (reduct m g)) (closed-at g m (least_model (reduct m g)) (least_model-closed (reduct m g)))
+    ∙ founded-within g f m (least_model (reduct m g)) (least-closed g m)
     (λ b i. not-true (among m b) (apart b i)) a h
 
 -- each atom of a stable model is founded

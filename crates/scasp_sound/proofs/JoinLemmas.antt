@@ -12,12 +12,11 @@ use Rattle.scasp_model.specs.Residual.{is_known_true, is_known_false, is_known, 
 use Rattle.scasp_model.specs.Stable.{Stable, is_true_in, are_true_in, is_violated, has_violation}
 use Rattle.scasp_model.specs.declared.program.GroundClause.{GroundClause}
 use Rattle.scasp_model.proofs.AtomLemmas.{among-append, among-within, has_all_from, SameAtoms-from_all}
-use Rattle.scasp_model.proofs.LeastLemmas.{least_model-closed}
 use Rattle.scasp_sound.specs.Support.{Supports, Joins}
 use Rattle.scasp_sound.proofs.BodyLemmas.{fires}
 use Rattle.scasp_sound.proofs.FoundedLemmas.{founded-within}
 use Rattle.scasp_sound.proofs.ListLemmas.{list_all-from, list_all-member, list_any-from, list_any-none_from, list_any-none_member, Contains-filter, Contains-from_filter}
-use Rattle.scasp_sound.proofs.ReductLemmas.{ClosedBy, closed-at, stable-closed, least-within, least_model-head}
+use Rattle.scasp_sound.proofs.ReductLemmas.{ClosedBy, least-closed, stable-closed, least-within, least_model-head}
 use Rattle.scasp_sound.proofs.ResidualLemmas.{left, residual-has, residual-from, known_false-not, left-true, fires-known}
 
 module _ (g : List GroundClause) (t f : List Atom) (S : Supports g t f) (m : List Atom) (M : Stable (residual t f g) m) where
@@ -69,13 +68,10 @@ module _ (g : List GroundClause) (t f : List Atom) (S : Supports g t f) (m : Lis
       (let k = Contains-from_filter (λ k. not (is_known_true t f k)) c.body l i in
       left-true t f m (t ++ m) joined-only joined-m l (list_all-member (is_true_in (t ++ m)) c.body l h k.0) (not-true (is_known_true t f l) k.1)))
 
-  -- the least model of the reduct by the joined atoms
-  least-closed : ClosedBy g (t ++ m) (least_model (reduct (t ++ m) g))
-  least-closed = closed-at g (t ++ m) (least_model (reduct (t ++ m) g)) (least_model-closed (reduct (t ++ m) g))
-
+  -- the least model of the reduct by the joined atoms has the atoms of t
   least-has_t : (a : Atom) → among t a ≡ true → among (least_model (reduct (t ++ m) g)) a ≡ true
   least-has_t a h =
-      founded-within g f (t ++ m) (least_model (reduct (t ++ m) g)) least-closed false-apart a (S.founded a h)
+      founded-within g f (t ++ m) (least_model (reduct (t ++ m) g)) (least-closed g (t ++ m)) false-apart a (S.founded a h)
 
   -- it is closed under what is left, so it has the atoms of m
   least-closed_left : ClosedBy (residual t f g) m (least_model (reduct (t ++ m) g))
@@ -84,7 +80,7 @@ module _ (g : List GroundClause) (t f : List Atom) (S : Supports g t f) (m : Lis
       let c : GroundClause = p.0 in
       let body : list_all (fires m (least_model (reduct (t ++ m) g))) (left t f c).body ≡ true =
       ap (λ (k : GroundClause). list_all (fires m (least_model (reduct (t ++ m) g))) k.body) p.4 ∙ w in
-      least-closed c a p.1 (ap (λ (k : GroundClause). k.head) p.4 ∙ e)
+      least-closed g (t ++ m) c a p.1 (ap (λ (k : GroundClause). k.head) p.4 ∙ e)
       (list_all-from (fires (t ++ m) (least_model (reduct (t ++ m) g))) c.body
       (λ l j.
       fires-known t f m (t ++ m) (least_model (reduct (t ++ m) g)) least-has_t false-apart neither l

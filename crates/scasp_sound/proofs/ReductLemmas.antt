@@ -41,6 +41,10 @@ closed-at g s x h c a i e w =
     let given : gives x r ≡ true = list_all-member (gives x) (reduct s g) r h (reduct-has g s c a i e p.0) in
     sym (cond-true (has_all x r.body) (among x r.head) true p.1) ∙ given
 
+-- the least model of the reduct is one
+pub least-closed : (g : List GroundClause) (s : List Atom) → ClosedBy g s (least_model (reduct s g))
+least-closed g s = closed-at g s (least_model (reduct s g)) (least_model-closed (reduct s g))
+
 rule_is : (o : Option Atom) (body : List Lit) (r : DefiniteRule) → Contains (rule_of o body) r → (o ≡ Some r.head) × (r.body ≡ positive_atoms body)
 rule_is None body r i = absurd (Contains-none r i)
 rule_is (Some a) body r i =
@@ -105,5 +109,5 @@ least_model-head g s a h =
 pub stable-closed : (g : List GroundClause) (m : List Atom) → Stable g m → ClosedBy g m m
 stable-closed g m s c a i e w =
     s.least_of_reduct a
-    ∙ closed-at g m (least_model (reduct m g)) (least_model-closed (reduct m g)) c a i e
+    ∙ least-closed g m c a i e
     (fires-wider m m (least_model (reduct m g)) c.body (λ b h. sym (s.least_of_reduct b) ∙ h) w)

@@ -7,6 +7,7 @@ use Rattle.scasp_syntax.specs.declared.atom.Atom.{Atom}
 use Rattle.scasp_syntax.specs.declared.atom.Lit.{Lit}
 use Rattle.scasp_syntax.proofs.SameLemmas.{atom_decided}
 use Rattle.scasp_model.specs.Atoms.{among}
+use Rattle.scasp_model.specs.Programs.{head_is}
 use Rattle.scasp_model.specs.Residual.{is_known_false}
 use Rattle.scasp_model.specs.Stable.{Stable, is_true_in}
 use Rattle.scasp_model.specs.declared.program.GroundClause.{GroundClause}
@@ -22,14 +23,9 @@ all-among test xs a h i =
     let q = list_any-member (same_atom a) xs i in
     ap test ((atom_decided a q.0).0 q.2) ∙ list_all-member test xs q.0 h q.1
 
--- the head is one of the atoms
-abbrev pub is_head_among : List Atom → Option Atom → Bool
-is_head_among f None = false
-is_head_among f (Some a) = among f a
-
 -- where the head is one of f, a literal of the body is known false
 abbrev pub refutes : List Atom → List Atom → GroundClause → Bool
-refutes t f c = cond (is_head_among f c.head) (list_any (is_known_false t f) c.body) true
+refutes t f c = cond (head_is (among f) c.head) (list_any (is_known_false t f) c.body) true
 
 -- the parts of `Supports` that a test decides
 pub Supports-tested : (g : List GroundClause) (t f : List Atom) → list_all (λ a. not (among f a)) t ≡ true → ((a : Atom) → among t a ≡ true → Founded g f a) → list_all (refutes t f) g ≡ true → Supports g t f
@@ -37,7 +33,7 @@ Supports-tested g t f apart founded refuted =
     record {
       apart = λ a h. all-among (λ b. not (among f b)) t a apart h;
       founded = founded;
-      refuted = λ c a i e h. sym (cond-true (is_head_among f c.head) (list_any (is_known_false t f) c.body) true (ap (is_head_among f) e ∙ h))
+      refuted = λ c a i e h. sym (cond-true (head_is (among f) c.head) (list_any (is_known_false t f) c.body) true (ap (head_is (among f)) e ∙ h))
           ∙ list_all-member (refutes t f) g c refuted i;
     }
 

@@ -1,3 +1,4 @@
+pub mod Carried
 pub mod Examples
 pub mod Existence
 pub mod Good

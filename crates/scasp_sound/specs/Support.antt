@@ -46,8 +46,8 @@ abbrev pub Lower : (Atom → ℕ) → Atom → Atom → Type 0
 Lower rank b a = rank b < rank a
 
 -- below by a first rank, or where that is the same by a second
-abbrev pub LowerInPair : (Atom → ℕ) → (Atom → ℕ) → Atom → Atom → Type 0
-LowerInPair first second b a = (first b < first a) ⊎ ((first b ≡ first a) × (second b < second a))
+abbrev pub LowerInPair : {X : Type 0} → (X → ℕ) → (X → ℕ) → X → X → Type 0
+LowerInPair first second y x = (first y < first x) ⊎ ((first y ≡ first x) × (second y < second x))
 
 -- each atom that stands in a body of g is among t or among f
 abbrev pub BodiesWithin : List GroundClause → List Atom → List Atom → Type 0

@@ -1,14 +1,14 @@
 //! What holds of atoms that a ground program supports.
-ghost use Rattle.std.specs.Prelude.{ℕ, IsTrue, List, [], ◌∷◌, not};
-ghost use Rattle.scasp_model.specs.Atoms.{among};
-ghost use Rattle.scasp_model.specs.Least.{least_model};
-ghost use Rattle.scasp_model.specs.Programs.{is_without_not};
-ghost use Rattle.scasp_model.specs.Reduct.{definite};
-ghost use Rattle.scasp_model.specs.Residual.{residual};
+ghost use Rattle.std.specs.Prelude.{◌≡◌, ℕ, ◌+◌, ◌⊎◌, Bool, IsTrue, List, [], ◌∷◌, ◌++◌, length, not, Contains};
+ghost use Rattle.scasp_model.specs.Atoms.{SameAtoms, among};
+ghost use Rattle.scasp_model.specs.Examples.{p, q, r};
+ghost use Rattle.scasp_model.specs.Levelled.{plus_steps, plus_model, levelled_model};
+ghost use Rattle.scasp_model.specs.Levels.{keeps_rule, keeps_levels};
+ghost use Rattle.scasp_model.specs.Residual.{residual, residual_of};
 ghost use Rattle.scasp_model.specs.Stable.{Stable};
 ghost use Rattle.scasp_model.specs.declared.program.GroundClause.{GroundClause as ThisClause};
-ghost use Rattle.scasp_sound.specs.Examples.{choice, circle, entered, p, q, r};
-ghost use Rattle.scasp_sound.specs.Existence.{Extends, HasStable, is_without_denials};
+ghost use Rattle.scasp_sound.specs.Carried.{CarriedByRule};
+ghost use Rattle.scasp_sound.specs.Examples.{choice, circle, entered};
 ghost use Rattle.scasp_sound.specs.Support.{BodiesWithin, Founded, Joins, Lower, LowerInPair, RestsBelow, Supports};
 ghost use Rattle.scasp_syntax.specs.declared.atom.Atom.{Atom as ThisAtom};
 
@@ -25,6 +25,12 @@ pub fn ranks()
     ensures pair { (g : List ThisClause) (t f : List ThisAtom) (first second : ThisAtom → ℕ) → ((a : ThisAtom) → IsTrue (among t a) → RestsBelow g t f (LowerInPair first second) a) → (a : ThisAtom) → IsTrue (among t a) → Founded g f a }
 {}
 
+/// Where numbered members carry atoms, each atom by a rule whose positive atoms are carried by members of
+/// lower ranks and whose negated atoms are in `f`, all that they carry is founded.
+pub fn carried()
+    ensures { (g : List ThisClause) (f : List ThisAtom) (carries : ℕ → ThisAtom → Bool) (first second : ℕ → ℕ) → ((x : ℕ) (a : ThisAtom) → IsTrue (carries x a) → CarriedByRule g f (λ y b. IsTrue (carries y b)) first second x a) → (x : ℕ) (a : ThisAtom) → IsTrue (carries x a) → Founded g f a }
+{}
+
 /// What is founded is true in each stable model that has none of the false atoms. And each stable
 /// model is supported, with atoms that it lacks as the false ones, where the two have all atoms of bodies.
 pub fn support()
@@ -32,14 +38,20 @@ pub fn support()
     ensures complete { (g : List ThisClause) (f m : List ThisAtom) → Stable g m → ((b : ThisAtom) → IsTrue (among f b) → IsTrue (not (among m b))) → BodiesWithin g m f → Supports g m f }
 {}
 
-/// A program without `not` and denials has a stable model, and what known atoms leave of it is again
-/// such a program. So what they leave of it has a stable model, and atoms that it supports extend to one.
-pub fn existence()
-    ensures least { (g : List ThisClause) → IsTrue (is_without_not g) → IsTrue (is_without_denials g) → Stable g (least_model (definite g)) }
-    ensures without_not { (g : List ThisClause) (t f : List ThisAtom) → IsTrue (is_without_not g) → IsTrue (is_without_not (residual t f g)) }
-    ensures without_denials { (g : List ThisClause) (t f : List ThisAtom) → IsTrue (is_without_denials g) → IsTrue (is_without_denials (residual t f g)) }
-    ensures some { (g : List ThisClause) (t f : List ThisAtom) → IsTrue (is_without_not g) → IsTrue (is_without_denials g) → HasStable (residual t f g) }
-    ensures extends { (g : List ThisClause) (t f : List ThisAtom) → IsTrue (is_without_not g) → IsTrue (is_without_denials g) → Supports g t f → Extends g t }
+/// Rules that keep levels and signs have a stable model, the levelled one. Within a level, more steps than
+/// there are rules give the same atoms.
+pub fn levels()
+    ensures stable { (level : ThisAtom → ℕ) (plus : ThisAtom → Bool) (g : List ThisClause) → IsTrue (keeps_levels level plus g) → Stable g (levelled_model level plus g) }
+    ensures enough { (plus : ThisAtom → Bool) (g : List ThisClause) (n : ℕ) → SameAtoms (plus_steps plus g (length g + n)) (plus_model plus g) }
+{}
+
+/// What known atoms leave of rules that keep levels and signs keeps them, and of any program where each
+/// clause does of which something is left. Then atoms that the program supports, with the levelled model of
+/// what they leave, are a stable model of it.
+pub fn extension()
+    ensures kept { (level : ThisAtom → ℕ) (plus : ThisAtom → Bool) (g : List ThisClause) (t f : List ThisAtom) → IsTrue (keeps_levels level plus g) → IsTrue (keeps_levels level plus (residual t f g)) }
+    ensures left { (level : ThisAtom → ℕ) (plus : ThisAtom → Bool) (g : List ThisClause) (t f : List ThisAtom) → ((c : ThisClause) → Contains g c → IsTrue (keeps_rule level plus c) ⊎ (residual_of t f c ≡ [])) → IsTrue (keeps_levels level plus (residual t f g)) }
+    ensures extends { (level : ThisAtom → ℕ) (plus : ThisAtom → Bool) (g : List ThisClause) (t f : List ThisAtom) → IsTrue (keeps_levels level plus (residual t f g)) → Supports g t f → Stable g (t ++ levelled_model level plus (residual t f g)) }
 {}
 
 /// By hand: `p :- p.` does not support p; a circle with a way in supports its atoms; of a choice between

@@ -1,17 +1,13 @@
 -- The tests of equality decide equality.
 use Rattle.std.proofs.Common.{◌≡◌, Bool, true, false, ◌&&◌, nat_eq, int_eq, refl, ap, sym}
 use Rattle.std.specs.Bool.{Decides}
-use Rattle.std.proofs.lemmas.Bool.{and_parts}
+use Rattle.std.proofs.lemmas.Bool.{and_from, and_parts}
 use Rattle.std.proofs.lemmas.Bool.Decides.{Decides-eqb, Decides-int_eq}
 use Rattle.scasp_num.specs.Number.{Number, number_code}
 use Rattle.scasp_syntax.specs.Same.{same_bool, same_number, same_tm, same_tms, same_atom, same_lit}
 use Rattle.scasp_syntax.specs.Tm.{Tm, Tms, var, num, app, nil, cons}
 use Rattle.scasp_syntax.specs.declared.atom.Atom.{Atom}
 use Rattle.scasp_syntax.specs.declared.atom.Lit.{Lit}
-
--- both tests pass
-both : (a b : Bool) → a ≡ true → b ≡ true → (a && b) ≡ true
-both a b p q = rw (p, q) refl
 
 number_is : (q r : Number) → same_number q r ≡ true → q ≡ r
 number_is q r e =
@@ -21,7 +17,7 @@ number_is q r e =
     number_code.inj q r (rw (n, d) refl)
 
 number_same : (q : Number) → same_number q q ≡ true
-number_same q = both (int_eq q.num q.num) (int_eq q.den q.den) ((Decides-int_eq q.num q.num).1 refl) ((Decides-int_eq q.den q.den).1 refl)
+number_same q = and_from (int_eq q.num q.num) (int_eq q.den q.den) ((Decides-int_eq q.num q.num).1 refl) ((Decides-int_eq q.den q.den).1 refl)
 
 mutual
   tm_is : (t u : Tm) → same_tm t u ≡ true → t ≡ u
@@ -51,11 +47,11 @@ mutual
   tm_same : (t : Tm) → same_tm t t ≡ true
   tm_same (var x) = (Decides-eqb x x).1 refl
   tm_same (num q) = number_same q
-  tm_same (app f ts) = both (nat_eq f f) (same_tms ts ts) ((Decides-eqb f f).1 refl) (tms_same ts)
+  tm_same (app f ts) = and_from (nat_eq f f) (same_tms ts ts) ((Decides-eqb f f).1 refl) (tms_same ts)
 
   tms_same : (ts : Tms) → same_tms ts ts ≡ true
   tms_same nil = refl
-  tms_same (cons t ts) = both (same_tm t t) (same_tms ts ts) (tm_same t) (tms_same ts)
+  tms_same (cons t ts) = and_from (same_tm t t) (same_tms ts ts) (tm_same t) (tms_same ts)
 
 pub tm_decided : (t u : Tm) → Decides (same_tm t u) (t ≡ u)
 tm_decided t u = (tm_is t u, λ e. rw e (tm_same u))
@@ -83,8 +79,8 @@ atom_is a b e =
 
 atom_same : (a : Atom) → same_atom a a ≡ true
 atom_same a =
-    both (same_bool a.minus a.minus && nat_eq a.name a.name) (same_tms a.args a.args)
-    (both (same_bool a.minus a.minus) (nat_eq a.name a.name) (bool_same a.minus) ((Decides-eqb a.name a.name).1 refl))
+    and_from (same_bool a.minus a.minus && nat_eq a.name a.name) (same_tms a.args a.args)
+    (and_from (same_bool a.minus a.minus) (nat_eq a.name a.name) (bool_same a.minus) ((Decides-eqb a.name a.name).1 refl))
     (tms_same a.args)
 
 pub atom_decided : (a b : Atom) → Decides (same_atom a b) (a ≡ b)
@@ -98,7 +94,7 @@ lit_is l k e =
     λ i. record { positive = m i; atom = a i }
 
 lit_same : (l : Lit) → same_lit l l ≡ true
-lit_same l = both (same_bool l.positive l.positive) (same_atom l.atom l.atom) (bool_same l.positive) (atom_same l.atom)
+lit_same l = and_from (same_bool l.positive l.positive) (same_atom l.atom l.atom) (bool_same l.positive) (atom_same l.atom)
 
 pub lit_decided : (l k : Lit) → Decides (same_lit l k) (l ≡ k)
 lit_decided l k = (lit_is l k, λ e. rw e (lit_same k))

@@ -13,7 +13,7 @@ use Rattle.scasp_syntax.specs.declared.program.Program.{Program}
 use Rattle.scasp_cert.specs.Certificate.{Certificate}
 use Rattle.scasp_checker.specs.Accepted.{Accepts}
 use Rattle.scasp_checker.specs.Verdicts.{covered}
-use Rattle.scasp_checker.proofs.Soundness.{accepted-good, map-extendable}
+use Rattle.scasp_checker.proofs.Soundness.{accepted-good_right}
 use Rattle.scasp_graph.specs.Map.{MapHolds, map_faults, is_positive_item, is_positive_rule}
 use Rattle.scasp_graph.proofs.MapLemmas.{empty_map_holds}
 use Rattle.scasp_reader.specs.Propositional.{has_plain_head, is_plain_call, are_plain_calls, has_no_argument, is_propositional_rule, is_propositional_query, are_propositional}
@@ -53,11 +53,8 @@ propositional-map p e =
 accepted-right : (p : Program) (c : Certificate) → MapHolds p [] [] → Accepts p c → IsRight p c
 accepted-right p c kept accepted =
     let none : covered c ≡ [] = ap (map (λ k. k.0)) accepted.no_check in
-    record {
-      accepted = accepted;
-      map = ap (λ ns. map_faults p ns c.map) none ∙ ap (λ (ms : List PredMap). map_faults p [] ms) accepted.no_map ∙ kept;
-      good = (accepted-good p c accepted, map-extendable p c kept);
-    }
+    let holds : MapHolds p (covered c) c.map = ap (λ ns. map_faults p ns c.map) none ∙ ap (λ (ms : List PredMap). map_faults p [] ms) accepted.no_map ∙ kept in
+    record { accepted = accepted; map = holds; good = accepted-good_right p c accepted holds }
 
 event-right : (p : Program) (query : Query) (event : Outcome Certificate) → IsTrue (are_propositional p.clauses p.queries)
     → numbered p.queries 1 ≡ Some query → Meets p.clauses 1 query event → AnswersRightly p event

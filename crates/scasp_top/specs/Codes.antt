@@ -1,3 +1,4 @@
+-- The exit code of each status.
 use Rattle.std.specs.Prelude.{ℕ}
 use Rattle.scasp_top.specs.declared.status.Status.{Status}
 use Rattle.scasp_top.specs.declared.status.Status.TheVariants.{Done, NoAnswer, Usage, Text, Read, Write, Spent, Overflow, Memory, Limit}

@@ -1,3 +1,4 @@
+-- What the code's commands say.
 use Rattle.std.specs.Prelude.{ℕ, List}
 use Rattle.scasp_top.specs.declared.words.Command.{Command}
 use Rattle.scasp_top.specs.declared.words.Command.TheVariants.{Run}

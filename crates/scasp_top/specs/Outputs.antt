@@ -1,3 +1,4 @@
+-- Which text belongs to the bytes of a file, and which to the words of a command.
 use Rattle.std.specs.Prelude.{◌≡◌, ℕ, ◌<◌, ◌≤◌, Option, None, Some, IfSome, IsSomeAnd, List, length}
 use Rattle.scasp_name.specs.Texts.{list_names}
 use Rattle.scasp_reader.specs.Reading.{program_in, Reading}

@@ -1,3 +1,4 @@
+-- What the sink took, by the status.
 use Rattle.std.specs.Prelude.{◌≡◌, ℕ, Option, List}
 use Rattle.scasp_io.specs.Bytes.{behind, TakesPrefix}
 use Rattle.scasp_top.specs.declared.status.Status.{Status}

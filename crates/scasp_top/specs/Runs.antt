@@ -1,3 +1,4 @@
+-- What the run of a program prints, and when its answers are right.
 use Rattle.std.specs.Prelude.{◌≡◌, ℕ, ⊤, Some, MatchOption, List, [], ◌∷◌, ◌++◌}
 use Rattle.scasp_syntax.specs.Programs.{numbered}
 use Rattle.scasp_syntax.specs.declared.clause.Clause.{Clause}

@@ -1,3 +1,4 @@
+-- The lines that are printed beside blocks.
 use Rattle.std.specs.Prelude.{ℕ, List, ◌++◌, codes}
 use Rattle.scasp_cert.specs.Certificate.{Certificate}
 use Rattle.scasp_written.specs.Machine.{Outcome, answered, ended, spent, overflowed}

@@ -1,3 +1,4 @@
+-- Searches in general: machines of states, and the first event of a walk through them.
 use Rattle.std.specs.Prelude.{◌≡◌, ℕ, ◌+◌, zero, suc, ◌==◌, Bool, true, false, ◌&&◌, Option, Some, None, List, [], ◌∷◌, ◌++◌}
 
 -- A search over states of type S for answers of type A: what comes after a state, in the order in which it is tried;

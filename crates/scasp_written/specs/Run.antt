@@ -1,3 +1,4 @@
+-- The written search for the answers to a query, as a machine.
 use Rattle.std.specs.Prelude.{◌≡◌, ℕ, Bool, true, false, Option, Some, None, List, [], ◌∷◌}
 use Rattle.scasp_syntax.specs.Tm.{nil}
 use Rattle.scasp_syntax.specs.declared.clause.Item.{Item}

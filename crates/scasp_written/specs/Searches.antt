@@ -1,3 +1,4 @@
+-- What the search as an object has still to give.
 use Rattle.std.specs.Prelude.{◌≡◌, ℕ, Bool, List, [], ◌∷◌}
 use Rattle.scasp_syntax.specs.declared.clause.Item.{Item}
 use Rattle.scasp_syntax.specs.declared.clause.Clause.{Clause}

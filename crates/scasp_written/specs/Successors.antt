@@ -1,3 +1,4 @@
+-- What comes after a state of the search.
 use Rattle.std.specs.Prelude.{ℕ, ◌+◌, Bool, false, ◌&&◌, not, if◌then◌else◌, Option, Some, None, List, [], ◌∷◌}
 use Rattle.std.specs.List.{list_any}
 use Rattle.scasp_syntax.specs.Tm.{nil}

@@ -1,3 +1,4 @@
+-- Which states the code's positions are.
 use Rattle.std.specs.Prelude.{List, map, reverse}
 use Rattle.scasp_cert.specs.View.{trees_of}
 use Rattle.scasp_cert.specs.States.{Level, Opened, State}

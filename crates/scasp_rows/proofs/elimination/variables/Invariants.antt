@@ -1,5 +1,6 @@
 use Rattle.std.proofs.Common.{◌≡◌, drop, take, []}
-use Rattle.scasp_num.specs.Linear.{Each, IsNormal}
+use Rattle.scasp_list.specs.Each.{Each}
+use Rattle.scasp_num.specs.Linear.{IsNormal}
 use Rattle.scasp_rows.specs.Elimination.{variables}
 use Rattle.scasp_rows.proofs.elimination.variables.Given as goal
 

@@ -1,5 +1,5 @@
 use Rattle.std.proofs.Common.{take}
-use Rattle.scasp_num.specs.Linear.{Each}
+use Rattle.scasp_list.specs.Each.{Each}
 use Rattle.scasp_rows.specs.Samples.{OnlyDisequations}
 use Rattle.scasp_rows.proofs.samples.are_disequations.Given as goal
 

@@ -1,5 +1,6 @@
 use Rattle.std.proofs.Common.{◌≡◌, take}
-use Rattle.scasp_num.specs.Linear.{Each, IsNormal}
+use Rattle.scasp_list.specs.Each.{Each}
+use Rattle.scasp_num.specs.Linear.{IsNormal}
 use Rattle.scasp_rows.proofs.samples.copies.Given as goal
 
 abbrev pub invariant-loop-r : goal.invariant-loop-r

@@ -1,7 +1,8 @@
 use Rattle.std.proofs.Common.{◌≡◌, Ok, Err, Some, None, Option, List, sym, subst, ◌∙◌}
 use Rattle.std.specs.Prelude.{IfSome, IfNone}
 use Rattle.scasp_num.specs.declared.linear.RatPair.{RatPair}
-use Rattle.scasp_num.specs.Linear.{Linear, Each, IsNormal}
+use Rattle.scasp_list.specs.Each.{Each}
+use Rattle.scasp_num.specs.Linear.{Linear, IsNormal}
 use Rattle.scasp_rows.specs.declared.state.Halt.{Halt}
 use Rattle.scasp_rows.specs.declared.state.Halt.TheVariants as halt
 use Rattle.scasp_num.specs.declared.hints.Step.{Step}

@@ -1,5 +1,6 @@
 use Rattle.std.proofs.Common.{◌≡◌, drop}
-use Rattle.scasp_num.specs.Linear.{Each, IsNormal}
+use Rattle.scasp_list.specs.Each.{Each}
+use Rattle.scasp_num.specs.Linear.{IsNormal}
 use Rattle.scasp_rows.specs.Samples.{with_all}
 use Rattle.scasp_rows.proofs.samples.with_all.Given as goal
 

@@ -2,7 +2,8 @@ use Rattle.std.proofs.Common.{◌≡◌, ℤ, pos, List, Some, to_z, of_z, sym, 
 use Rattle.std.specs.Int.{w128}
 use Rattle.scasp_num.specs.declared.linear.Coeff.{Coeff}
 use Rattle.scasp_num.specs.Number.{InRange}
-use Rattle.scasp_num.specs.Linear.{Each, Ascends, coefficient, others_times, merged, join_of}
+use Rattle.scasp_list.specs.Each.{Each}
+use Rattle.scasp_num.specs.Linear.{Ascends, coefficient, others_times, merged, join_of}
 use Rattle.scasp_num.proofs.Numbers.{stored, plain}
 use Rattle.scasp_num.proofs.Puts.{others_times-range, others_times-Ascends}
 use Rattle.scasp_num.proofs.Joins.{join_of-meets, merged-range, merged-Ascends, coefficient-range}

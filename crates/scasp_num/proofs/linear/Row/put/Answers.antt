@@ -2,7 +2,8 @@ use Rattle.std.proofs.Common.{◌≡◌, List, Some, to_z, of_z, sym, subst, ◌
 use Rattle.std.specs.Int.{w128}
 use Rattle.scasp_num.specs.declared.linear.Coeff.{Coeff}
 use Rattle.scasp_num.specs.Number.{InRange}
-use Rattle.scasp_num.specs.Linear.{Each, Ascends, others_times, put_of}
+use Rattle.scasp_list.specs.Each.{Each}
+use Rattle.scasp_num.specs.Linear.{Ascends, others_times, put_of}
 use Rattle.scasp_num.proofs.Numbers.{stored, plain}
 use Rattle.scasp_num.proofs.Puts.{put_of-meets, others_times-range, others_times-Ascends}
 use Rattle.scasp_num.proofs.Valuations.{put_of-holds}

@@ -1,0 +1,11 @@
+pub mod Choices
+pub mod FailureLemmas
+pub mod Members
+pub mod NegationLemmas
+pub mod PointLemmas
+pub mod ResolvedRowLemmas
+pub mod ResolverLemmas
+pub mod SimpleLemmas
+pub mod SortedLemmas
+pub mod UnificationLemmas
+pub mod ValuationLemmas

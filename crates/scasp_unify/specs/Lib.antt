@@ -1,0 +1,12 @@
+pub mod Examples
+pub mod Negations
+pub mod Numbers
+pub mod Parts
+pub mod PointMeets
+pub mod Points
+pub mod ResolvedRows
+pub mod Resolver
+pub mod SimpleForm
+pub mod Sorted
+pub mod TermFailures
+pub mod Unification
