@@ -20,12 +20,12 @@ use Rattle.scasp_list.proofs.EachLemmas.{Each-map, Each-append, Each-both}
 use Rattle.scasp_num.specs.Linear.{Linear, Ascends, IsNormal, coefficient, merged, normal_form}
 use Rattle.scasp_num.specs.Sums
 use Rattle.scasp_num.specs.Sums.{added, summed, multiple, whole_number, normal_of}
-use Rattle.scasp_num.proofs.Numbers.{ltb_lt, lt_ltb, some-same}
+use Rattle.scasp_num.proofs.Numbers.{ltb_lt, lt_ltb, some-same, within-some}
 use Rattle.scasp_num.proofs.Exact.{bind-some, lowest-exact, lowest-fits, sum_of-exact, sum_of-fits}
 use Rattle.scasp_num.proofs.SameNumber.{same_number}
-use Rattle.scasp_num.proofs.Joins.{later, merged-range, merged-Ascends}
+use Rattle.scasp_num.proofs.Joins.{coefficient-range, later, merged-range, merged-Ascends}
 use Rattle.scasp_rows.specs.Samples.{strict, alternatives}
-use Rattle.scasp_rows.specs.Steps.{whole, times, terms_sum, joined, row_sum, products, sums_with, step_integers}
+use Rattle.scasp_rows.specs.Steps.{whole, times, terms_sum, joined, row_sum, products, sums_with, step_integers, pair_sum, pairs_fit}
 use Rattle.scasp_rows.proofs.Sums.{scaled}
 use Rattle.scasp_rows.proofs.Values.{coefficient-absent}
 
@@ -372,6 +372,57 @@ sum_fits a b p q hp hq =
         let inner = and_parts (in_range (b *ℤ q.constant)) (in_range (a *ℤ p.constant +ℤ b *ℤ q.constant) && true) outer.1 in
         let last = and_parts (in_range (a *ℤ p.constant +ℤ b *ℤ q.constant)) true inner.1 in
         both parts.0 parts.1 last.0 ∙ sym (and-true (list_all in_range (sums_with a p.coeffs b q.coeffs)))
+
+-- ---- the same, pair by pair
+
+pair-some : (a c b d : ℤ) → is_some (pair_sum a c b d) ≡ (in_range (a *ℤ c) && (in_range (b *ℤ d) && (in_range (a *ℤ c +ℤ b *ℤ d) && true)))
+unfolding pair_sum
+pair-some a c b d = by (in_range (a *ℤ c)) (in_range (b *ℤ d)) (in_range (a *ℤ c +ℤ b *ℤ d))
+  where
+    by : (s t u : Bool) → is_some ((if s then Some (a *ℤ c) else None) >>= (λ left. (if t then Some (b *ℤ d) else None) >>= (λ right. if in_range (left +ℤ right) then Some (left +ℤ right) else None))) ≡ (s && (t && (in_range (a *ℤ c +ℤ b *ℤ d) && true)))
+    by false t u = refl
+    by true false u = refl
+    by true true u = ranged (in_range (a *ℤ c +ℤ b *ℤ d)) ∙ sym (and-true (in_range (a *ℤ c +ℤ b *ℤ d)))
+      where
+        ranged : (t : Bool) → is_some (if t then Some (a *ℤ c +ℤ b *ℤ d) else None) ≡ t
+        ranged true = refl
+        ranged false = refl
+
+pub pair-value : (a c b d z : ℤ) → Some z ≡ pair_sum a c b d → z ≡ a *ℤ c +ℤ b *ℤ d
+unfolding pair_sum
+pair-value a c b d z e =
+    let p = bind-some (within (a *ℤ c)) (λ left. within (b *ℤ d) >>= (λ right. within (left +ℤ right))) z e in
+    let q = bind-some (within (b *ℤ d)) (λ right. within (p.0 +ℤ right)) z p.2 in
+    (within-some z (p.0 +ℤ q.0) q.2).0 ∙ (λ i. (within-some p.0 (a *ℤ c) p.1).0 i +ℤ (within-some q.0 (b *ℤ d) q.1).0 i)
+
+-- a product of a coefficient lies in range, where those of all terms do
+product-range : (x : ℕ) (a : ℤ) (ks : List Coeff) → list_all in_range (products a ks) ≡ true → in_range (a *ℤ coefficient x ks) ≡ true
+product-range x a ks h = lt_ltb (subst InRange (scaled-coefficient x a ks) (coefficient-range x (scaled a ks) (scaled-fit a ks h)))
+
+pairs-sums : (a : ℤ) (ks : List Coeff) (b : ℤ) (js : List Coeff) → list_all in_range (products a ks) ≡ true → list_all in_range (products b js) ≡ true → pairs_fit a ks b js ≡ list_all in_range (sums_with a ks b js)
+pairs-sums a ks b [] f g = refl
+pairs-sums a ks b (j ∷ js) f g =
+    let parts = and_parts (in_range (b *ℤ j.c)) (list_all in_range (products b js)) g in
+    let sum = in_range (a *ℤ coefficient j.x ks +ℤ b *ℤ j.c) in
+    let first : is_some (pair_sum a (coefficient j.x ks) b j.c) ≡ sum = pair-some a (coefficient j.x ks) b j.c ∙ (λ i. product-range j.x a ks f i && (parts.0 i && (sum && true))) ∙ and-true sum in
+    λ i. first i && pairs-sums a ks b js f parts.1 i
+
+pub fits-pairwise : (a b : ℤ) (p q : Linear) → IsNormal p → IsNormal q → is_some (row_sum a p b q) ≡ (((list_all in_range (products a p.coeffs) && list_all in_range (products b q.coeffs)) && pairs_fit a p.coeffs b q.coeffs) && is_some (pair_sum a p.constant b q.constant))
+fits-pairwise a b p q hp hq =
+    sum_fits a b p q hp hq ∙ all-parts a b p q ∙ (λ i. by (list_all in_range (products a p.coeffs)) refl (list_all in_range (products b q.coeffs)) refl i && sym (pair-some a p.constant b q.constant) i)
+  where
+    sums : Bool
+    sums = list_all in_range (sums_with a p.coeffs b q.coeffs)
+
+    by : (s : Bool) → list_all in_range (products a p.coeffs) ≡ s → (t : Bool) → list_all in_range (products b q.coeffs) ≡ t → ((s && t) && sums) ≡ ((s && t) && pairs_fit a p.coeffs b q.coeffs)
+    by false e t f = refl
+    by true e false f = refl
+    by true e true f = sym (pairs-sums a p.coeffs b q.coeffs e f)
+
+-- the tests of the parts, in order, are one of the sum
+pub fits-by : (a b : ℤ) (p q : Linear) (ks js : List Coeff) → IsNormal p → IsNormal q → ks ≡ p.coeffs → js ≡ q.coeffs → (s t u d : Bool) → s ≡ list_all in_range (products a ks) → t ≡ list_all in_range (products b js) → u ≡ pairs_fit a p.coeffs b js → d ≡ is_some (pair_sum a p.constant b q.constant) → (((s && t) && u) && d) ≡ is_some (row_sum a p b q)
+fits-by a b p q ks js hp hq e f s t u d es et eu ed =
+    (λ i. (((es ∙ ap (λ (l : List Coeff). list_all in_range (products a l)) e) i && (et ∙ ap (λ (l : List Coeff). list_all in_range (products b l)) f) i) && (eu ∙ ap (λ (l : List Coeff). pairs_fit a p.coeffs b l) f) i) && ed i) ∙ sym (fits-pairwise a b p q hp hq)
 
 -- ---- the strict rows of a disequation are always made
 

@@ -18,3 +18,5 @@ pub mod Greedy
 pub mod Sampling
 pub mod Fitting
 pub mod StepRanges
+pub mod Pairing
+pub mod Indexing

@@ -12,6 +12,7 @@ use Rattle.scasp_list.specs.Each.{Each}
 use Rattle.scasp_num.specs.Linear.{Linear, Ascends, IsNormal, weighted, Compares, coefficient, replaced}
 use Rattle.scasp_num.proofs.Kept.{normal_of-op}
 use Rattle.scasp_num.proofs.Integers.{*ℤ_assoc, +ℤ-*ℤ}
+use Rattle.scasp_rows.specs.Points.{is_constant}
 use Rattle.scasp_rows.specs.Steps.{joined, row_sum}
 use Rattle.scasp_rows.proofs.Sums.{value, row_sum-IsSum, row_sum-IsNormal, row_sum-meets}
 
@@ -96,20 +97,25 @@ only-value y z r a =
     let f3 = *ℤ-zero r.constant in
     omega (arith, ints, f1, f2, f3)
 
-zero-by : (o : Op) (c : ℤ) → o ≢ op.Ne → (Compares o (c *ℤ pos 1) ↔ Compares o (pos 0)) → (Compares o (c *ℤ negsuc 0) ↔ Compares o (pos 0)) → c ≡ pos 0
-zero-by op.Eq c n f g = let h = f.1 refl in omega (arith, ints, h)
-zero-by op.Lt c n f g = by c f.0 g.0
+zero-by : (o : Op) (c : ℤ) → (Compares o (c *ℤ pos 1) ↔ Compares o (pos 0)) → (Compares o (c *ℤ negsuc 0) ↔ Compares o (pos 0)) → c ≡ pos 0
+zero-by op.Eq c f g = let h = f.1 refl in omega (arith, ints, h)
+zero-by op.Lt c f g = by c f.0 g.0
   where
     by : (c : ℤ) → ((c *ℤ pos 1) <ℤ pos 0 → pos 0 <ℤ pos 0) → ((c *ℤ negsuc 0) <ℤ pos 0 → pos 0 <ℤ pos 0) → c ≡ pos 0
     by (pos zero) f g = refl
     by (pos (suc n)) f g = let h = g (omega (arith, ints)) in absurd (omega (arith, ints, h))
     by (negsuc n) f g = let h = f (omega (arith, ints)) in absurd (omega (arith, ints, h))
-zero-by op.Le c n f g = let h = f.1 (omega (arith, ints)) in let k = g.1 (omega (arith, ints)) in omega (arith, ints, h, k)
-zero-by op.Ne c n f g = absurd (n refl)
+zero-by op.Le c f g = let h = f.1 (omega (arith, ints)) in let k = g.1 (omega (arith, ints)) in omega (arith, ints, h, k)
+zero-by op.Ne c f g = by c f.0
+  where
+    by : (c : ℤ) → (c *ℤ pos 1 ≢ pos 0 → pos 0 ≢ pos 0) → c ≡ pos 0
+    by (pos zero) f = refl
+    by (pos (suc n)) f = absurd (f (λ e. omega (arith, ints, e)) refl)
+    by (negsuc n) f = absurd (f (λ e. omega (arith, ints, e)) refl)
 
 -- a variable that the two multiples cancel is not in the sum
 pub row_sum-coefficient : (a : ℤ) (p : Linear) (b : ℤ) (q row : Linear) → Some row ≡ row_sum a p b q → IsNormal p → IsNormal q → joined p.op q.op ≢ op.Ne → (y : ℕ) → a *ℤ coefficient y p.coeffs +ℤ b *ℤ coefficient y q.coeffs ≡ pos 0 → coefficient y row.coeffs ≡ pos 0
-row_sum-coefficient a p b q row e hp hq n y none = zero-by (joined p.op q.op) (coefficient y row.coeffs) n (both (pos 1)) (both (negsuc 0))
+row_sum-coefficient a p b q row e hp hq n y none = zero-by (joined p.op q.op) (coefficient y row.coeffs) (both (pos 1)) (both (negsuc 0))
   where
     both : (z : ℤ) → Compares (joined p.op q.op) (coefficient y row.coeffs *ℤ z) ↔ Compares (joined p.op q.op) (pos 0)
     both z =
@@ -127,3 +133,31 @@ row_sum-coefficient a p b q row e hp hq n y none = zero-by (joined p.op q.op) (c
           λ h. subst (Compares o) right (m.0 (subst (λ u. Compares u (value (only y z) (pos 0) row)) (sym is) (subst (Compares o) (sym left) h))),
           λ h. subst (Compares o) left (subst (λ u. Compares u (value (only y z) (pos 0) row)) is (m.1 (subst (Compares o) (sym right) h))),
         )
+
+-- a variable that the two multiples leave keeps the sum from being a constant row
+pub row_sum-open : (a : ℤ) (p : Linear) (b : ℤ) (q row : Linear) → Some row ≡ row_sum a p b q → IsNormal p → IsNormal q → (y : ℕ) → a *ℤ coefficient y p.coeffs +ℤ b *ℤ coefficient y q.coeffs ≢ pos 0 → is_constant row ≡ false
+row_sum-open a p b q row e hp hq y left = by row.coeffs refl
+  where
+    sum : ℤ
+    sum = a *ℤ coefficient y p.coeffs +ℤ b *ℤ coefficient y q.coeffs
+
+    both : row.coeffs ≡ [] → (z : ℤ) → Compares (joined p.op q.op) (sum *ℤ z) ↔ Compares (joined p.op q.op) (pos 0)
+    both none z =
+        let s = row_sum-IsSum a p b q row e in
+        let o = joined p.op q.op in
+        let is : row.op ≡ o = normal_of-op (s.left ++ s.right) s.constant o row s.made in
+        let nothing : value (only y z) (pos 0) row ≡ pos 0 = only-value y z row (row_sum-IsNormal a p b q row e).ascending ∙ ap (λ ks. coefficient y ks *ℤ z) none ∙ zero-*ℤ z in
+        let vp = only-value y z p hp.ascending in
+        let vq = only-value y z q hq.ascending in
+        let f1 : a *ℤ (coefficient y p.coeffs *ℤ z) ≡ (a *ℤ coefficient y p.coeffs) *ℤ z = sym (*ℤ_assoc a (coefficient y p.coeffs) z) in
+        let f2 : b *ℤ (coefficient y q.coeffs *ℤ z) ≡ (b *ℤ coefficient y q.coeffs) *ℤ z = sym (*ℤ_assoc b (coefficient y q.coeffs) z) in
+        let whole : a *ℤ value (only y z) (pos 0) p +ℤ b *ℤ value (only y z) (pos 0) q ≡ sum *ℤ z =
+        (λ i. (ap (λ v. a *ℤ v) vp ∙ f1) i +ℤ (ap (λ v. b *ℤ v) vq ∙ f2) i) ∙ sym (+ℤ-*ℤ (a *ℤ coefficient y p.coeffs) (b *ℤ coefficient y q.coeffs) z) in
+        let m = row_sum-meets a p b q row e (only y z) (pos 0) in (
+          λ h. subst (Compares o) nothing (subst (λ u. Compares u (value (only y z) (pos 0) row)) is (m.1 (subst (Compares o) (sym whole) h))),
+          λ h. subst (Compares o) whole (m.0 (subst (λ u. Compares u (value (only y z) (pos 0) row)) (sym is) (subst (Compares o) (sym nothing) h))),
+        )
+
+    by : (ks : List Coeff) → row.coeffs ≡ ks → is_constant row ≡ false
+    by [] none = absurd (left (zero-by (joined p.op q.op) sum (both none (pos 1)) (both none (negsuc 0))))
+    by (k ∷ ks) some = ap (λ (r : List Coeff). is_constant (record { coeffs = r; constant = row.constant; op = row.op })) some

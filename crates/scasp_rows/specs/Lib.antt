@@ -2,6 +2,8 @@ pub mod Points
 pub mod Steps
 pub mod Halting
 pub mod Elimination
+pub mod Outlooks
+pub mod Keys
 pub mod Verdicts
 pub mod Samples
 pub mod Sampled

@@ -1,5 +1,5 @@
 -- The sum of two rows with multipliers, and lists of such steps.
-use Rattle.std.specs.Prelude.{◌≡◌, ℕ, zero, suc, Bool, true, false, ◌&&◌, not, if◌then◌else◌, ℤ, pos, ◌+ℤ◌, ◌*ℤ◌, int_lt, List, [], ◌∷◌, ◌++◌, slice_get, Option, Some, None, Result, Ok, Err, ⊤}
+use Rattle.std.specs.Prelude.{◌≡◌, ℕ, zero, suc, Bool, true, false, ◌&&◌, not, if◌then◌else◌, ℤ, pos, ◌+ℤ◌, ◌*ℤ◌, int_lt, List, [], ◌∷◌, ◌++◌, slice_get, is_some, Option, Some, None, Result, Ok, Err, ⊤}
 use Rattle.std.specs.List.{list_any}
 use Rattle.scasp_num.specs.declared.linear.Coeff.{Coeff}
 use Rattle.scasp_num.specs.declared.linear.RatPair.{RatPair}
@@ -9,7 +9,7 @@ use Rattle.scasp_num.specs.declared.linear.RowErr.{RowErr}
 use Rattle.scasp_num.specs.declared.linear.RowErr.TheVariants as row_err
 use Rattle.scasp_num.specs.declared.hints.Step.{Step}
 use Rattle.scasp_num.specs.Number.{Number, InRange}
-use Rattle.scasp_num.specs.Arithmetic.{◌>>=◌, lowest, sum_of}
+use Rattle.scasp_num.specs.Arithmetic.{◌>>=◌, within, lowest, sum_of}
 use Rattle.scasp_num.specs.Linear.{Linear, is_zero, coefficient}
 use Rattle.scasp_num.specs.Sums.{normal_of}
 use Rattle.scasp_rows.specs.declared.steps.StepErr.{StepErr}
@@ -74,6 +74,18 @@ step_integers a p b q =
     let left = a *ℤ p.constant in
     let right = b *ℤ q.constant in
     products a p.coeffs ++ products b q.coeffs ++ sums_with a p.coeffs b q.coeffs ++ left ∷ right ∷ (left +ℤ right) ∷ []
+
+-- a*c + b*d, where the products and the sum lie in range
+unfoldable pub pair_sum : ℤ → ℤ → ℤ → ℤ → Option ℤ
+pair_sum a c b d = do
+  left ← within (a *ℤ c)
+  right ← within (b *ℤ d)
+  within (left +ℤ right)
+
+-- they do for each variable of the second list
+abbrev pub pairs_fit : ℤ → List Coeff → ℤ → List Coeff → Bool
+pairs_fit a ks b [] = true
+pairs_fit a ks b (j ∷ js) = is_some (pair_sum a (coefficient j.x ks) b j.c) && pairs_fit a ks b js
 
 -- ---- steps
 

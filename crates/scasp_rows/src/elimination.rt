@@ -3,12 +3,18 @@ ghost use Rattle.std.specs.Prelude.{◌≡◌, ◌≢◌, ◌+◌, ◌++◌, [],
 ghost use Rattle.std.specs.Option.{option_copied};
 ghost use Rattle.scasp_list.specs.Each.{Each};
 ghost use Rattle.scasp_num.specs.Linear.{IsNormal};
-ghost use Rattle.scasp_rows.specs.Elimination.{Ends, all_looked, all_paired, by_bounds, eliminated, factor, first_equation, has_sign, limited, looked, made, made_without, met, elimination, placed, variables, with_terms, others, paired, replaced, rows_with, solved, without};
+ghost use Rattle.scasp_rows.specs.Elimination.{Ends, all_looked, all_paired, and_then, by_bounds, eliminated, elimination, first_equation, limited, looked, made, met, others, paired, placed, replaced, rows_with, solved, variables, with_terms, without};
+ghost use Rattle.scasp_rows.specs.Outlooks.{all_paired_outlook, all_paired_steps};
+ghost use Rattle.scasp_rows.specs.declared.state.State.{State as ThisState};
 
+use crate::indexed::Indexed;
+use crate::outlook::{Outlook, all_paired_outlook, all_paired_steps, meeting};
 use crate::rows::{
     against, factor, has_sign, is_constant, is_false, share, size_over, solves, stands,
 };
-use crate::state::{Halt, Sign, Standing, StandingRows, State, copy};
+use crate::state::{
+    Halt, Sign, Standing, StandingRows, State, copy, next, unsat, with_row, with_step,
+};
 use crate::steps::row_sum;
 use scasp_list::Memory;
 use scasp_num::{Coeff, Row, Step, Steps};
@@ -16,22 +22,6 @@ use std::alloc::Global;
 
 /// As many rows may stand after a variable.
 const LIMIT: usize = 4096;
-
-/// The end by the steps that were made.
-fn unsat(state: State) -> Halt
-    ensures { result ≡ Halt.Unsat state.steps }
-{
-    let State { steps, .. } = state;
-    Halt::Unsat(steps)
-}
-
-/// The state with one more row that stands.
-fn with_row(mut state: State, r: Standing) -> Result<State, Memory>
-    ensures { IfOk result (λ s. s ≡ record { standing = state.standing ++ r ∷ []; steps = state.steps; last = state.last }) }
-{
-    state.standing.push(r)?;
-    Ok(state)
-}
 
 /// Looks at a new row: a false constant row ends the elimination; a true one is dropped, and so is one that
 /// stands already, among those so far or in `later`.
@@ -47,22 +37,6 @@ fn looked(state: State, r: Standing, later: &[Standing]) -> Result<State, Halt>
         return Ok(state);
     }
     Ok(with_row(state, r)?)
-}
-
-/// The number after this one.
-fn next(number: u64) -> Result<u64, Memory>
-    ensures { IfOk result (λ n. n ≡ number + 1) }
-{
-    number.checked_add(1).ok_or(Memory)
-}
-
-/// The state with one more step.
-fn with_step(mut state: State, step: Step) -> Result<State, Memory>
-    ensures { IfOk result (λ s. s ≡ record { standing = state.standing; steps = state.steps ++ step ∷ []; last = state.last + 1 }) }
-{
-    state.last = next(state.last)?;
-    state.steps.push(step)?;
-    Ok(state)
 }
 
 /// Makes the row `a` times `p` plus `b` times `q` by a step, and looks at it.
@@ -109,13 +83,14 @@ fn replaced(
 }
 
 /// Makes the row without `x` of a lower row and an upper row.
-fn met(alloc: Global, x: u64, l: &Standing, u: &Standing, state: State) -> Result<State, Halt>
+fn met(alloc: Global, x: u64, l: &Standing, u: &Standing, state: Indexed) -> Result<Indexed, Halt>
     ensures { Ends result (met x l.now u.now state) }
 {
-    let b = factor(x, l);
-    let a = factor(x, u);
-    let g = share(b, a);
-    made(alloc, size_over(a, g), l, size_over(b, g), u, &[], state)
+    let step = meeting(x, l, u);
+    let row = row_sum(alloc, step.a, &l.row, step.b, &u.row)?;
+    let state = state.with_step(step)?;
+    let number = state.last();
+    state.looked(Standing { number, row })
 }
 
 /// The rows in which the coefficient of `x` compares so with 0.
@@ -186,8 +161,8 @@ fn paired(
     x: u64,
     l: &Standing,
     uppers: &[Standing],
-    start: State,
-) -> Result<State, Halt>
+    start: Indexed,
+) -> Result<Indexed, Halt>
     ensures { Ends result (paired x l.now uppers.now start) }
 {
     let mut state = start;
@@ -197,21 +172,69 @@ fn paired(
     Ok(state)
 }
 
-/// Each lower row with each upper row, in order.
+/// The rows without `x`, before those that the others make.
+fn rows_without(
+    alloc: Global,
+    x: u64,
+    rows: &[Standing],
+    steps: Steps,
+    last: u64,
+) -> Result<Indexed, Memory>
+    ensures { IfOk result (λ s. s ≡ record { standing = rows_with Sign.Zero x rows.now; steps = steps; last = last }) }
+{
+    let mut state = Indexed::empty(alloc, steps, last);
+    for r in rows {
+        if has_sign(Sign::Zero, factor(x, r)) {
+            state = state.with_row(copy(r)?)?;
+        }
+    }
+    Ok(state)
+}
+
+/// Each lower row with each upper row, in order, where none of them ends the elimination. So once too many
+/// rows stand, no more need be made.
+#[tactic(auto, using(crate::proofs::Pairing::overflowing))]
 fn all_paired(
     alloc: Global,
     x: u64,
     lowers: &[Standing],
     uppers: &[Standing],
-    start: State,
+    start: Indexed,
 ) -> Result<State, Halt>
-    ensures { Ends result (all_paired x lowers.now uppers.now start) }
+    requires { all_paired_outlook x lowers.now uppers.now ≡ Outlook.Open }
+    ensures { Ends result (and_then (all_paired x lowers.now uppers.now start) limited) }
 {
     let mut state = start;
     for l in lowers {
+        if state.count() > LIMIT {
+            return Err(Halt::Overflow);
+        }
         state = paired(alloc, x, l, uppers, state)?;
     }
-    Ok(state)
+    limited(state.into_state())
+}
+
+/// The end of the elimination by a lower row and an upper row, where their sum is a false row. No row is kept.
+fn falsified(
+    alloc: Global,
+    x: u64,
+    lowers: &[Standing],
+    uppers: &[Standing],
+    steps: Steps,
+    last: u64,
+) -> Halt
+    requires { all_paired_outlook x lowers.now uppers.now ≡ Outlook.False }
+    ensures { Ends {A = ThisState} (Err result) (all_paired_steps x lowers.now uppers.now (record { standing = []; steps = steps; last = last })) }
+{
+    let start = State {
+        standing: StandingRows::new(alloc),
+        steps,
+        last,
+    };
+    match all_paired_steps(alloc, x, lowers, uppers, start) {
+        Ok(_) => unreachable!(),
+        Err(halt) => halt,
+    }
 }
 
 /// Sets the rows with `x` aside, where the equation has it.
@@ -228,7 +251,18 @@ fn by_equation(
     solved(alloc, x, p, rest.as_slice(), cleared)
 }
 
-/// Sets the rows with `x` aside, where no equation has it.
+/// Overflow where too many rows stand.
+fn limited(state: State) -> Result<State, Halt>
+    ensures { Ends result (limited state) }
+{
+    if state.standing.as_slice().len() > LIMIT {
+        return Err(Halt::Overflow);
+    }
+    Ok(state)
+}
+
+/// Sets the rows with `x` aside, where no equation has it. What the pairs of rows do is known before any row
+/// is kept.
 fn by_bounds(
     alloc: Global,
     x: u64,
@@ -236,22 +270,25 @@ fn by_bounds(
     steps: Steps,
     last: u64,
 ) -> Result<State, Halt>
-    ensures { Ends result (by_bounds x rows.now steps last) }
+    ensures { Ends result (and_then (by_bounds x rows.now steps last) limited) }
 {
-    let standing = rows_with(alloc, Sign::Zero, x, rows)?;
     let lowers = rows_with(alloc, Sign::Below, x, rows)?;
     let uppers = rows_with(alloc, Sign::Above, x, rows)?;
-    let kept = State {
-        standing,
-        steps,
-        last,
-    };
-    all_paired(alloc, x, lowers.as_slice(), uppers.as_slice(), kept)
+    let (lowers, uppers) = (lowers.as_slice(), uppers.as_slice());
+    match all_paired_outlook(alloc, x, lowers, uppers)? {
+        Outlook::Overflow => Err(Halt::Overflow),
+        Outlook::False => Err(falsified(alloc, x, lowers, uppers, steps, last)),
+        Outlook::Open => {
+            let kept = rows_without(alloc, x, rows, steps, last)?;
+            all_paired(alloc, x, lowers, uppers, kept)
+        }
+    }
 }
 
-/// The rows without `x` that follow from those that stand.
-fn made_without(alloc: Global, x: u64, state: State) -> Result<State, Halt>
-    ensures { Ends result (made_without x state) }
+/// Eliminates `x`: the rows without it that follow from those that stand.
+#[tactic(auto, unfolding(crate::specs::Elimination::without))]
+pub(crate) fn without(alloc: Global, x: u64, state: State) -> Result<State, Halt>
+    ensures { Ends result (without x state) }
 {
     let State {
         standing,
@@ -266,28 +303,10 @@ fn made_without(alloc: Global, x: u64, state: State) -> Result<State, Halt>
                 steps,
                 last,
             };
-            by_equation(alloc, x, p, rows, cleared)
+            limited(by_equation(alloc, x, p, rows, cleared)?)
         }
         None => by_bounds(alloc, x, rows, steps, last),
     }
-}
-
-/// Overflow where too many rows stand.
-fn limited(state: State) -> Result<State, Halt>
-    ensures { Ends result (limited state) }
-{
-    if state.standing.as_slice().len() > LIMIT {
-        return Err(Halt::Overflow);
-    }
-    Ok(state)
-}
-
-/// Eliminates `x`.
-#[tactic(auto, unfolding(crate::specs::Elimination::without))]
-pub(crate) fn without(alloc: Global, x: u64, state: State) -> Result<State, Halt>
-    ensures { Ends result (without x state) }
-{
-    limited(made_without(alloc, x, state)?)
 }
 
 /// Eliminates the variables in order.
@@ -302,24 +321,24 @@ fn eliminated(alloc: Global, variables: &[u64], start: State) -> Result<State, H
 }
 
 /// Looks at a given row.
-fn given(row: &Row, number: u64, state: State) -> Result<State, Halt>
+fn given(row: &Row, number: u64, state: Indexed) -> Result<Indexed, Halt>
     ensures { Ends result (looked (record { number = number; row = row.now }) [] state) }
 {
     let row = row.clone()?;
-    looked(state, Standing { number, row }, &[])
+    state.looked(Standing { number, row })
 }
 
 /// Looks at the given rows in order.
-pub(crate) fn all_looked(rows: &[Row], start: State) -> Result<State, Halt>
-    ensures { Ends result (all_looked 1 rows.now start) }
+pub(crate) fn all_looked(alloc: Global, rows: &[Row]) -> Result<State, Halt>
+    ensures { Ends result (all_looked 1 rows.now (record { standing = []; steps = []; last = length rows.now })) }
 {
-    let mut state = start;
+    let mut state = Indexed::empty(alloc, Steps::new(alloc), rows.len() as u64);
     let mut number = 0;
     for row in rows {
         number = next(number)?;
         state = given(row, number, state)?;
     }
-    Ok(state)
+    Ok(state.into_state())
 }
 
 /// The variable put among others that ascend.
@@ -366,17 +385,6 @@ pub(crate) fn variables(alloc: Global, rows: &[Row]) -> Result<Vec<u64>, Memory>
     Ok(all)
 }
 
-/// The state in which the given rows are looked at.
-pub(crate) fn started(alloc: Global, rows: &[Row]) -> State
-    ensures { result ≡ record { standing = []; steps = []; last = length rows.now } }
-{
-    State {
-        standing: StandingRows::new(alloc),
-        steps: Steps::new(alloc),
-        last: rows.len() as u64,
-    }
-}
-
 /// Eliminates all variables of the rows.
 #[tactic(auto, unfolding(crate::specs::Elimination::elimination))]
 pub(crate) fn elimination(alloc: Global, rows: &[Row]) -> Result<State, Halt>
@@ -384,6 +392,6 @@ pub(crate) fn elimination(alloc: Global, rows: &[Row]) -> Result<State, Halt>
     ensures normal { result ≢ Err Halt.Memory → Each IsNormal rows.now }
 {
     let variables = variables(alloc, rows)?;
-    let state = all_looked(rows, started(alloc, rows))?;
+    let state = all_looked(alloc, rows)?;
     eliminated(alloc, variables.as_slice(), state)
 }

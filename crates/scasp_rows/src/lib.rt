@@ -5,7 +5,10 @@
 
 mod backward;
 mod elimination;
+mod indexed;
 pub mod laws;
+mod outlook;
+mod range;
 mod rows;
 mod samples;
 mod state;

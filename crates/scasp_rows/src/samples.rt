@@ -8,7 +8,7 @@ ghost use Rattle.scasp_rows.specs.Sampled.{Samples, sample_answer};
 ghost use Rattle.scasp_rows.specs.Samples.{alternatives, first_met, first_of, found, if_some, point_of, sample_of, strict, with_all, MeetsBoth, OnlyDisequations, value_in};
 
 use crate::backward::values_from;
-use crate::elimination::{all_looked, elimination, started, variables};
+use crate::elimination::{all_looked, elimination, variables};
 use crate::state::{Halt, State};
 use crate::steps::{push_times, whole_product};
 use crate::verdict::LinErr;
@@ -123,7 +123,7 @@ fn with_all(alloc: Global, rows: &[Row], differ: &[Rows]) -> Result<Option<Rows>
 fn point_of(alloc: Global, rows: &[Row]) -> Result<RatPairs, Halt>
     ensures { Ends result (point_of rows.now) }
 {
-    let state = all_looked(rows, started(alloc, rows))?;
+    let state = all_looked(alloc, rows)?;
     let variables = variables(alloc, rows)?;
     values_from(alloc, variables.as_slice(), state)
 }

@@ -1,8 +1,8 @@
 //! The rows that stand in an elimination.
-ghost use Rattle.std.specs.Prelude.{◌≡◌, IfOk};
+ghost use Rattle.std.specs.Prelude.{◌≡◌, ◌+◌, ◌++◌, [], ◌∷◌, IfOk};
 
 use scasp_list::{Memory, Sequence};
-use scasp_num::{Row, RowErr, Steps};
+use scasp_num::{Row, RowErr, Step, Steps};
 use std::alloc::AllocError;
 
 /// A row that stands, with its number: the given rows have the first numbers, from 1, and each row that a
@@ -84,4 +84,36 @@ pub(crate) fn copy(r: &Standing) -> Result<Standing, Memory>
         number: r.number,
         row: r.row.clone()?,
     })
+}
+
+/// The end by the steps that were made.
+pub(crate) fn unsat(state: State) -> Halt
+    ensures { result ≡ Halt.Unsat state.steps }
+{
+    let State { steps, .. } = state;
+    Halt::Unsat(steps)
+}
+
+/// The state with one more row that stands.
+pub(crate) fn with_row(mut state: State, r: Standing) -> Result<State, Memory>
+    ensures { IfOk result (λ s. s ≡ record { standing = state.standing ++ r ∷ []; steps = state.steps; last = state.last }) }
+{
+    state.standing.push(r)?;
+    Ok(state)
+}
+
+/// The number after this one.
+pub(crate) fn next(number: u64) -> Result<u64, Memory>
+    ensures { IfOk result (λ n. n ≡ number + 1) }
+{
+    number.checked_add(1).ok_or(Memory)
+}
+
+/// The state with one more step.
+pub(crate) fn with_step(mut state: State, step: Step) -> Result<State, Memory>
+    ensures { IfOk result (λ s. s ≡ record { standing = state.standing; steps = state.steps ++ step ∷ []; last = state.last + 1 }) }
+{
+    state.last = next(state.last)?;
+    state.steps.push(step)?;
+    Ok(state)
 }
