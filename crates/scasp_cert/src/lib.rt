@@ -5,8 +5,6 @@ mod certificate;
 mod copies;
 mod count;
 mod lists;
-#[cfg(test)]
-mod tests;
 mod tree;
 
 pub use certificate::{Cert, Check, Checks, Clash, Clashes};

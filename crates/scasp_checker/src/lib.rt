@@ -4,8 +4,6 @@
 mod acceptance;
 pub mod laws;
 mod refusal;
-#[cfg(test)]
-mod tests;
 mod verdict;
 
 pub use refusal::{CheckErr, Reason, Refusal};

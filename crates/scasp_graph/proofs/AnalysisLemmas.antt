@@ -441,14 +441,6 @@ module _ (program : Program) (preds : List Pred) (edges : List Edge) (members : 
           ap (λ k. list_any (nat_eq k) (odd_from preds members odd 1 program.clauses)) (sym e)
           ∙ odd-listed preds members odd 1 i r.0 program.clauses r.1.0 r.1.1
 
-pub levels-moved : (n m : ℕ) (es fs : List Edge) (ms ns : List Member) (ls : List ℕ) → n ≡ m → es ≡ fs → ms ≡ ns → AreLevels n es ms ls → AreLevels m fs ns ls
-levels-moved n m es fs ms ns ls a b c h =
-    subst (λ z. AreLevels z fs ns ls) a (subst (λ z. AreLevels n z ns ls) b (subst (λ z. AreLevels n es z ls) c h))
-
-pub odd-moved : (n m : ℕ) (es fs : List Edge) (ms ns : List Member) (odd : List Bool) → n ≡ m → es ≡ fs → ms ≡ ns → AreOdd n es ms odd → AreOdd m fs ns odd
-odd-moved n m es fs ms ns odd a b c h =
-    subst (λ z. AreOdd z fs ns odd) a (subst (λ z. AreOdd n z ns odd) b (subst (λ z. AreOdd n es z odd) c h))
-
 -- the ends of edges turned round are ends of the edges
 pub turned-below : (n : ℕ) (edges : List Edge) → EndsBelow n edges → EndsBelow n (map turned edges)
 turned-below n edges ends =

@@ -3,7 +3,9 @@ ghost use Rattle.std.specs.Prelude.{◌≡◌, ◌+◌, [], ◌∷◌, ◌++◌,
 ghost use Rattle.std.specs.List.{flat_map, list_any};
 ghost use Rattle.scasp_syntax.specs.Programs.{pred_of, body_preds, predicates};
 ghost use Rattle.scasp_graph.specs.Analyses.{IsAnalysis};
-ghost use Rattle.scasp_graph.specs.Components.{turned, root_of};
+ghost use Rattle.scasp_graph.specs.Components.{turned, root_of, AreComponents};
+ghost use Rattle.scasp_graph.specs.Graphs.{EndsBelow, IsGraph};
+ghost use Rattle.scasp_graph.specs.Levels.{AreLevels, AreOdd};
 ghost use Rattle.scasp_graph.specs.Numbering.{numbered_edge, root_in, entry_at, entries_from, is_odd_body, odd_from};
 ghost use Rattle.scasp_graph.specs.Walks.{item_dependencies, clause_dependencies, dependencies};
 
@@ -189,6 +191,44 @@ fn map_of(
     Ok(entries)
 }
 
+/// The components of a graph: the member that each node is, and for the root of each component its level and whether it is odd.
+#[derive(Drop)]
+struct Parts {
+    members: Vec<Member>,
+    levels: Vec<u64>,
+    odd: Vec<bool>,
+}
+
+/// The graph of the edges turned round.
+fn graph_behind(alloc: Global, size: usize, edges: &[Edge]) -> Result<Graph, Memory>
+    requires { EndsBelow size edges.now }
+    ensures graph { IfOk result (λ g. IsGraph g) }
+    ensures size { IfOk result (λ g. g.size ≡ size) }
+    ensures edges { IfOk result (λ g. g.edges.items ≡ map turned edges.now) }
+{
+    Graph::new(alloc, size, turned(alloc, edges)?)
+}
+
+/// The components of the graph of these edges.
+fn parts_of(alloc: Global, size: usize, edges: Vec<Edge>) -> Result<Parts, Memory>
+    requires { EndsBelow size edges.items }
+    ensures components { IfOk result (λ p. AreComponents size edges.items p.members.items) }
+    ensures levels { IfOk result (λ p. AreLevels size edges.items p.members.items p.levels.items) }
+    ensures odd { IfOk result (λ p. AreOdd size edges.items p.members.items p.odd.items) }
+{
+    let behind = graph_behind(alloc, size, &edges)?;
+    let ahead = Graph::new(alloc, size, edges)?;
+    let order = finishing_order(alloc, &ahead)?;
+    let members = find_components(alloc, &ahead, &behind, &order)?;
+    let levels = find_levels(alloc, &ahead, &order, &members)?;
+    let odd = find_odd(alloc, &ahead.edges, &members)?;
+    Ok(Parts {
+        members,
+        levels,
+        odd,
+    })
+}
+
 /// The odd rules and the map of the program.
 pub fn analyse(alloc: Global, program: &Program) -> Result<Analysis, Memory>
     ensures { IfOk result (λ a. IsAnalysis program.now a) }
@@ -196,13 +236,8 @@ pub fn analyse(alloc: Global, program: &Program) -> Result<Analysis, Memory>
     let numbers = number(alloc, program)?;
     let preds = numbers.predicates(alloc)?;
     let edges = edges_of(alloc, program, &numbers)?;
-    let behind = Graph::new(alloc, preds.len(), turned(alloc, &edges)?)?;
-    let ahead = Graph::new(alloc, preds.len(), edges)?;
-    let order = finishing_order(alloc, &ahead)?;
-    let members = find_components(alloc, &ahead, &behind, &order)?;
-    let levels = find_levels(alloc, &ahead, &order, &members)?;
-    let odd = find_odd(alloc, &ahead.edges, &members)?;
-    let odd_rules = odd_rules_of(alloc, program, &numbers, &members, &odd)?;
-    let map = map_of(alloc, &preds, &members, &levels, &odd)?;
+    let parts = parts_of(alloc, preds.len(), edges)?;
+    let odd_rules = odd_rules_of(alloc, program, &numbers, &parts.members, &parts.odd)?;
+    let map = map_of(alloc, &preds, &parts.members, &parts.levels, &parts.odd)?;
     Ok(Analysis { odd_rules, map })
 }

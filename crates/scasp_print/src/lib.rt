@@ -6,8 +6,6 @@ mod constraints;
 mod hints;
 mod names;
 mod terms;
-#[cfg(test)]
-mod tests;
 mod text;
 mod trees;
 

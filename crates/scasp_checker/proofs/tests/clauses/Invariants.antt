@@ -1,7 +1,0 @@
-use Rattle.std.proofs.Common.{IsTrue}
-use Rattle.std.specs.List.{list_all}
-use Rattle.scasp_syntax.specs.WellFormed.{is_clause_well_formed}
-use Rattle.scasp_checker.proofs.tests.clauses.Given as goal
-
-abbrev pub invariant-loop-head : goal.invariant-loop-head
-invariant-loop-head l = IsTrue (list_all is_clause_well_formed l.all)

@@ -1,0 +1,282 @@
+//! Certificates, and their blocks written out by hand.
+use crate::made::{certificate, nodes, terms};
+use scasp_cert::{Case, Cert, Check, Clash, Cover, Covers, Node, Nodes};
+use scasp_name::{Memory, NIL, NameId, Names, PAIR};
+use scasp_num::{Op, Rat, RatPair, RatPairs, Row, Step, StepLists};
+use scasp_print::print_cert;
+use scasp_samples::{Name, P, Q, R, S, T, atom, literal, map_of, one, pred};
+use scasp_syntax::{Con, Cons, Hint, Pred, PredMap, Term, Terms};
+use std::alloc::Global;
+use std::test::Fail;
+
+const FACT: &str = "answer 1.1 []
+sample []
+tree
+ pos p rule 1 []
+map p/0 0 +
+end
+";
+
+const EVEN_LOOP: &str = "answer 1.1 []
+sample []
+tree
+ pos p rule 1 []
+  neg q
+   rule 2
+    leaf 1
+     loop p at 1
+map p/0 0 +
+map q/0 0 -
+end
+";
+
+const ALL_FORMS: &str = "answer 2.1 [V0,[p,q|V1],[p],'not','it\\'s']
+given V0 \\= p
+given V1 \\= ok/2
+given num(V0)
+sample [p,[]]
+tree
+ pos p(V0,p) rule 3 [V0]
+  test V0 = p terms
+  neg -q
+   rule 4
+    split V0 \\= q
+     void rows [1*2+-3*4]
+     leaf 2
+      seen not q at 5
+   rule 5
+    head
+     loop not q at 1
+check 6
+ void same 1 [1*2+-3*4;1*2+-3*4,-1*5+6*7]
+clash 1 3 terms
+map -q/0 1 -
+end
+";
+
+const NUMBERS: &str = "answer 1.1 [V0,V1]
+given num(V0)
+given num(V1)
+given 4*V0+3*V1-1 #= 0
+given 5*V0-V1-2 #= 0
+given -V0+3 #< 0
+given V0-V1 #=< 0
+given 1 #<> 0
+sample [7/19,-3/19]
+tree
+ pos p rule 1 []
+map p/0 0 +
+end
+";
+
+/// The names `p`, `q`, `not`, `ok` and `it's`, from number 2.
+fn table(alloc: Global) -> Result<Names, Fail> {
+    let mut names = Names::new(alloc)?;
+    for text in ["p", "q", "not", "ok", "it's"] {
+        let _ = names.intern(text)?;
+    }
+    Ok(names)
+}
+
+fn constant(alloc: Global, name: Name) -> Term {
+    Term::App(NameId::new(name.place), Terms::new(alloc))
+}
+
+fn pair(alloc: Global, first: Term, rest: Term) -> Result<Term, Memory> {
+    let mut args = terms(alloc, first)?;
+    args.push(rest)?;
+    Ok(Term::App(PAIR, args))
+}
+
+/// The certificate of a line `p` by rule 1 with these lines below it.
+fn fact(alloc: Global, children: Nodes) -> Result<Cert, Memory> {
+    let node = Node::Pos {
+        atom: atom(alloc, P)?,
+        rule: 1,
+        terms: Terms::new(alloc),
+        children,
+    };
+    let mut cert = certificate(alloc, nodes(alloc, node)?);
+    cert.map = map_of(alloc, &[(P, 0, true)])?;
+    Ok(cert)
+}
+
+fn even_loop(alloc: Global) -> Result<Cert, Memory> {
+    let lit = literal(alloc, (true, P))?;
+    let children = nodes(alloc, Node::Loop { lit, at: 1 })?;
+    let mut covers = Covers::new(alloc);
+    covers.push(Cover {
+        rule: 2,
+        case: Case::Leaf { item: 1, children },
+    })?;
+    let atom = atom(alloc, Q)?;
+    let mut cert = fact(alloc, nodes(alloc, Node::Neg { atom, covers })?)?;
+    cert.map = map_of(alloc, &[(P, 0, true), (Q, 0, false)])?;
+    Ok(cert)
+}
+
+fn row(alloc: Global, summands: &[(u64, i128)], constant: i128, op: Op) -> Result<Con, Fail> {
+    let mut pairs = RatPairs::new(alloc);
+    for (x, number) in summands {
+        pairs.push(RatPair {
+            x: *x,
+            value: Rat::new(*number, 1)?,
+        })?;
+    }
+    let row = Row::normal(alloc, &pairs, &Rat::new(constant, 1)?, op)?;
+    Ok(Con::Row(row))
+}
+
+fn numbers(alloc: Global) -> Result<Cert, Fail> {
+    let mut cert = fact(alloc, Nodes::new(alloc))?;
+    for var in 0..2u64 {
+        cert.terms.push(Term::Var(var))?;
+        cert.given.push(Con::Num(Term::Var(var)))?;
+    }
+    let rows: [(&[(u64, i128)], i128, Op); 5] = [
+        (&[(0, 4), (1, 3)], -1, Op::Eq),
+        (&[(0, 5), (1, -1)], -2, Op::Eq),
+        (&[(0, -1)], 3, Op::Lt),
+        (&[(0, 1), (1, -1)], 0, Op::Le),
+        (&[], 1, Op::Ne),
+    ];
+    for (summands, constant, op) in rows {
+        cert.given.push(row(alloc, summands, constant, op)?)?;
+    }
+    cert.sample.push(Term::Num(Rat::new(7, 19)?))?;
+    cert.sample.push(Term::Num(Rat::new(-3, 19)?))?;
+    Ok(cert)
+}
+
+fn many_terms(alloc: Global) -> Result<Terms, Memory> {
+    let rest = pair(alloc, constant(alloc, Q), Term::Var(1))?;
+    let mut list = terms(alloc, Term::Var(0))?;
+    list.push(pair(alloc, constant(alloc, P), rest)?)?;
+    list.push(pair(alloc, constant(alloc, P), Term::App(NIL, Terms::new(alloc)))?)?;
+    list.push(constant(alloc, R))?;
+    list.push(constant(alloc, T))?;
+    Ok(list)
+}
+
+fn constraints(alloc: Global) -> Result<Cons, Memory> {
+    let mut given = Cons::new(alloc);
+    given.push(Con::NotShape(0, NameId::new(P.place), 0))?;
+    given.push(Con::NotShape(1, NameId::new(S.place), 2))?;
+    given.push(Con::Num(Term::Var(0)))?;
+    Ok(given)
+}
+
+const STEP: Step = Step {
+    a: 1,
+    p: 2,
+    b: -3,
+    q: 4,
+};
+
+fn split(alloc: Global) -> Result<Case, Memory> {
+    let hint = Hint::Rows(one(alloc, STEP)?);
+    let lit = literal(alloc, (false, Q))?;
+    let children = nodes(alloc, Node::Seen { lit, at: 5 })?;
+    Ok(Case::Split {
+        con: Con::Neq(Term::Var(0), constant(alloc, Q)),
+        first: Box::new(alloc, Case::Void { hint })?,
+        second: Box::new(alloc, Case::Leaf { item: 2, children })?,
+    })
+}
+
+fn all_covers(alloc: Global) -> Result<Covers, Memory> {
+    let lit = literal(alloc, (false, Q))?;
+    let children = nodes(alloc, Node::Loop { lit, at: 1 })?;
+    let mut covers = Covers::new(alloc);
+    covers.push(Cover {
+        rule: 4,
+        case: split(alloc)?,
+    })?;
+    covers.push(Cover {
+        rule: 5,
+        case: Case::Head { children },
+    })?;
+    Ok(covers)
+}
+
+fn step_lists(alloc: Global) -> Result<StepLists, Memory> {
+    let mut two = one(alloc, STEP)?;
+    two.push(Step {
+        a: -1,
+        p: 5,
+        b: 6,
+        q: 7,
+    })?;
+    let mut lists = one(alloc, one(alloc, STEP)?)?;
+    lists.push(two)?;
+    Ok(lists)
+}
+
+fn all_trees(alloc: Global) -> Result<Nodes, Memory> {
+    let test = Node::Test {
+        con: Con::Eq(Term::Var(0), constant(alloc, P)),
+        hint: Hint::Terms,
+    };
+    let mut denied = atom(alloc, Q)?;
+    denied.minus = true;
+    let covers = all_covers(alloc)?;
+    let mut children = nodes(alloc, test)?;
+    children.push(Node::Neg {
+        atom: denied,
+        covers,
+    })?;
+    let mut atom = atom(alloc, P)?;
+    atom.args = terms(alloc, Term::Var(0))?;
+    atom.args.push(constant(alloc, P))?;
+    nodes(
+        alloc,
+        Node::Pos {
+            atom,
+            rule: 3,
+            terms: terms(alloc, Term::Var(0))?,
+            children,
+        },
+    )
+}
+
+fn all_forms(alloc: Global) -> Result<Cert, Memory> {
+    let mut cert = certificate(alloc, all_trees(alloc)?);
+    cert.query = 2;
+    cert.terms = many_terms(alloc)?;
+    cert.given = constraints(alloc)?;
+    cert.sample.push(constant(alloc, P))?;
+    cert.sample.push(Term::App(NIL, Terms::new(alloc)))?;
+    let hint = Hint::Same(1, step_lists(alloc)?);
+    cert.checks.push(Check {
+        clause: 6,
+        case: Case::Void { hint },
+    })?;
+    cert.clashes.push(Clash {
+        first: 1,
+        second: 3,
+        hint: Hint::Terms,
+    })?;
+    let minus = true;
+    cert.map.push(PredMap {
+        pred: Pred { minus, ..pred(Q) },
+        level: 1,
+        plus: false,
+    })?;
+    Ok(cert)
+}
+
+#[test]
+fn certificates_are_written(rt: HostRuntime) -> Result<(), Fail> {
+    let alloc = rt.alloc();
+    let names = table(alloc)?;
+    let mut rows = Vec::new(alloc);
+    rows.push((fact(alloc, Nodes::new(alloc))?, FACT))?;
+    rows.push((even_loop(alloc)?, EVEN_LOOP))?;
+    rows.push((all_forms(alloc)?, ALL_FORMS))?;
+    rows.push((numbers(alloc)?, NUMBERS))?;
+    for (cert, block) in &rows {
+        let text = print_cert(alloc, &names, cert, 1)?;
+        assert!(rt; text.as_slice() == block.as_bytes());
+    }
+    Ok(())
+}
