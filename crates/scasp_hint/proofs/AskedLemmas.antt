@@ -21,7 +21,8 @@ use Rattle.scasp_list.proofs.EachLemmas.{Each-append}
 use Rattle.scasp_rows.proofs.Reaching.{false-holds}
 use Rattle.scasp_syntax.specs.Tm.{Tm, var, num, app}
 use Rattle.scasp_syntax.specs.Values.{Sub}
-use Rattle.scasp_unify.specs.Resolver.{unifies, resolver, Absorbs}
+use Rattle.scasp_unify.specs.Resolver.{unifies, resolver}
+use Rattle.scasp_unify.specs.Unification.{Absorbs}
 use Rattle.scasp_unify.specs.TermFailures.{fails_by_terms, is_refuted}
 use Rattle.scasp_unify.specs.Points.{through}
 use Rattle.scasp_unify.specs.PointMeets.{PointMeets}

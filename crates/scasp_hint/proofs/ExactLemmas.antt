@@ -23,7 +23,8 @@ use Rattle.scasp_syntax.specs.Tm.{Tm, var, num, app}
 use Rattle.scasp_syntax.specs.Values.{Sub, under}
 use Rattle.scasp_syntax.specs.View.{tm_of}
 use Rattle.scasp_unify.specs.Parts.{Part, parts}
-use Rattle.scasp_unify.specs.Resolver.{unifies, resolver, Absorbs}
+use Rattle.scasp_unify.specs.Resolver.{unifies, resolver}
+use Rattle.scasp_unify.specs.Unification.{Absorbs}
 use Rattle.scasp_unify.specs.Numbers.{number_var, is_number_term, is_num_of, is_among_numbers}
 use Rattle.scasp_unify.specs.Sorted.{In}
 use Rattle.scasp_unify.specs.Points.{read_as, through}
@@ -31,7 +32,8 @@ use Rattle.scasp_unify.specs.PointMeets.{PointMeets, PartsDiffer}
 use Rattle.scasp_syntax.specs.declared.con.Con.{Con}
 use Rattle.scasp_syntax.specs.declared.con.Con.TheVariants as con
 use Rattle.scasp_syntax.proofs.SameLemmas.{tm_decided}
-use Rattle.scasp_unify.proofs.ResolverLemmas.{resolved-twice, idempotent}
+use Rattle.scasp_unify.proofs.UnificationLemmas.{resolved-twice}
+use Rattle.scasp_unify.proofs.ResolverLemmas.{idempotent}
 use Rattle.scasp_unify.proofs.Members.{any-out}
 use Rattle.scasp_unify.proofs.PointLemmas.{holds-same}
 use Rattle.scasp_hint.specs.ExactRows.{difference, row_by, bindings, con_rows, rows_under, differences, if_among, disequation_by, con_differs, differing_in}

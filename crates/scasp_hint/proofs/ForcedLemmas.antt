@@ -29,8 +29,8 @@ use Rattle.scasp_syntax.specs.Tm.{Tm, var, num, app}
 use Rattle.scasp_syntax.specs.Values.{under}
 use Rattle.scasp_syntax.specs.View.{tm_of}
 use Rattle.scasp_unify.specs.Parts.{Part, parts, occurs}
-use Rattle.scasp_unify.specs.Unification.{term_vars}
-use Rattle.scasp_unify.specs.Resolver.{resolver, Absorbs}
+use Rattle.scasp_unify.specs.Unification.{term_vars, Absorbs}
+use Rattle.scasp_unify.specs.Resolver.{resolver}
 use Rattle.scasp_unify.specs.Numbers.{number_var, is_number_term, is_among_numbers}
 use Rattle.scasp_unify.specs.Points.{zero_number}
 use Rattle.scasp_unify.specs.ResolvedRows.{resolved_row}

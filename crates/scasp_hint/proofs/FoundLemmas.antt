@@ -26,7 +26,8 @@ use Rattle.scasp_syntax.specs.Tm.{Tm, var, num, app}
 use Rattle.scasp_syntax.specs.Values.{Sub, under}
 use Rattle.scasp_syntax.specs.View.{tm_of}
 use Rattle.scasp_unify.specs.Parts.{Part, parts}
-use Rattle.scasp_unify.specs.Resolver.{unifies, resolver, Absorbs}
+use Rattle.scasp_unify.specs.Resolver.{unifies, resolver}
+use Rattle.scasp_unify.specs.Unification.{Absorbs}
 use Rattle.scasp_syntax.specs.Constraints.{Sat}
 use Rattle.scasp_unify.specs.Numbers.{number_var, is_number_term, is_among_numbers}
 use Rattle.scasp_unify.specs.Sorted.{Sorted}

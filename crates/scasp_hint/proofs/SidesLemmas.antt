@@ -23,7 +23,8 @@ use Rattle.scasp_syntax.specs.Tm.{Tm, var, num, app}
 use Rattle.scasp_syntax.specs.Values.{under}
 use Rattle.scasp_syntax.specs.View.{tm_of}
 use Rattle.scasp_unify.specs.Parts.{Part, parts}
-use Rattle.scasp_unify.specs.Resolver.{resolver, Absorbs}
+use Rattle.scasp_unify.specs.Resolver.{resolver}
+use Rattle.scasp_unify.specs.Unification.{Absorbs}
 use Rattle.scasp_unify.specs.Numbers.{is_among_numbers}
 use Rattle.scasp_unify.specs.Points.{zero_number}
 use Rattle.scasp_unify.specs.PointMeets.{PointMeets, PartsDiffer}

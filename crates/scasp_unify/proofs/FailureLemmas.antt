@@ -10,8 +10,8 @@ use Rattle.scasp_syntax.specs.Values.{Sub, under, all_under}
 use Rattle.scasp_syntax.specs.View.{tm_of}
 use Rattle.scasp_syntax.specs.Constraints.{is_number, has_shape}
 use Rattle.scasp_unify.specs.Parts.{Part, parts, parts_each, part_if, occurs}
-use Rattle.scasp_unify.specs.Unification.{then_by}
-use Rattle.scasp_unify.specs.Resolver.{unifies, resolver, Equal, Absorbs}
+use Rattle.scasp_unify.specs.Unification.{then_by, Absorbs}
+use Rattle.scasp_unify.specs.Resolver.{unifies, resolver, Equal}
 use Rattle.scasp_unify.specs.Numbers.{counts, is_num_of, number_var, is_number_term, is_among_numbers}
 use Rattle.scasp_unify.specs.TermFailures.{is_refuted, fails_by_terms, is_identity, is_compound}
 use Rattle.scasp_unify.specs.Sorted.{In}
@@ -20,8 +20,8 @@ use Rattle.scasp_syntax.specs.declared.con.Con.{Con}
 use Rattle.scasp_syntax.specs.declared.con.Con.TheVariants as con
 use Rattle.scasp_syntax.proofs.SameLemmas.{tm_decided}
 use Rattle.scasp_syntax.proofs.ValueLemmas.{under-under, differ_decided}
-use Rattle.scasp_unify.proofs.UnificationLemmas.{Fits, Says, IfParts, both-fair, parts-say}
-use Rattle.scasp_unify.proofs.ResolverLemmas.{resolved-twice, complete-list, resolver-equal}
+use Rattle.scasp_unify.proofs.UnificationLemmas.{Fits, Says, IfParts, both-fair, parts-say, resolved-twice}
+use Rattle.scasp_unify.proofs.ResolverLemmas.{complete-list, resolver-equal}
 use Rattle.scasp_unify.proofs.Members.{or-left, or-right, any-in, none-in, not-false, each-in, any-out}
 
 -- ---- a part between terms that are not both numbers

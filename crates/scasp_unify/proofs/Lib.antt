@@ -1,11 +1,14 @@
 pub mod Choices
 pub mod FailureLemmas
+pub mod LaterParts
 pub mod Members
 pub mod NegationLemmas
 pub mod PointLemmas
 pub mod ResolvedRowLemmas
 pub mod ResolverLemmas
 pub mod SimpleLemmas
+pub mod SolvingLemmas
 pub mod SortedLemmas
+pub mod TermListLemmas
 pub mod UnificationLemmas
 pub mod ValuationLemmas

@@ -16,7 +16,7 @@ use Rattle.scasp_num.proofs.Joins.{merged-range, merged-Ascends, coefficient-ran
 use Rattle.scasp_num.proofs.Valuations.{put_of-holds, join_of-holds}
 use Rattle.scasp_syntax.specs.Tm.{Tm, var, num, app}
 use Rattle.scasp_syntax.specs.Values.{Sub, under}
-use Rattle.scasp_unify.specs.Resolver.{Absorbs}
+use Rattle.scasp_unify.specs.Unification.{Absorbs}
 use Rattle.scasp_unify.specs.Points.{read_as, through}
 use Rattle.scasp_unify.specs.ResolvedRows.{replaced_by, replaced_each, resolved_row}
 use Rattle.scasp_unify.proofs.PointLemmas.{holds-same}

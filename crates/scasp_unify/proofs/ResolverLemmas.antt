@@ -5,25 +5,12 @@ use Rattle.scasp_list.specs.Each.{Each}
 use Rattle.scasp_syntax.specs.Tm.{Tm, Tms, var, num, app, nil, cons}
 use Rattle.scasp_syntax.specs.Values.{Sub, under, all_under}
 use Rattle.scasp_syntax.specs.View.{tm_of}
-use Rattle.scasp_unify.specs.Unification.{then_by, unifier}
-use Rattle.scasp_unify.specs.Resolver.{taken, unifies, extended, resolver_after, resolver, Equal, Absorbs}
+use Rattle.scasp_unify.specs.Unification.{then_by, unifier, Absorbs}
+use Rattle.scasp_unify.specs.Resolver.{taken, unifies, extended, resolver_after, resolver, Equal}
 use Rattle.scasp_syntax.specs.declared.con.Con.{Con}
 use Rattle.scasp_syntax.specs.declared.con.Con.TheVariants as con
 use Rattle.scasp_syntax.proofs.ValueLemmas.{under-under}
-use Rattle.scasp_unify.proofs.UnificationLemmas.{unifier-solves, unifier-general}
-
-mutual
-  under-pointwise : (r s : Sub) (u : Tm) → ((y : ℕ) → r y ≡ s y) → under r u ≡ under s u
-  under-pointwise r s (var y) h = h y
-  under-pointwise r s (num q) h = refl
-  under-pointwise r s (app f us) h = ap (app f) (all_under-pointwise r s us h)
-
-  all_under-pointwise : (r s : Sub) (us : Tms) → ((y : ℕ) → r y ≡ s y) → all_under r us ≡ all_under s us
-  all_under-pointwise r s nil h = refl
-  all_under-pointwise r s (cons u us) h = let a = under-pointwise r s u h in let b = all_under-pointwise r s us h in cc
-
-pub resolved-twice : (v s : Sub) (t : Tm) → Absorbs v s → under v (under s t) ≡ under v t
-resolved-twice v s t h = under-under v s t ∙ under-pointwise (λ y. under v (s y)) v t h
+use Rattle.scasp_unify.proofs.UnificationLemmas.{unifier-solves, unifier-general, resolved-twice}
 
 -- the substitution that the list's equations make, where they have one, is one that v absorbs
 pub taken-general : (v s : Sub) (cs : List Con) → Absorbs v s → Each (Equal v) cs → (is_some (taken s cs) ≡ true) × Absorbs v (resolver_after s cs)

@@ -9,7 +9,7 @@ use Rattle.scasp_syntax.specs.Same.{same_number}
 use Rattle.scasp_syntax.specs.Tm.{Tm, Tms, var, num, app, nil, cons, weight, weight_s}
 use Rattle.scasp_syntax.specs.Values.{Sub, under, all_under}
 use Rattle.scasp_unify.specs.Parts.{Part, occurs, occurs_among, part_if, both_parts, parts, parts_each, left_side, right_side}
-use Rattle.scasp_unify.specs.Unification.{single, then_by, parts_under, solved, unifier, term_vars, terms_vars}
+use Rattle.scasp_unify.specs.Unification.{single, then_by, parts_under, solved, unifier, term_vars, terms_vars, Absorbs}
 use Rattle.scasp_syntax.proofs.SameLemmas.{tm_decided}
 use Rattle.scasp_syntax.proofs.ValueLemmas.{under-under}
 use Rattle.scasp_list.proofs.EachLemmas.{Each-left, Each-right, Each-append}
@@ -173,7 +173,7 @@ neither true b e = cc
 neither false b e = (refl, e)
 
 mutual
-  single-absent : (x : ℕ) (t u : Tm) → occurs x u ≡ false → under (single x t) u ≡ u
+  pub single-absent : (x : ℕ) (t u : Tm) → occurs x u ≡ false → under (single x t) u ≡ u
   single-absent x t (var y) e = by (nat_eq y x) refl
     where
       by : (b : Bool) → nat_eq y x ≡ b → (if b then t else var y) ≡ var y
@@ -190,7 +190,7 @@ mutual
       let b = single-absents x t us p.1 in cc
 
 mutual
-  absorbs-one : (v : Sub) (x : ℕ) (t u : Tm) → v x ≡ under v t → under v (under (single x t) u) ≡ under v u
+  pub absorbs-one : (v : Sub) (x : ℕ) (t u : Tm) → v x ≡ under v t → under v (under (single x t) u) ≡ under v u
   absorbs-one v x t (var y) e = by (nat_eq y x) refl
     where
       by : (b : Bool) → nat_eq y x ≡ b → under v (if b then t else var y) ≡ v y
@@ -331,22 +331,19 @@ under-says v g (q ∷ qs) =
 
 -- ---- solving
 
-abbrev pub Absorbs : Sub → Sub → Type 0
-Absorbs v s = (y : ℕ) → under v (s y) ≡ v y
-
-abbrev General : Sub → Option Sub → Type 0
+abbrev pub General : Sub → Option Sub → Type 0
 General v None = ⊥
 General v (Some s) = Absorbs v s
 
 mutual
-  absorbed : (v s : Sub) (u : Tm) → Absorbs v s → under v (under s u) ≡ under v u
-  absorbed v s (var y) h = h y
-  absorbed v s (num q) h = refl
-  absorbed v s (app f ts) h = ap (app f) (all-absorbed v s ts h)
+  pub resolved-twice : (v s : Sub) (u : Tm) → Absorbs v s → under v (under s u) ≡ under v u
+  resolved-twice v s (var y) h = h y
+  resolved-twice v s (num q) h = refl
+  resolved-twice v s (app f ts) h = ap (app f) (all-resolved-twice v s ts h)
 
-  all-absorbed : (v s : Sub) (us : Tms) → Absorbs v s → all_under v (all_under s us) ≡ all_under v us
-  all-absorbed v s nil h = refl
-  all-absorbed v s (cons u us) h = let a = absorbed v s u h in let b = all-absorbed v s us h in cc
+  all-resolved-twice : (v s : Sub) (us : Tms) → Absorbs v s → all_under v (all_under s us) ≡ all_under v us
+  all-resolved-twice v s nil h = refl
+  all-resolved-twice v s (cons u us) h = let a = resolved-twice v s u h in let b = all-resolved-twice v s us h in cc
 
 -- the sides of parts that v fits stay equal with x bound
 sides-bound : (v : Sub) (p : Part) (ps : List Part) → Fits v p → Each (Fits v) ps → Each (λ (q : Part). under v (under (Bound p) (left_side q)) ≡ under v (under (Bound p) (right_side q))) ps
@@ -367,23 +364,23 @@ solved-general (suc n) vs (p ∷ ps) v most fair fits =
   where
     last : (o : Option Sub) → General v o → General v (o >>= (λ s. Some (then_by (Bound p) s)))
     last None h = h
-    last (Some s) h = λ y. absorbed v s (Bound p y) h ∙ absorbs-one v p.at p.term (var y) fits.0
+    last (Some s) h = λ y. resolved-twice v s (Bound p y) h ∙ absorbs-one v p.at p.term (var y) fits.0
 
     by : (o : Option (List Part)) → Says v o (Each (λ (q : Part). under v (under (Bound p) (left_side q)) ≡ under v (under (Bound p) (right_side q))) ps) → IfParts o (Fair (without p.at vs)) → ((qs : List Part) → Each (Fair (without p.at vs)) qs → Each (Fits v) qs → General v (solved n qs)) → General v (o >>= (λ qs. solved n qs >>= (λ s. Some (then_by (Bound p) s))))
     by None says f rest = says (sides-bound v p ps fits.0 fits.1)
     by (Some qs) says f rest = last (solved n qs) (rest qs f (says.0 (sides-bound v p ps fits.0 fits.1)))
 
 -- what is found solves the parts
-abbrev Solves : List Part → Option Sub → Type 0
-Solves ps None = ⊤
-Solves ps (Some s) = Each (Fits s) ps
+abbrev pub SolvesEach : List Part → Option Sub → Type 0
+SolvesEach ps None = ⊤
+SolvesEach ps (Some s) = Each (Fits s) ps
 
 each-sides : (p : Part) (s : Sub) (ps : List Part) → Each (λ (q : Part). under s (under (Bound p) (left_side q)) ≡ under s (under (Bound p) (right_side q))) ps → Each (Fits (then_by (Bound p) s)) ps
 each-sides p s [] h = tt
 each-sides p s (q ∷ qs) h =
     (sides-fit (then_by (Bound p) s) q (sym (under-under s (Bound p) (left_side q)) ∙ h.0 ∙ under-under s (Bound p) (right_side q)), each-sides p s qs h.1)
 
-pub solved-solves : (n : ℕ) (vs : List ℕ) (ps : List Part) → Each (Fair vs) ps → Solves ps (solved n ps)
+pub solved-solves : (n : ℕ) (vs : List ℕ) (ps : List Part) → Each (Fair vs) ps → SolvesEach ps (solved n ps)
 solved-solves n vs [] fair = tt
 solved-solves zero vs (p ∷ ps) fair = tt
 solved-solves (suc n) vs (p ∷ ps) fair =
@@ -399,11 +396,11 @@ solved-solves (suc n) vs (p ∷ ps) fair =
         own true e = sym rest
         own false e = cc
 
-    last : (qs : List Part) (o : Option Sub) → ((s : Sub) → Says s (Some qs) (Each (λ (q : Part). under s (under (Bound p) (left_side q)) ≡ under s (under (Bound p) (right_side q))) ps)) → Solves qs o → Solves (p ∷ ps) (o >>= (λ s. Some (then_by (Bound p) s)))
+    last : (qs : List Part) (o : Option Sub) → ((s : Sub) → Says s (Some qs) (Each (λ (q : Part). under s (under (Bound p) (left_side q)) ≡ under s (under (Bound p) (right_side q))) ps)) → SolvesEach qs o → SolvesEach (p ∷ ps) (o >>= (λ s. Some (then_by (Bound p) s)))
     last qs None says h = tt
     last qs (Some s) says h = (here s, each-sides p s ps ((says s).1 h))
 
-    by : (o : Option (List Part)) → ((s : Sub) → Says s o (Each (λ (q : Part). under s (under (Bound p) (left_side q)) ≡ under s (under (Bound p) (right_side q))) ps)) → IfParts o (Fair (without p.at vs)) → ((qs : List Part) → Each (Fair (without p.at vs)) qs → Solves qs (solved n qs)) → Solves (p ∷ ps) (o >>= (λ qs. solved n qs >>= (λ s. Some (then_by (Bound p) s))))
+    by : (o : Option (List Part)) → ((s : Sub) → Says s o (Each (λ (q : Part). under s (under (Bound p) (left_side q)) ≡ under s (under (Bound p) (right_side q))) ps)) → IfParts o (Fair (without p.at vs)) → ((qs : List Part) → Each (Fair (without p.at vs)) qs → SolvesEach qs (solved n qs)) → SolvesEach (p ∷ ps) (o >>= (λ qs. solved n qs >>= (λ s. Some (then_by (Bound p) s))))
     by None says f rest = tt
     by (Some qs) says f rest = last qs (solved n qs) says (rest qs f)
 
@@ -440,7 +437,7 @@ pub unifier-solves : (t u : Tm) (s : Sub) → unifier t u ≡ Some s → under s
 unfolding unifier
 unifier-solves t u s e = by (parts t u) (parts-say s t u) (equation-fair t u) e
   where
-    last : (ps : List Part) (o : Option Sub) → o ≡ Some s → Solves ps o → Each (Fits s) ps
+    last : (ps : List Part) (o : Option Sub) → o ≡ Some s → SolvesEach ps o → Each (Fits s) ps
     last ps None f h = cc
     last ps (Some r) f h = let p : r ≡ s = cc in subst (λ (r : Sub). Each (Fits r) ps) p h
 

@@ -11,8 +11,8 @@ use Rattle.scasp_syntax.specs.Values.{Sub, Valuation, under, all_under, is_groun
 use Rattle.scasp_syntax.specs.View.{tm_of}
 use Rattle.scasp_syntax.specs.Constraints.{holds, is_number, Meets, Sat}
 use Rattle.scasp_unify.specs.Parts.{Part, parts}
-use Rattle.scasp_unify.specs.Unification.{then_by}
-use Rattle.scasp_unify.specs.Resolver.{unifies, resolver, Absorbs}
+use Rattle.scasp_unify.specs.Unification.{then_by, Absorbs}
+use Rattle.scasp_unify.specs.Resolver.{unifies, resolver}
 use Rattle.scasp_unify.specs.Numbers.{counts, is_num_of, number_var, is_number_term, is_among_numbers}
 use Rattle.scasp_unify.specs.TermFailures.{is_refuted, fails_by_terms}
 use Rattle.scasp_unify.specs.Sorted.{In, Sorted, apart, typed, partly, is_typed, is_typed_con}
@@ -21,8 +21,7 @@ use Rattle.scasp_unify.specs.Points.{number_of, point, read_as, through}
 use Rattle.scasp_unify.specs.PointMeets.{PartsDiffer, PointMeets}
 use Rattle.scasp_syntax.specs.declared.con.Con.{Con}
 use Rattle.scasp_syntax.specs.declared.con.Con.TheVariants as con
-use Rattle.scasp_unify.proofs.UnificationLemmas.{Fits, Says, parts-say}
-use Rattle.scasp_unify.proofs.ResolverLemmas.{resolved-twice}
+use Rattle.scasp_unify.proofs.UnificationLemmas.{Fits, Says, parts-say, resolved-twice}
 use Rattle.scasp_unify.proofs.FailureLemmas.{num-of, absorbed, complete, sound, counting}
 use Rattle.scasp_unify.proofs.PointLemmas.{bridge, holds-same, complete-row, point-through}
 use Rattle.scasp_syntax.proofs.ValueLemmas.{differ_decided}

@@ -7,6 +7,7 @@ pub mod Points
 pub mod ResolvedRows
 pub mod Resolver
 pub mod SimpleForm
+pub mod Solving
 pub mod Sorted
 pub mod TermFailures
 pub mod Unification

@@ -39,10 +39,6 @@ resolver_after s (con.Row r ∷ cs) = resolver_after s cs
 abbrev pub resolver : List Con → Sub
 resolver cs = resolver_after var cs
 
--- v goes on from s
-abbrev pub Absorbs : Sub → Sub → Type 0
-Absorbs v s = (y : ℕ) → under v (s y) ≡ v y
-
 -- the equations of the list hold
 abbrev pub Equal : Sub → Con → Type 0
 Equal v (con.Eq t u) = under v (tm_of t) ≡ under v (tm_of u)

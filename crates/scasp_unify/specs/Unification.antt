@@ -1,5 +1,5 @@
 -- Unification of two terms (Robinson 1965).
-use Rattle.std.specs.Prelude.{ℕ, zero, suc, nat_eq, if◌then◌else◌, List, [], ◌∷◌, ◌++◌, length, Option, None, Some}
+use Rattle.std.specs.Prelude.{◌≡◌, ℕ, zero, suc, nat_eq, if◌then◌else◌, List, [], ◌∷◌, ◌++◌, length, Option, None, Some}
 use Rattle.scasp_num.specs.Arithmetic.{◌>>=◌}
 use Rattle.scasp_syntax.specs.Tm.{Tm, Tms, var, num, app, nil, cons}
 use Rattle.scasp_syntax.specs.Values.{Sub, under}
@@ -38,3 +38,7 @@ abbrev mutual
 
 unfoldable pub unifier : Tm → Tm → Option Sub
 unifier t s = parts t s >>= solved (length (term_vars t ++ term_vars s))
+
+-- v goes on from s
+abbrev pub Absorbs : Sub → Sub → Type 0
+Absorbs v s = (y : ℕ) → under v (s y) ≡ v y

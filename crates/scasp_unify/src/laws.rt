@@ -18,11 +18,11 @@ ghost use Rattle.scasp_unify.specs.Numbers.{counts};
 ghost use Rattle.scasp_unify.specs.PointMeets.{PointMeets};
 ghost use Rattle.scasp_unify.specs.Points.{point, through};
 ghost use Rattle.scasp_unify.specs.ResolvedRows.{resolved_row};
-ghost use Rattle.scasp_unify.specs.Resolver.{Absorbs, Equal, resolver, unifies};
+ghost use Rattle.scasp_unify.specs.Unification.{Absorbs, unifier};
+ghost use Rattle.scasp_unify.specs.Resolver.{Equal, resolver, unifies};
 ghost use Rattle.scasp_unify.specs.SimpleForm.{simple, term_with};
 ghost use Rattle.scasp_unify.specs.Sorted.{In, Sorted, is_typed_con};
 ghost use Rattle.scasp_unify.specs.TermFailures.{fails_by_terms};
-ghost use Rattle.scasp_unify.specs.Unification.{unifier};
 
 /// The unifier of two terms makes them equal. And each substitution that makes them equal goes on from the unifier,
 /// so there is one.
