@@ -1,4 +1,5 @@
-use super::{Cells, Memory};
+//! Stacks: their steps, and which items are dropped when.
+use scasp_cells::Cells;
 use std::cell::Cell;
 use std::process::Abort;
 use std::rc::Rc;
@@ -143,24 +144,4 @@ fn drops(rt: HostRuntime) -> Result<(), Fail> {
     drop(cells);
     assert_eq!(rt; log.get(), 541326);
     Ok(())
-}
-
-// Pushes the numbers from `from` to a million, each at its own place.
-fn fill(rt: &impl Abort, cells: &mut Cells<u64>, from: u64) {
-    for item in from..1_000_000 {
-        assert!(rt; cells.len() < 1_000_000);
-        assert_eq!(rt; cells.push(item), Ok(item));
-    }
-}
-
-#[test]
-fn million(rt: HostRuntime) {
-    let mut cells = Cells::new(rt.alloc());
-    fill(&rt, &mut cells, 0);
-    assert!(rt; 500_000 <= cells.len());
-    cells.rewind(500_000);
-    assert!(rt; 500_000 <= cells.spare());
-    fill(&rt, &mut cells, 500_000);
-    assert!(rt; 999_999 < cells.len());
-    assert_eq!(rt; *cells.get(999_999), 999_999);
 }

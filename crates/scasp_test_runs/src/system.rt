@@ -1,9 +1,10 @@
+//! The edge to the system, over openers and writers made here.
 ghost use Rattle.std.specs.Prelude.{Some, None, if◌then◌else◌};
 ghost use Rattle.std.specs.Str.{bytes_eq};
 
-use crate::{Opener, SystemFiles, SystemSink, command_words};
+use crate::samples::sample;
 use scasp_io::{Files, ReadErr, SinkFault, read_file, write_all};
-use std::alloc::{AllocError, Global};
+use scasp_system::{Opener, SystemFiles, SystemSink, command_words};
 use std::io;
 use std::io::{Read, Write};
 use std::test::Fail;
@@ -65,17 +66,6 @@ impl<'a> Opener for Stuttering<'a> {
             reads: 0,
         })
     }
-}
-
-/// So many bytes, each other than the one before.
-fn sample(alloc: Global, length: u64) -> Result<Vec<u8>, AllocError> {
-    let mut bytes = Vec::new(alloc);
-    let mut next = 7u8;
-    for _ in 0..length {
-        bytes.push(next)?;
-        next = next.wrapping_add(13);
-    }
-    Ok(bytes)
 }
 
 #[test]
