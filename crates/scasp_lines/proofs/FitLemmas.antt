@@ -13,7 +13,7 @@ use Rattle.scasp_syntax.specs.declared.program.Program.{Program}
 use Rattle.scasp_cert.specs.Certificate.{Certificate}
 use Rattle.scasp_lines.specs.Known.{are_known, is_con_known}
 use Rattle.scasp_lines.specs.Said.{is_part_known, is_line_known, are_lines_known}
-use Rattle.scasp_lines.specs.Negations.{negated}
+use Rattle.scasp_unify.specs.Negations.{negated}
 use Rattle.scasp_lines.specs.Opened.{Opened, sets, shaped, assumed, is_part, knows, none_known, well}
 use Rattle.scasp_lines.specs.OpeningLaws.{OpeningFits, OpeningGrows}
 use Rattle.scasp_lines.specs.Openings.{Opening, unopened}

@@ -10,7 +10,7 @@ use Rattle.scasp_syntax.specs.Values.{Sub, is_ground, all_under}
 use Rattle.scasp_syntax.proofs.SameLemmas.{tm_decided}
 use Rattle.scasp_lines.specs.Opened.{Opened, ranges, shaped, assumed, is_part, is_met, sets, knows, none_known, fits, well, AllMet, IsInstance}
 use Rattle.scasp_lines.specs.Contexts.{AreInDomain, constraints_of, context}
-use Rattle.scasp_lines.specs.Negations.{new_parts}
+use Rattle.scasp_unify.specs.Negations.{new_parts}
 use Rattle.scasp_lines.specs.Ways.{set_to, set_all, shape_step, step, ways}
 use Rattle.scasp_lines.proofs.KnownLemmas.{agree-con}
 use Rattle.scasp_lines.proofs.PartLemmas.{set_to-ground, set_all-ground, nat-eq, nat-self, part-unknown, set-off, set-on, long-parts, pointwise}

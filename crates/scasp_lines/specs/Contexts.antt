@@ -6,7 +6,7 @@ use Rattle.scasp_syntax.specs.Tm.{Tm}
 use Rattle.scasp_syntax.specs.Values.{Sub}
 use Rattle.scasp_syntax.specs.declared.con.Con.{Con}
 use Rattle.scasp_syntax.specs.declared.term.Term.TheVariants.{Var, App}
-use Rattle.scasp_lines.specs.Negations.{new_parts}
+use Rattle.scasp_unify.specs.Negations.{new_parts}
 use Rattle.scasp_lines.specs.Opened.{Opened, ranges, shaped, assumed}
 use Rattle.scasp_syntax.specs.declared.con.Con.TheVariants as con
 

@@ -1,7 +1,4 @@
 pub mod Known
-pub mod Parts
-pub mod SimpleForm
-pub mod Negations
 pub mod Opened
 pub mod Contexts
 pub mod Ways

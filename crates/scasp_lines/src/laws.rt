@@ -26,7 +26,7 @@ ghost use Rattle.scasp_lines.specs.Descent.{Ends};
 ghost use Rattle.scasp_lines.specs.Dues.{due_of};
 ghost use Rattle.scasp_lines.specs.Known.{are_known, is_known};
 ghost use Rattle.scasp_lines.specs.Lines.{lines, setting, walk_of};
-ghost use Rattle.scasp_lines.specs.Negations.{negated};
+ghost use Rattle.scasp_unify.specs.Negations.{negated};
 ghost use Rattle.scasp_lines.specs.Numbering.{Counts, lines_of_part};
 ghost use Rattle.scasp_lines.specs.Opened.{IsInstance, Opened, knows, well, AllMet, AreUnknown};
 ghost use Rattle.scasp_lines.specs.OpeningLaws.{CoverGrows, CoverIsMet, OpeningFits, OpeningGrows, OpeningIsMet, OpeningSays};
