@@ -1,11 +1,11 @@
 -- From a stable model of the rules below a level to one of those below the next.
-use Rattle.std.proofs.Common.{◌≡◌, ◌∙◌, ℕ, suc, ◌<◌, Bool, false, not, nat_lt, nat_eq, List, [], ◌++◌, Some, ap, sym, subst, inl, inr, arith}
+use Rattle.std.proofs.Common.{◌≡◌, ◌∙◌, ℕ, suc, ◌<◌, Bool, false, not, nat_lt, nat_eq, List, [], Some, ap, sym, subst, inl, inr, arith}
 use Rattle.std.specs.List.{Contains, filter}
 use Rattle.std.proofs.lemmas.Bool.{true≢false, not-true, false_from_ne_true, cond-true, cond-false, cases_Bool, lt-ltb, ltb-true, ltb-false}
 use Rattle.std.proofs.lemmas.Bool.Decides.{Decides-eqb}
 use Rattle.scasp_syntax.specs.declared.atom.Atom.{Atom}
 use Rattle.scasp_model.specs.Levelled.{is_lower, read_lower, at_level, signed_model, with_level}
-use Rattle.scasp_model.specs.Programs.{head_is, rules_for}
+use Rattle.scasp_model.specs.Programs.{head_is}
 use Rattle.scasp_model.specs.Residual.{residual_of, residual}
 use Rattle.scasp_model.specs.Stable.{Stable}
 use Rattle.scasp_model.specs.declared.program.GroundClause.{GroundClause}

@@ -1,5 +1,5 @@
 -- Lists that are made by functions and tests that agree on the members.
-use Rattle.std.proofs.Common.{◌≡◌, ◌∷◌, ◌++◌, ◌∙◌, Bool, true, false, ◌||◌, cond, List, [], refl, inl, inr}
+use Rattle.std.proofs.Common.{◌≡◌, ◌∷◌, ◌++◌, Bool, true, false, cond, List, [], refl, inl, inr}
 use Rattle.std.specs.List.{Contains, list_any, filter, flat_map}
 use Rattle.std.proofs.lemmas.Bool.{cases_Bool}
 use Rattle.scasp_sound.proofs.ListLemmas.{Contains-here, Contains-there}

@@ -1,5 +1,5 @@
 -- The atoms with `+`, step by step: as many steps as there are rules are enough.
-use Rattle.std.proofs.Common.{◌≡◌, ◌∙◌, ◌⊎◌, ℕ, zero, suc, ◌+◌, ◌<◌, ◌≤◌, Bool, true, false, List, Option, None, Some, length, ap, sym, inl, inr, arith, add-zero, add-suc}
+use Rattle.std.proofs.Common.{◌≡◌, ◌∙◌, ◌⊎◌, ℕ, zero, suc, ◌+◌, ◌<◌, ◌≤◌, Bool, true, List, Option, None, Some, length, ap, sym, inl, inr, arith, add-zero, add-suc}
 use Rattle.std.specs.List.{count_by}
 use Rattle.std.proofs.lemmas.Bool.{false≢true, cases_Bool}
 use Rattle.std.proofs.lemmas.List.Sums.{count_by-le-length}

@@ -1,5 +1,5 @@
 -- What shows that a program supports the atoms of an answer.
-use Rattle.std.proofs.Common.{◌≡◌, ◌∙◌, Bool, true, false, ◌||◌, not, cond, List, [], Option, None, Some, refl, ap, sym, inl, inr}
+use Rattle.std.proofs.Common.{◌≡◌, ◌∙◌, Bool, true, false, ◌||◌, not, cond, List, [], refl, ap, sym, inl, inr}
 use Rattle.std.specs.List.{list_all, list_any}
 use Rattle.std.proofs.lemmas.Bool.{true≢false, false≢true, or_cases, not-true, not_from_false, false_from_ne_true, true_from_ne_false, cond-true, cond-false, cases_Bool}
 use Rattle.scasp_syntax.specs.Same.{same_atom}

@@ -1,6 +1,6 @@
 -- Each answer that the search meets first, for a program that was read, is right.
-use Rattle.std.proofs.Common.{◌≡◌, ◌∙◌, ℕ, Bool, true, ◌&&◌, ◌==◌, is_some, IsTrue, List, [], ◌∷◌, Option, None, Some, map, refl, ap, sym, subst}
-use Rattle.std.specs.List.{Contains, list_all}
+use Rattle.std.proofs.Common.{◌≡◌, ◌∙◌, ℕ, true, ◌&&◌, ◌==◌, is_some, IsTrue, List, [], Option, None, Some, map, refl, ap}
+use Rattle.std.specs.List.{list_all}
 use Rattle.std.proofs.lemmas.Bool.{and_parts, and_from}
 use Rattle.scasp_syntax.specs.Programs.{numbered}
 use Rattle.scasp_syntax.specs.declared.atom.Atom.{Atom}
