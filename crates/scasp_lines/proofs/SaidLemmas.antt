@@ -12,13 +12,13 @@ use Rattle.scasp_cert.specs.Certificate.{Certificate}
 use Rattle.scasp_cert.specs.Instances.{Said}
 use Rattle.scasp_cert.specs.Trees.{Tree, pos_tree, neg_tree, loop_tree, seen_tree, test_tree}
 use Rattle.scasp_lines.specs.Known.{is_known, are_known}
-use Rattle.scasp_lines.specs.Said.{said_by_node, said_by_part, said_by_line, said, atoms_of, is_closed_over, is_node_known, is_part_known, is_line_known, are_lines_known, SaysAt}
+use Rattle.scasp_lines.specs.Said.{are_in, said_by_node, said_by_part, said_by_line, said, atoms_of, is_closed_over, is_node_known, is_part_known, is_line_known, are_lines_known, SaysAt}
 use Rattle.scasp_lines.specs.Opened.{knows, well}
 use Rattle.scasp_lines.specs.Walk.{Part, of_node, of_rule, of_check, of_case, Line}
 use Rattle.scasp_lines.specs.Lines.{free_of, lines}
 use Rattle.scasp_lines.specs.Ways.{ways}
 use Rattle.scasp_lines.proofs.KnownLemmas.{agree-tm, agree-tms}
-use Rattle.scasp_lines.proofs.ListLemmas.{Contains-map, Contains-from_map, Contains-flat_map, Contains-from_flat_map, Contains-filter, Contains-from_filter, list_all-member}
+use Rattle.scasp_lines.proofs.ListLemmas.{Contains-map, Contains-from_map, Contains-flat_map, Contains-from_flat_map, Contains-filter, Contains-from_filter, list_all-from, list_all-member}
 use Rattle.scasp_lines.proofs.WaysLemmas.{way-is_instance, instance-has_way}
 
 -- ---- what a part says depends on what is known alone
@@ -80,8 +80,11 @@ module _ (p : Program) (c : Certificate) (known : are_lines_known p c ≡ true) 
       (Contains-flat_map (λ v. said_by_part v l.part) (ways d l.here.opened free) w.0 s w.1 (subst (λ (ss : List Said). Contains ss s) (sym same) a.says))
 
   -- a term that a line lists at an instance has its value in a domain that is closed
-  pub closed-terms : is_closed_over p c free d ≡ true → (s : Said) → SaysAt p c free d s → list_all (λ t. list_any (same_tm t) d) s.terms ≡ true
-  closed-terms h s a = list_all-member (λ (s : Said). list_all (λ t. list_any (same_tm t) d) s.terms) (said p c free d) s h (line-said s a)
+  pub closed-terms : is_closed_over p c free d ≡ true → (s : Said) → SaysAt p c free d s → are_in d s.terms ≡ true
+  closed-terms h s a = list_all-member (λ (s : Said). are_in d s.terms) (said p c free d) s h (line-said s a)
+
+  pub closed-from : ((s : Said) → SaysAt p c free d s → are_in d s.terms ≡ true) → is_closed_over p c free d ≡ true
+  closed-from f = list_all-from (λ (s : Said). are_in d s.terms) (said p c free d) (λ s h. f s (said-at_line s h))
 
 -- ---- atoms
 

@@ -9,12 +9,15 @@ use Rattle.scasp_syntax.specs.Values.{giving}
 use Rattle.scasp_syntax.specs.declared.atom.Atom.{Atom}
 use Rattle.scasp_syntax.specs.declared.clause.Clause.{Clause}
 use Rattle.scasp_syntax.specs.declared.clause.FlatItem.{FlatItem}
+use Rattle.scasp_syntax.specs.declared.clause.Query.{Query}
 use Rattle.scasp_syntax.specs.declared.con.Con.{Con}
-use Rattle.scasp_cert.specs.Trees.{Tree, pos_tree, neg_tree, Branch, split, leaf, Trees, Branches, no_tree, tree, head, no_branch, branch}
+use Rattle.scasp_syntax.specs.declared.program.Program.{Program}
+use Rattle.scasp_cert.specs.Certificate.{Certificate}
+use Rattle.scasp_cert.specs.Trees.{Tree, pos_tree, neg_tree, Branch, split, leaf, Trees, Branches, no_tree, tree, head, no_branch, branch, listed}
 use Rattle.scasp_lines.specs.Bodies.{Body, split_body, inside_rule, inside_check}
 use Rattle.scasp_lines.specs.Dues.{Due, goal, due_of, values_here}
-use Rattle.scasp_lines.specs.Lines.{walk_of}
-use Rattle.scasp_lines.specs.Places.{Place, below_literal, within_case}
+use Rattle.scasp_lines.specs.Lines.{lines, setting, walk_of}
+use Rattle.scasp_lines.specs.Places.{Place, below_literal, within_case, start}
 use Rattle.scasp_lines.specs.Sides.{sides}
 use Rattle.scasp_lines.specs.Walk.{of_node, of_rule, of_check, of_case, Line, Setting}
 
@@ -103,3 +106,10 @@ pub record HasBelow (s : Setting) (l : Line) : Type 0 where
   pub sides_of : HasSides s l
   pub false_item : HasFalseItem s l
   pub head_of : HasHead s l
+
+-- each item of the query has its node
+abbrev pub HasQueryItems : Program → Certificate → Type 0
+HasQueryItems p c =
+    (q : Query) → numbered p.queries c.query ≡ Some q → count (listed c.trees) ≡ length (flat_body q.body)
+    → (i : FlatItem) → Contains (flat_body q.body) i
+    → HasNode (lines p c) (start (setting p.clauses c).top) (due_of (giving (items c.terms)) true i)

@@ -6,7 +6,7 @@ use Rattle.scasp_syntax.specs.Values.{Sub, is_ground}
 use Rattle.scasp_cert.specs.Trees.{Branch, split, void, leaf, head}
 use Rattle.scasp_lines.specs.Bodies.{Body}
 use Rattle.scasp_lines.specs.Lines.{walk_of}
-use Rattle.scasp_lines.specs.Opened.{is_met, knows}
+use Rattle.scasp_lines.specs.Opened.{knows, AllMet}
 use Rattle.scasp_lines.specs.Walk.{of_case, Line, Setting}
 
 -- the case is not split
@@ -35,6 +35,6 @@ pub record Ends (s : Setting) (d : List Tm) (l : Line) (body : Body) (v : Sub) :
   pub ends : IsTrue (is_end last)
   pub alike : SameBody own body
   pub by : Sub
-  pub met : IsTrue (list_all (is_met d by) line.here.opened)
+  pub met : AllMet d by line.here.opened
   pub same : (x : ℕ) → IsTrue (knows s.free l.here.opened x) → by x ≡ v x
   pub ground : ((x : ℕ) → IsTrue (is_ground (v x))) → (x : ℕ) → IsTrue (is_ground (by x))

@@ -1,5 +1,5 @@
 -- What opened on the way to a line, the innermost first, and when values are an instance of it.
-use Rattle.std.specs.Prelude.{◌≡◌, ℕ, zero, suc, Bool, true, false, ◌&&◌, ◌||◌, not, nat_eq, nat_lt, IsTrue, List, [], ◌∷◌}
+use Rattle.std.specs.Prelude.{◌≡◌, ℕ, zero, suc, ◌<◌, ◌≤◌, Bool, true, false, ◌&&◌, ◌||◌, not, nat_eq, nat_lt, IsTrue, IsFalse, List, [], ◌∷◌}
 use Rattle.std.specs.List.{list_all, list_any}
 use Rattle.scasp_syntax.specs.Constraints.{holds}
 use Rattle.scasp_syntax.specs.Same.{same_tm}
@@ -27,6 +27,10 @@ is_met d v (ranges x) = list_any (same_tm (v x)) d
 is_met d v (shaped x f k n) = same_tm (v x) (app f (all_under v (new_parts k n)))
 is_met d v (assumed c) = holds v c
 
+-- all that opened is met
+abbrev pub AllMet : List Tm → Sub → List Opened → Type 0
+AllMet d v os = IsTrue (list_all (is_met d v) os)
+
 -- the entry gives the variable a value
 abbrev pub sets : Opened → ℕ → Bool
 sets (ranges y) x = nat_eq x y
@@ -37,6 +41,10 @@ sets (assumed c) x = false
 abbrev pub knows : ℕ → List Opened → ℕ → Bool
 knows n [] x = nat_lt x n
 knows n (o ∷ os) x = sets o x || knows n os x
+
+-- no variable from the next one on is known, up to the top
+abbrev pub AreUnknown : ℕ → List Opened → ℕ → ℕ → Type 0
+AreUnknown n os next top = (y : ℕ) → next ≤ y → y < top → IsFalse (knows n os y)
 
 -- none of so many variables from k on is known
 abbrev pub none_known : (ℕ → Bool) → ℕ → ℕ → Bool
@@ -57,4 +65,4 @@ well n (o ∷ os) = well n os && fits n os o
 -- the values are those of the n free variables, and meet what opened
 pub record IsInstance (n : ℕ) (d : List Tm) (free : Sub) (os : List Opened) (v : Sub) : Type 0 where
   pub free_values : (x : ℕ) → IsTrue (nat_lt x n) → v x ≡ free x
-  pub met : IsTrue (list_all (is_met d v) os)
+  pub met : AllMet d v os

@@ -5,7 +5,7 @@ use Rattle.scasp_syntax.specs.Tm.{Tm}
 use Rattle.scasp_syntax.specs.Values.{Sub, under, is_ground}
 use Rattle.scasp_lines.specs.Covers.{Cover, value_of}
 use Rattle.scasp_lines.specs.Known.{is_known}
-use Rattle.scasp_lines.specs.Opened.{Opened, is_met, knows, well}
+use Rattle.scasp_lines.specs.Opened.{Opened, knows, well, AllMet, AreUnknown}
 use Rattle.scasp_lines.specs.Openings.{Opening, bound_to}
 
 -- What opened is well, the next parts are new, and what the head's variables stand for is known.
@@ -16,7 +16,7 @@ pub record OpeningFits (n : ℕ) (o : Opening) : Type 0 where
 
 -- The values meet what opened, and give the head's variables the terms of s.
 pub record OpeningSays (d : List Tm) (s : Sub) (o : Opening) (v : Sub) : Type 0 where
-  pub met : IsTrue (list_all (is_met d v) o.opened)
+  pub met : AllMet d v o.opened
   pub says : (x : ℕ) (t : Tm) → bound_to o.bound x ≡ Some t → under v t ≡ s x
 
 -- From o to q more opened: that fits, the parts are numbered upwards, what was known is, and of what was not known only new parts are.
@@ -36,7 +36,7 @@ pub record OpeningIsMet (n : ℕ) (d : List Tm) (s : Sub) (o q : Opening) (v : S
 -- The same of a cover, where no universal from the next one on is known below a number that none of them reaches.
 pub record CoverFits (n top : ℕ) (c : Cover) : Type 0 where
   pub well : IsTrue (well n c.opened)
-  pub unseen : (y : ℕ) → c.next ≤ y → y < top → IsFalse (knows n c.opened y)
+  pub unseen : AreUnknown n c.opened c.next top
   pub known : (x : ℕ) (t : Tm) → bound_to c.bound x ≡ Some t → IsTrue (is_known (knows n c.opened) t)
 
 -- From c to e more universals opened: that fits, they are numbered upwards, what was known is, and from the next one on no more is.
@@ -47,13 +47,13 @@ pub record CoverGrows (n top : ℕ) (c e : Cover) : Type 0 where
   pub only : (y : ℕ) → e.next ≤ y → IsFalse (knows n c.opened y) → IsFalse (knows n e.opened y)
 
 pub record CoverSays (d : List Tm) (s : Sub) (c : Cover) (v : Sub) : Type 0 where
-  pub met : IsTrue (list_all (is_met d v) c.opened)
+  pub met : AllMet d v c.opened
   pub says : (x : ℕ) (t : Tm) → bound_to c.bound x ≡ Some t → under v t ≡ s x
 
 -- Some values that agree with v on what was known meet all that opened at the cover, and give each of the clause's variables the term of s.
 pub record CoverIsMet (n : ℕ) (d : List Tm) (s : Sub) (vars : ℕ) (before : List Opened) (c : Cover) (v : Sub) : Type 0 where
   pub by : Sub
-  pub met : IsTrue (list_all (is_met d by) c.opened)
+  pub met : AllMet d by c.opened
   pub same : (x : ℕ) → IsTrue (knows n before x) → by x ≡ v x
   pub values : (x : ℕ) → x < vars → under by (value_of c.bound x) ≡ s x
   pub ground : IsTrue (list_all is_ground d) → ((x : ℕ) → IsTrue (is_ground (v x))) → (x : ℕ) → IsTrue (is_ground (by x))

@@ -54,9 +54,13 @@ true_atoms p c free d = atoms_of true (said p c free d)
 abbrev pub false_atoms : Program → Certificate → Sub → List Tm → List Atom
 false_atoms p c free d = atoms_of false (said p c free d)
 
+-- the domain has each of the terms
+abbrev pub are_in : List Tm → List Tm → Bool
+are_in d ts = list_all (λ t. list_any (same_tm t) d) ts
+
 -- each term that is listed for a variable of a rule has its value in d
 abbrev pub are_terms_in : List Tm → List Said → Bool
-are_terms_in d ss = list_all (λ s. list_all (λ t. list_any (same_tm t) d) s.terms) ss
+are_terms_in d ss = list_all (λ s. are_in d s.terms) ss
 
 abbrev pub is_closed_over : Program → Certificate → Sub → List Tm → Bool
 is_closed_over p c free d = are_terms_in d (said p c free d)

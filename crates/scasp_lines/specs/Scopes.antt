@@ -8,7 +8,7 @@ use Rattle.scasp_cert.specs.Trees.{Branch, split, void, leaf, head}
 use Rattle.scasp_lines.specs.Bodies.{Body}
 use Rattle.scasp_lines.specs.Known.{is_known, is_con_known}
 use Rattle.scasp_lines.specs.Lines.{free_of, lines}
-use Rattle.scasp_lines.specs.Opened.{knows, well}
+use Rattle.scasp_lines.specs.Opened.{knows, well, AreUnknown}
 use Rattle.scasp_lines.specs.Places.{Place}
 use Rattle.scasp_lines.specs.Said.{is_node_known}
 use Rattle.scasp_lines.specs.Sides.{Shape, shape_of}
@@ -53,7 +53,7 @@ are_lines_scoped p c = list_all (is_line_scoped (free_of c)) (lines p c)
 pub record PlaceFits (s : Setting) (here : Place) (next : ℕ) : Type 0 where
   pub well : IsTrue (well s.free here.opened)
   pub unseen : (y : ℕ) → here.hidden ≤ y → IsFalse (knows s.free here.opened y)
-  pub to_come : (y : ℕ) → next ≤ y → y < s.top → IsFalse (knows s.free here.opened y)
+  pub to_come : AreUnknown s.free here.opened next s.top
   pub above : s.top ≤ here.hidden
 
 -- what the body's variables stand for has known variables

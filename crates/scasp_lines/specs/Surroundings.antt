@@ -6,7 +6,7 @@ use Rattle.scasp_syntax.specs.Values.{Sub, under}
 use Rattle.scasp_syntax.specs.declared.atom.Atom.{Atom}
 use Rattle.scasp_cert.specs.Trees.{Tree, pos_tree, neg_tree, loop_tree, seen_tree, test_tree}
 use Rattle.scasp_lines.specs.Bodies.{Body}
-use Rattle.scasp_lines.specs.Opened.{Opened, is_met}
+use Rattle.scasp_lines.specs.Opened.{Opened, AllMet}
 use Rattle.scasp_lines.specs.Places.{Above, Around, Place}
 use Rattle.scasp_lines.specs.Walk.{Part, of_node, of_rule, of_check, of_case, Line}
 
@@ -17,7 +17,7 @@ pub record Extends (os ps : List Opened) : Type 0 where
 
 -- what each variable is replaced by has the variable's value wherever what opened is met
 abbrev pub IsReplaced : Place → Type 0
-IsReplaced here = (d : List Tm) (v : Sub) → IsTrue (list_all (is_met d v) here.opened) → (x : ℕ) → v x ≡ under v (here.replaced x)
+IsReplaced here = (d : List Tm) (v : Sub) → AllMet d v here.opened → (x : ℕ) → v x ≡ under v (here.replaced x)
 
 -- a line of a positive or a negated literal with this atom
 abbrev pub IsNodeOf : Tree → Bool → Atom → Type 0
