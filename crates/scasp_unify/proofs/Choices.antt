@@ -1,6 +1,6 @@
 -- Values for the unbound variables of a list: numbers for those that have a num, names of their own for the others.
 use Rattle.std.specs.Prelude.{◌≡◌, ℕ, ◌<◌, ◌≤◌, Bool, true, false, ◌&&◌, nat_lt, IsTrue, List, Option, None, Some, ⊤}
-use Rattle.scasp_num.specs.Linear.{Each}
+use Rattle.scasp_list.specs.Each.{Each}
 use Rattle.scasp_syntax.specs.Constraints.{holds, is_number}
 use Rattle.scasp_syntax.specs.Tm.{Tm, Tms, var, num, app, nil, cons}
 use Rattle.scasp_syntax.specs.Values.{Sub, under}

@@ -2,7 +2,8 @@
 use Rattle.std.proofs.Common.{◌≡◌, ◌⊎◌, inl, inr, ℕ, suc, ◌<◌, Bool, true, false, ◌&&◌, ◌||◌, not, nat_eq, nat_lt, if◌then◌else◌, List, [], ◌∷◌, length, Option, None, Some, refl, sym, ap, subst, ◌∙◌, arith}
 use Rattle.std.specs.List.{list_any}
 use Rattle.std.proofs.lemmas.Bool.{or_cases, and_parts, eqb-true, eqb-false, ltb-true, true≢false}
-use Rattle.scasp_num.specs.Linear.{Each}
+use Rattle.scasp_list.specs.Each.{Each}
+use Rattle.scasp_list.proofs.EachLemmas.{Each-map}
 use Rattle.scasp_syntax.specs.Same.{same_number}
 use Rattle.scasp_syntax.specs.Tm.{Tm, Tms, var, num, app, nil, cons, items}
 use Rattle.scasp_syntax.specs.Values.{Sub, under, all_under}
@@ -21,7 +22,7 @@ use Rattle.scasp_syntax.proofs.SameLemmas.{tm_decided}
 use Rattle.scasp_syntax.proofs.ValueLemmas.{under-under, differ_decided}
 use Rattle.scasp_unify.proofs.UnificationLemmas.{Fits, Says, IfParts, both-fair, parts-say}
 use Rattle.scasp_unify.proofs.ResolverLemmas.{resolved-twice, complete-list, resolver-equal}
-use Rattle.scasp_unify.proofs.Members.{or-left, or-right, any-in, none-in, not-false, each-map, each-in, any-out}
+use Rattle.scasp_unify.proofs.Members.{or-left, or-right, any-in, none-in, not-false, each-in, any-out}
 
 -- ---- a part between terms that are not both numbers
 
@@ -202,7 +203,7 @@ equal-by v (con.NotNum t) k = tt
 equal-by v (con.Row r) k = tt
 
 pub absorbed : (cs : List Con) (v : Sub) → Each (TermsHold v) cs → Absorbs v (resolver cs)
-absorbed cs v h = (complete-list v cs (each-map (TermsHold v) (Equal v) cs (equal-by v) h)).1
+absorbed cs v h = (complete-list v cs (Each-map (TermsHold v) (Equal v) (equal-by v) cs h)).1
 
 pub sound : (cs : List Con) (v : Sub) → Each (TermsHold v) cs → fails_by_terms cs ≡ false
 sound cs v h = neither (unifies cs) (list_any (is_refuted cs) cs) solved.0 (none-of (is_refuted cs) cs refuted)
@@ -216,7 +217,7 @@ sound cs v h = neither (unifies cs) (list_any (is_refuted cs) cs) solved.0 (none
     equal (con.Row r) k = tt
 
     solved : (unifies cs ≡ true) × Absorbs v (resolver cs)
-    solved = complete-list v cs (each-map (TermsHold v) (Equal v) cs equal h)
+    solved = complete-list v cs (Each-map (TermsHold v) (Equal v) equal cs h)
 
     neither : (a b : Bool) → a ≡ true → b ≡ false → (not a || b) ≡ false
     neither true b e f = f
@@ -281,7 +282,7 @@ pub counting : (some cs : List Con) (x : ℕ) → Each (λ c. In c cs) some → 
 counting some cs x within e h = by (or_cases (is_number (resolver some x)) (list_any (is_num_of (resolver some) (resolver some x)) some) h)
   where
     absorbs : Absorbs (resolver cs) (resolver some)
-    absorbs = (complete-list (resolver cs) some (each-map (λ c. In c cs) (Equal (resolver cs)) some (λ c i. each-in (Equal (resolver cs)) c cs (resolver-equal cs e) i) within)).1
+    absorbs = (complete-list (resolver cs) some (Each-map (λ c. In c cs) (Equal (resolver cs)) (λ c i. each-in (Equal (resolver cs)) c cs (resolver-equal cs e) i) some within)).1
 
     stays : (z : Tm) → resolver some x ≡ z → is_number z ≡ true → is_number (resolver cs x) ≡ true
     stays (var y) same k = cc

@@ -2,21 +2,9 @@
 use Rattle.std.proofs.Common.{◌≡◌, ◌⊎◌, inl, inr, Bool, true, false, ◌||◌, not, List, [], ◌∷◌, ◌++◌, refl, sym, ap, subst, ◌∙◌}
 use Rattle.std.specs.List.{list_all, list_any}
 use Rattle.std.proofs.lemmas.Bool.{and_from, and_parts, or_cases, true≢false}
-use Rattle.scasp_num.specs.Linear.{Each}
+use Rattle.scasp_list.specs.Each.{Each}
 use Rattle.scasp_unify.specs.Sorted.{In}
 use Rattle.scasp_syntax.specs.declared.con.Con.{Con}
-
-pub Each-left : {A : Type 0} (P : A → Type 0) (xs ys : List A) → Each P (xs ++ ys) → Each P xs
-Each-left P [] ys h = tt
-Each-left P (x ∷ xs) ys h = (h.0, Each-left P xs ys h.1)
-
-pub Each-right : {A : Type 0} (P : A → Type 0) (xs ys : List A) → Each P (xs ++ ys) → Each P ys
-Each-right P [] ys h = h
-Each-right P (x ∷ xs) ys h = Each-right P xs ys h.1
-
-pub Each-append : {A : Type 0} (P : A → Type 0) (xs ys : List A) → Each P xs → Each P ys → Each P (xs ++ ys)
-Each-append P [] ys h k = k
-Each-append P (x ∷ xs) ys h k = (h.0, Each-append P xs ys h.1 k)
 
 pub or-left : (a b : Bool) → a ≡ true → (a || b) ≡ true
 or-left true b e = refl
@@ -45,10 +33,6 @@ none-in p c cs i e = by (p c) refl
 pub not-false : (b c : Bool) → (not b || c) ≡ false → (b ≡ true) × (c ≡ false)
 not-false true c e = (refl, e)
 not-false false c e = cc
-
-pub each-map : (P Q : Con → Type 0) (cs : List Con) → ((c : Con) → P c → Q c) → Each P cs → Each Q cs
-each-map P Q [] f h = tt
-each-map P Q (c ∷ cs) f h = (f c h.0, each-map P Q cs f h.1)
 
 pub each-in : (P : Con → Type 0) (c : Con) (cs : List Con) → Each P cs → In c cs → P c
 each-in P c [] h i = absurd i

@@ -5,7 +5,8 @@ use Rattle.std.proofs.lemmas.Bool.{or_cases, true≢false}
 use Rattle.std.proofs.lemmas.Int.{ints}
 use Rattle.scasp_num.specs.declared.linear.Coeff.{Coeff}
 use Rattle.scasp_num.specs.Number.{Number}
-use Rattle.scasp_num.specs.Linear.{Linear, Each, Compares, negation}
+use Rattle.scasp_num.specs.Linear.{Linear, Compares, negation}
+use Rattle.scasp_list.specs.Each.{Each}
 use Rattle.scasp_num.proofs.Valuations.{negation-holds}
 use Rattle.scasp_num.specs.Values.{row_sum, Holds}
 use Rattle.scasp_num.proofs.Comparing.{compares-true, compares-is}

@@ -5,7 +5,8 @@ use Rattle.std.proofs.lemmas.Bool.Decides.{Decides-eqb}
 use Rattle.scasp_num.specs.declared.linear.Coeff.{Coeff}
 use Rattle.scasp_num.specs.Number.{Number, InRange}
 use Rattle.scasp_num.specs.Arithmetic.{◌>>=◌, within}
-use Rattle.scasp_num.specs.Linear.{Linear, Each, IsNormal, normal_form, coefficient, others_times, put_constant, put_of, merged, join_of}
+use Rattle.scasp_num.specs.Linear.{Linear, IsNormal, normal_form, coefficient, others_times, put_constant, put_of, merged, join_of}
+use Rattle.scasp_list.specs.Each.{Each}
 use Rattle.scasp_num.specs.Values.{Holds, with_value}
 use Rattle.scasp_num.proofs.Numbers.{within-some}
 use Rattle.scasp_num.proofs.Exact.{bind-some}

@@ -1,7 +1,7 @@
 -- The equations of a list, and what a valuation makes of its constraints resolved.
 use Rattle.std.proofs.Common.{◌≡◌, ℕ, true, List, [], ◌∷◌, Option, None, Some, is_some, refl, sym, ap, subst, ◌∙◌}
 use Rattle.scasp_num.specs.Arithmetic.{◌>>=◌}
-use Rattle.scasp_num.specs.Linear.{Each}
+use Rattle.scasp_list.specs.Each.{Each}
 use Rattle.scasp_syntax.specs.Tm.{Tm, Tms, var, num, app, nil, cons}
 use Rattle.scasp_syntax.specs.Values.{Sub, under, all_under}
 use Rattle.scasp_syntax.specs.View.{tm_of}

@@ -3,7 +3,8 @@ use Rattle.std.proofs.Common.{◌≡◌, ◌⊎◌, inl, inr, ℕ, Bool, true, f
 use Rattle.std.specs.List.{list_all, list_any}
 use Rattle.std.proofs.lemmas.Bool.{and_from, and_parts, true≢false}
 use Rattle.scasp_num.specs.declared.linear.Coeff.{Coeff}
-use Rattle.scasp_num.specs.Linear.{Linear, Each, negated, negation}
+use Rattle.scasp_num.specs.Linear.{Linear, negated, negation}
+use Rattle.scasp_list.specs.Each.{Each}
 use Rattle.scasp_num.specs.Number.{Number}
 use Rattle.scasp_syntax.specs.Tm.{Tm, var, num, app}
 use Rattle.scasp_syntax.specs.Values.{Sub, under}
@@ -22,14 +23,15 @@ use Rattle.scasp_syntax.specs.declared.term.Term.TheVariants.{Var}
 use Rattle.scasp_unify.proofs.ResolverLemmas.{complete-list, resolver-equal}
 use Rattle.scasp_unify.proofs.FailureLemmas.{counting}
 use Rattle.scasp_unify.proofs.ValuationLemmas.{valuation, chosen, chosen-name, list_bound, some-meets, meets-point}
-use Rattle.scasp_unify.proofs.Members.{Each-append, or-left, or-right, each-in, each-map, not-false, each-self, all-from, all-in, in-front, in-last, in-either}
+use Rattle.scasp_list.proofs.EachLemmas.{Each-append, Each-map}
+use Rattle.scasp_unify.proofs.Members.{or-left, or-right, each-in, not-false, each-self, all-from, all-in, in-front, in-last, in-either}
 
 fronts : (cs ds some : List Con) → Each (λ c. In c cs) some → Each (λ c. In c (cs ++ ds)) some
-fronts cs ds some h = each-map (λ c. In c cs) (λ c. In c (cs ++ ds)) some (λ c i. in-front c cs ds i) h
+fronts cs ds some h = Each-map (λ c. In c cs) (λ c. In c (cs ++ ds)) (λ c i. in-front c cs ds i) some h
 
 -- what unifies with more in it unifies
 pub superset : (some cs : List Con) → Each (λ c. In c cs) some → unifies cs ≡ true → unifies some ≡ true
-superset some cs within e = (complete-list (resolver cs) some (each-map (λ c. In c cs) (Equal (resolver cs)) some (λ c i. each-in (Equal (resolver cs)) c cs (resolver-equal cs e) i) within)).0
+superset some cs within e = (complete-list (resolver cs) some (Each-map (λ c. In c cs) (Equal (resolver cs)) (λ c i. each-in (Equal (resolver cs)) c cs (resolver-equal cs e) i) some within)).0
 
 all-count : (some cs : List Con) (ks : List Coeff) → ((x : ℕ) → counts some x ≡ true → counts cs x ≡ true) → list_all (λ k. counts some k.x) ks ≡ true → list_all (λ k. counts cs k.x) ks ≡ true
 all-count some cs [] h e = refl

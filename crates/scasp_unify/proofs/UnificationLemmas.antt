@@ -4,7 +4,7 @@ use Rattle.std.specs.Prelude.{⊤}
 use Rattle.std.proofs.lemmas.Bool.{or_cases, eqb-true, eqb-false, true≢false}
 use Rattle.std.proofs.lemmas.Bool.Decides.{Decides-eqb}
 use Rattle.scasp_num.specs.Arithmetic.{◌>>=◌}
-use Rattle.scasp_num.specs.Linear.{Each}
+use Rattle.scasp_list.specs.Each.{Each}
 use Rattle.scasp_syntax.specs.Same.{same_number}
 use Rattle.scasp_syntax.specs.Tm.{Tm, Tms, var, num, app, nil, cons, weight, weight_s}
 use Rattle.scasp_syntax.specs.Values.{Sub, under, all_under}
@@ -12,7 +12,8 @@ use Rattle.scasp_unify.specs.Parts.{Part, occurs, occurs_among, part_if, both_pa
 use Rattle.scasp_unify.specs.Unification.{single, then_by, parts_under, solved, unifier, term_vars, terms_vars}
 use Rattle.scasp_syntax.proofs.SameLemmas.{tm_decided}
 use Rattle.scasp_syntax.proofs.ValueLemmas.{under-under}
-use Rattle.scasp_unify.proofs.Members.{Each-left, Each-right, Each-append, or-left, or-right}
+use Rattle.scasp_list.proofs.EachLemmas.{Each-left, Each-right, Each-append}
+use Rattle.scasp_unify.proofs.Members.{or-left, or-right}
 
 abbrev pub Fits : Sub → Part → Type 0
 Fits v p = v p.at ≡ under v p.term
@@ -432,7 +433,7 @@ mutual
     | inr p ↦ has-behind x (term_vars t) (terms_vars ts) (all-in-vars ts x p)
   ]
 
-equation-fair : (t u : Tm) → IfParts (parts t u) (Fair (term_vars t ++ term_vars u))
+pub equation-fair : (t u : Tm) → IfParts (parts t u) (Fair (term_vars t ++ term_vars u))
 equation-fair t u = parts-fair (term_vars t ++ term_vars u) t u (λ x e. has-front x (term_vars t) (term_vars u) (in-vars t x e)) (λ x e. has-behind x (term_vars t) (term_vars u) (in-vars u x e))
 
 pub unifier-solves : (t u : Tm) (s : Sub) → unifier t u ≡ Some s → under s t ≡ under s u

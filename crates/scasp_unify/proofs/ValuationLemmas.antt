@@ -3,7 +3,8 @@ use Rattle.std.proofs.Common.{◌≡◌, inl, inr, ℕ, suc, ◌+◌, ◌≤◌,
 use Rattle.std.specs.List.{list_all, list_any}
 use Rattle.std.proofs.lemmas.Bool.{and_from, and_parts, lt-ltb, true≢false}
 use Rattle.scasp_num.specs.declared.linear.Coeff.{Coeff}
-use Rattle.scasp_num.specs.Linear.{Each}
+use Rattle.scasp_list.specs.Each.{Each}
+use Rattle.scasp_list.proofs.EachLemmas.{Each-map}
 use Rattle.scasp_num.specs.Number.{Number}
 use Rattle.scasp_syntax.specs.Tm.{Tm, Tms, var, num, app, nil, cons}
 use Rattle.scasp_syntax.specs.Values.{Sub, Valuation, under, all_under, is_ground, are_ground}
@@ -25,7 +26,7 @@ use Rattle.scasp_unify.proofs.ResolverLemmas.{resolved-twice}
 use Rattle.scasp_unify.proofs.FailureLemmas.{num-of, absorbed, complete, sound, counting}
 use Rattle.scasp_unify.proofs.PointLemmas.{bridge, holds-same, complete-row, point-through}
 use Rattle.scasp_syntax.proofs.ValueLemmas.{differ_decided}
-use Rattle.scasp_unify.proofs.Members.{each-in, each-map, any-out, not-false, all-from, all-in, each-self}
+use Rattle.scasp_unify.proofs.Members.{each-in, any-out, not-false, all-from, all-in, each-self}
 
 -- ---- a number above all names of a list, resolved
 
@@ -158,7 +159,7 @@ some-meets some cs p within types e met = all-from (holds v) some one
     v = then_by (resolver cs) (chosen cs p k)
 
     terms : (c : Con) → In c cs → TermsHold v c
-    terms c i = complete cs k (chosen cs p k) e (named-list (resolver cs) k cs (omega arith)) (choice cs p k) (each-map (PointMeets cs p) (Apart cs (chosen cs p k)) cs (apart-by cs p k) met) c i
+    terms c i = complete cs k (chosen cs p k) e (named-list (resolver cs) k cs (omega arith)) (choice cs p k) (Each-map (PointMeets cs p) (Apart cs (chosen cs p k)) (apart-by cs p k) cs met) c i
 
     all-count : (ks : List Coeff) → list_all (λ k. counts some k.x) ks ≡ true → Each (λ k. counts cs k.x ≡ true) ks
     all-count [] f = tt

@@ -1,6 +1,6 @@
 -- When a rational point meets what a list of constraints says of numbers.
 use Rattle.std.specs.Prelude.{◌≡◌, ℕ, true, List, Option, None, Some, ⊤}
-use Rattle.scasp_num.specs.Linear.{Each}
+use Rattle.scasp_list.specs.Each.{Each}
 use Rattle.scasp_num.specs.Number.{Number}
 use Rattle.scasp_num.specs.Values.{Holds}
 use Rattle.scasp_syntax.specs.Values.{under}

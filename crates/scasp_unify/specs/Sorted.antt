@@ -1,7 +1,7 @@
 -- The lists of constraints of which it is decided whether they have a valuation.
 use Rattle.std.specs.Prelude.{◌≡◌, ◌⊎◌, Bool, true, false, IsTrue, List, [], ◌∷◌}
 use Rattle.std.specs.List.{list_all}
-use Rattle.scasp_num.specs.Linear.{Each}
+use Rattle.scasp_list.specs.Each.{Each}
 use Rattle.scasp_syntax.specs.Constraints.{Sat}
 use Rattle.scasp_syntax.specs.declared.con.Con.{Con}
 use Rattle.scasp_syntax.specs.declared.con.Con.TheVariants as con

@@ -1,7 +1,8 @@
 //! What holds of unification, and of lists of constraints.
 ghost use Rattle.std.specs.Prelude.{◌≡◌, ◌↔◌, ℕ, true, false, not, IsTrue, List, [], ◌∷◌, ◌++◌, Some};
 ghost use Rattle.std.specs.List.{list_all};
-ghost use Rattle.scasp_num.specs.Linear.{Each, IsNormal, Linear, negation};
+ghost use Rattle.scasp_list.specs.Each.{Each};
+ghost use Rattle.scasp_num.specs.Linear.{IsNormal, Linear, negation};
 ghost use Rattle.scasp_num.specs.Number.{Number};
 ghost use Rattle.scasp_num.specs.Values.{Holds};
 ghost use Rattle.scasp_syntax.specs.Constraints.{Entails, Meets, Sat, holds};

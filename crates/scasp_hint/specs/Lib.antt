@@ -1,0 +1,8 @@
+pub mod AskedRows
+pub mod ExactRows
+pub mod Examples
+pub mod Finding
+pub mod PlainRows
+pub mod Satisfying
+pub mod Showing
+pub mod Sides
