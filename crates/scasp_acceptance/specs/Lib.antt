@@ -16,3 +16,5 @@ pub mod ExampleWords
 pub mod LoopExamples
 pub mod UniversalExamples
 pub mod RowExamples
+pub mod ClashExamples
+pub mod AnswerExamples
