@@ -5,3 +5,7 @@ pub mod PairLemmas
 pub mod AcceptedLemmas
 pub mod ScopeLemmas
 pub mod OlderLemmas
+pub mod NormalityLemmas
+pub mod HintLemmas
+pub mod ApartLemmas
+pub mod ListLemmas

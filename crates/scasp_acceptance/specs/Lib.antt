@@ -18,3 +18,4 @@ pub mod UniversalExamples
 pub mod RowExamples
 pub mod ClashExamples
 pub mod AnswerExamples
+pub mod Normality
