@@ -21,8 +21,6 @@ use std::fmt;
 mod cells;
 mod place;
 mod segment;
-#[cfg(test)]
-mod tests;
 
 pub use cells::Cells;
 

@@ -5,7 +5,7 @@ use Rattle.std.proofs.lemmas.Bool.{and_parts, and_from}
 use Rattle.std.proofs.lemmas.Bool.Decides.{nat_tests}
 use Rattle.scasp_syntax.specs.Flat.{flat_body}
 use Rattle.scasp_syntax.specs.Instances.{atom_under, head_under}
-use Rattle.scasp_syntax.specs.Programs.{numbered, pred_of, is_rule_of}
+use Rattle.scasp_syntax.specs.Programs.{numbered, pred_of, is_rule_of, predicates}
 use Rattle.scasp_syntax.specs.Same.{same_atom, same_pred}
 use Rattle.scasp_syntax.specs.Tm.{Tm, Tms, nil, cons, items}
 use Rattle.scasp_syntax.specs.Values.{Sub, all_under, giving, are_ground}
@@ -24,6 +24,7 @@ use Rattle.scasp_cert.specs.Trees.{Tree, Trees, pos_tree, neg_tree, loop_tree, s
 use Rattle.scasp_cert.specs.declared.certificate.Clash.{Clash}
 use Rattle.scasp_checker.specs.Accepted.{asks, IsInstance, IsByRule, IsAccepted, AreAccepted, Accepts}
 use Rattle.scasp_checker.specs.Faults.{wants, of_some, faults_of_some, is_positive_call, is_atom_of, is_instance, own_faults, count, count_faults, items_of, faults_at, faults_below, is_empty, clash_faults, query_faults, faults}
+use Rattle.scasp_checker.specs.MapEntries.{is_map_over}
 use Rattle.scasp_checker.specs.declared.refusal.Reason.{Reason}
 use Rattle.scasp_checker.specs.declared.refusal.Reason.TheVariants as reason
 use Rattle.scasp_checker.specs.declared.refusal.Refusal.{Refusal}
@@ -187,7 +188,7 @@ no_clash-from : (ks : List Clash) → flat_map clash_faults ks ≡ [] → ks ≡
 no_clash-from [] e = refl
 no_clash-from (k ∷ ks) e = cc
 
-query-accepted : (p : Program) (c : Certificate) (q : Query) → numbered p.queries c.query ≡ Some q → query_faults p.clauses c q ≡ [] → Accepts p c
+query-accepted : (p : Program) (c : Certificate) (q : Query) → numbered p.queries c.query ≡ Some q → query_faults p c q ≡ [] → Accepts p c
 query-accepted p c q e f =
     let m = both_none _ _ f in
     let s = both_none _ _ m.0 in
@@ -207,10 +208,10 @@ query-accepted p c q e f =
       no_check = empty-is c.checks (wants-holds _ reason.WrongNode _ k.1);
       no_clash = no_clash-from c.clashes l.1;
       sample = wants-holds 0 reason.Sample _ s.1;
-      no_map = empty-is c.map (wants-holds 0 reason.WrongMap _ m.1);
+      map = wants-holds 0 reason.WrongMap _ m.1;
     }
 
-query-none : (p : Program) (c : Certificate) (h : Accepts p c) → query_faults p.clauses c h.query ≡ []
+query-none : (p : Program) (c : Certificate) (h : Accepts p c) → query_faults p c h.query ≡ []
 query-none p c h =
     none_and_none _ _
     (none_and_none _ _
@@ -224,15 +225,15 @@ query-none p c h =
     (wants-none (1 + lines_below (listed c.trees)) reason.WrongNode (is_empty c.checks) (ap is_empty h.no_check)))
     (ap (flat_map clash_faults) h.no_clash))
     (wants-none 0 reason.Sample (are_ground c.sample) h.sample))
-    (wants-none 0 reason.WrongMap (is_empty c.map) (ap is_empty h.no_map))
+    (wants-none 0 reason.WrongMap (is_map_over (predicates p) c.map) h.map)
 
 pub accepted-no_fault : (p : Program) (c : Certificate) → Accepts p c ↔ (faults p c ≡ [])
 accepted-no_fault p c = (
   λ h. none_and_none _ _
       (wants-none 0 reason.WrongQuery (of_some (numbered p.queries c.query) (λ q. true)) (of_some-from (numbered p.queries c.query) (λ q. true) h.query h.named refl))
-      (ap (λ o. faults_of_some o (query_faults p.clauses c)) h.named ∙ query-none p c h),
+      (ap (λ o. faults_of_some o (query_faults p c)) h.named ∙ query-none p c h),
   λ f.
       let b = both_none _ _ f in
       let q = of_some-parts (numbered p.queries c.query) (λ q. true) (wants-holds 0 reason.WrongQuery _ b.0) in
-      query-accepted p c q.0 q.1 (sym (ap (λ o. faults_of_some o (query_faults p.clauses c)) q.1) ∙ b.1),
+      query-accepted p c q.0 q.1 (sym (ap (λ o. faults_of_some o (query_faults p c)) q.1) ∙ b.1),
 )

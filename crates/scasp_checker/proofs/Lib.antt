@@ -5,5 +5,6 @@ pub mod FaultLemmas
 pub mod FoundedLines
 pub mod GroundTerms
 pub mod Judging
+pub mod MapKeeping
 pub mod Soundness
 pub mod VerdictLemmas

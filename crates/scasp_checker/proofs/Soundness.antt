@@ -1,7 +1,7 @@
 -- An accepted certificate keeps its promise.
-use Rattle.std.proofs.Common.{◌≡◌, ◌∙◌, true, not, cond, is_some, List, [], ◌∷◌, ◌++◌, Option, Some, None, map, refl, ap, sym, subst}
-use Rattle.std.specs.List.{Contains, list_all, flat_map, filter}
-use Rattle.std.proofs.lemmas.Bool.{and_parts, and_from, cond-true, cond-false}
+use Rattle.std.proofs.Common.{◌≡◌, ◌∙◌, true, false, not, cond, nat_eq, List, [], ◌∷◌, ◌++◌, map, refl, ap, sym, subst}
+use Rattle.std.specs.List.{Contains, list_all, list_any, flat_map, filter}
+use Rattle.std.proofs.lemmas.Bool.{false≢true, and_parts, and_from, cond-true, cond-false}
 use Rattle.std.proofs.lemmas.List.{append-nil}
 use Rattle.scasp_syntax.specs.Flat.{flat_body}
 use Rattle.scasp_syntax.specs.Instances.{atom_under, head_under}
@@ -17,26 +17,29 @@ use Rattle.scasp_syntax.specs.declared.clause.Item.{Item}
 use Rattle.scasp_syntax.specs.declared.clause.Item.TheVariants as item
 use Rattle.scasp_syntax.specs.declared.program.Program.{Program}
 use Rattle.scasp_syntax.proofs.SameLemmas.{atom_decided}
-use Rattle.scasp_graph.specs.Map.{MapHolds, is_positive_item, is_positive_rule}
-use Rattle.scasp_graph.proofs.MapLemmas.{empty_map_holds}
+use Rattle.scasp_graph.specs.Map.{MapHolds}
 use Rattle.scasp_model.specs.Atoms.{among}
-use Rattle.scasp_model.specs.Grounding.{choices, ground_program, instances, instance_of, is_test_true, literal_under}
-use Rattle.scasp_model.specs.Programs.{is_positive, is_without_not, is_headless}
+use Rattle.scasp_model.specs.Grounding.{ground_program}
+use Rattle.scasp_model.specs.Levelled.{levelled_model}
+use Rattle.scasp_model.specs.Programs.{is_positive}
+use Rattle.scasp_model.specs.Residual.{residual}
 use Rattle.scasp_model.specs.declared.program.GroundClause.{GroundClause}
 use Rattle.scasp_cert.specs.Certificate.{Certificate}
 use Rattle.scasp_cert.specs.Instances.{Said, said, said_at, said_below, true_atoms, false_atoms, is_closed_over}
 use Rattle.scasp_cert.specs.Trees.{listed}
-use Rattle.scasp_sound.specs.Existence.{is_without_denials}
-use Rattle.scasp_sound.specs.Good.{Good, GoodAt, Extendable, holds_by, query_values}
+use Rattle.scasp_sound.specs.Good.{Good, GoodAt, GoodRight, Extendable, holds_by, query_values}
 use Rattle.scasp_sound.specs.Support.{Founded, Supports, Joins}
-use Rattle.scasp_sound.proofs.ExistenceLemmas.{residual-has_stable}
 use Rattle.scasp_sound.proofs.JoinLemmas.{joined}
+use Rattle.scasp_sound.proofs.LevelInduction.{levelled-stable}
 use Rattle.scasp_sound.proofs.ListLemmas.{Contains-here, Contains-there, Contains-map, Contains-from_map, Contains-from_flat_map, Contains-filter, Contains-from_filter, list_all-from, list_all-member, list_any-from, list_any-member}
 use Rattle.scasp_sound.proofs.SupportLemmas.{Supports-founded}
 use Rattle.scasp_checker.specs.Accepted.{Accepts, AreAccepted}
+use Rattle.scasp_checker.specs.MapLevels.{level_of, plus_of, NoneLeft}
+use Rattle.scasp_checker.specs.Verdicts.{covered}
 use Rattle.scasp_checker.proofs.Calls.{IsCalls, accepted_calls, are_calls, flat-calls}
 use Rattle.scasp_checker.proofs.FoundedLines.{IsFounded, trees-founded, say_dues, are_closed}
 use Rattle.scasp_checker.proofs.GroundTerms.{atom_under-atom_under}
+use Rattle.scasp_checker.proofs.MapKeeping.{left-keeps}
 
 -- an item of a positive body holds where its atom is true
 pub holds-calls : (t f : List Atom) (s : Sub) (ls : List Lit) → is_positive ls ≡ true → ((l : Lit) → Contains ls l → among t (atom_under s l.atom) ≡ true)
@@ -116,38 +119,20 @@ module _ (p : Program) (c : Certificate) (h : Accepts p c) (v : Sub) (d : List T
 pub accepted-good : (p : Program) (c : Certificate) → Accepts p c → Good p c
 accepted-good p c h = λ v m d is w. good_at p c h v.of d w
 
-positive-literals : (s : Sub) (body : List Item) → list_all is_positive_item body ≡ true → is_positive (flat_map (literal_under s) body) ≡ true
-positive-literals s [] h = refl
-positive-literals s (item.Call l ∷ body) h =
-    let p = and_parts l.positive (list_all is_positive_item body) h in
-    and_from l.positive (is_positive (flat_map (literal_under s) body)) p.0 (positive-literals s body p.1)
-positive-literals s (item.Equal t u ∷ body) h = positive-literals s body h
-positive-literals s (item.Differ t u ∷ body) h = positive-literals s body h
-positive-literals s (item.Linear l ∷ body) h = positive-literals s body h
+-- nothing is covered where there is no check, and so nothing of it is left
+none-covered : (p : Program) (c : Certificate) (d : List Tm) (t f : List Atom) → c.checks ≡ [] → NoneLeft p (covered c) d t f
+none-covered p c d t f e = λ number clause is named. let none : false ≡ true = sym (ap (λ ks. list_any (nat_eq number) (map (λ k. k.0) ks)) e) ∙ is in absurd (false≢true none)
 
-has_head : (s : Sub) (head : Option Atom) → is_some head ≡ true → not (is_headless (head_under s head)) ≡ true
-has_head s None h = cc
-has_head s (Some a) h = refl
-
-module _ (p : Program) (d : List Tm) (h : list_all is_positive_rule p.clauses ≡ true) where
-  -- each clause over the domain is an instance of a positive rule
-  positive_clause : (g : GroundClause) → Contains (ground_program d p) g → (is_positive g.body ≡ true) × (not (is_headless g.head) ≡ true)
-  positive_clause g i =
-      let c = Contains-from_flat_map (instances d) p.clauses g i in
-      let clause : Clause = c.0 in
-      let k = Contains-from_map (λ ts. instance_of clause (giving ts)) (filter (λ ts. list_all (is_test_true (giving ts)) clause.body) (choices d clause.vars)) g c.2 in
-      let q = and_parts (is_some clause.head) (list_all is_positive_item clause.body) (list_all-member is_positive_rule p.clauses clause h c.1) in
-      subst (λ (z : GroundClause). (is_positive z.body ≡ true) × (not (is_headless z.head) ≡ true)) k.2
-      (positive-literals (giving k.0) clause.body q.1, has_head (giving k.0) clause.head q.0)
-
-  pub ground-without_not : is_without_not (ground_program d p) ≡ true
-  ground-without_not = list_all-from (λ g. is_positive g.body) (ground_program d p) (λ g i. (positive_clause g i).0)
-
-  pub ground-without_denials : is_without_denials (ground_program d p) ≡ true
-  ground-without_denials = list_all-from (λ g. not (is_headless g.head)) (ground_program d p) (λ g i. (positive_clause g i).1)
-
-pub map-extendable : (p : Program) (c : Certificate) → MapHolds p [] [] → Extendable p c
-map-extendable p c m =
-    let h = (empty_map_holds p).0 m in
+-- what is left keeps the levels and signs of the map, so it has the levelled model
+map-extendable : (p : Program) (c : Certificate) → Accepts p c → MapHolds p (covered c) c.map → Extendable p c
+map-extendable p c h m =
     λ v meets d is w.
-    residual-has_stable (ground_program d p) (true_atoms p c v.of d) (false_atoms p c v.of d) (ground-without_not p d h) (ground-without_denials p d h)
+    (let t : List Atom = true_atoms p c v.of d in
+    let f : List Atom = false_atoms p c v.of d in
+    let g : List GroundClause = residual t f (ground_program d p) in (
+      levelled_model (level_of c.map) (plus_of c.map) g,
+      levelled-stable (level_of c.map) (plus_of c.map) g (left-keeps p (covered c) c.map d t f m (none-covered p c d t f h.no_check)),
+    ))
+
+pub accepted-good_right : (p : Program) (c : Certificate) → Accepts p c → MapHolds p (covered c) c.map → GoodRight p c
+accepted-good_right p c h m = (accepted-good p c h, map-extendable p c h m)

@@ -1,6 +1,5 @@
 -- What follows from the answers of the checker.
-use Rattle.std.proofs.Common.{◌≡◌, ◌∙◌, List, [], None, Some, map, ap, sym}
-use Rattle.scasp_syntax.specs.declared.predicate_map.PredMap.{PredMap}
+use Rattle.std.proofs.Common.{◌≡◌, ◌∙◌, List, [], None, Some, ap, sym}
 use Rattle.scasp_syntax.specs.declared.program.Program.{Program}
 use Rattle.scasp_cert.specs.Certificate.{Certificate}
 use Rattle.scasp_graph.specs.Map.{map_faults}
@@ -12,7 +11,7 @@ use Rattle.scasp_checker.specs.Verdicts.{covered, Refutes}
 use Rattle.scasp_checker.specs.declared.refusal.CheckErr.{CheckErr}
 use Rattle.scasp_checker.specs.declared.refusal.CheckErr.TheVariants.{Refused, Memory}
 use Rattle.scasp_checker.proofs.FaultLemmas.{accepted-no_fault}
-use Rattle.scasp_checker.proofs.Soundness.{accepted-good, map-extendable}
+use Rattle.scasp_checker.proofs.Soundness.{accepted-good_right}
 
 pub refuted : (p : Program) (c : Certificate) (e : CheckErr) → IsFirst e (faults p c) → Refutes e (Accepts p c)
 refuted p c (Refused r) h = λ a. let k : None ≡ Some r = sym (ap first ((accepted-no_fault p c).0 a)) ∙ h in cc
@@ -22,7 +21,4 @@ pub no_fault-accepted : (p : Program) (c : Certificate) → faults p c ≡ [] �
 no_fault-accepted p c e = (accepted-no_fault p c).1 e
 
 pub right-good : (p : Program) (c : Certificate) → faults p c ≡ [] → map_faults p (covered c) c.map ≡ [] → GoodRight p c
-right-good p c e m =
-    let a = no_fault-accepted p c e in
-    let none : covered c ≡ [] = ap (map (λ k. k.0)) a.no_check in
-    (accepted-good p c a, map-extendable p c (sym (ap (λ ns. map_faults p ns c.map) none ∙ ap (λ (ms : List PredMap). map_faults p [] ms) a.no_map) ∙ m))
+right-good p c e m = accepted-good_right p c (no_fault-accepted p c e) m

@@ -3,7 +3,7 @@
 use Rattle.std.specs.Prelude.{◌≡◌, ℕ, ◌&&◌, IsTrue, Some, List, [], ◌∷◌, length, ⊤}
 use Rattle.scasp_syntax.specs.Flat.{flat_body}
 use Rattle.scasp_syntax.specs.Instances.{atom_under, head_under}
-use Rattle.scasp_syntax.specs.Programs.{numbered}
+use Rattle.scasp_syntax.specs.Programs.{numbered, predicates}
 use Rattle.scasp_syntax.specs.Tm.{Tm, Tms, items}
 use Rattle.scasp_syntax.specs.Values.{are_ground, giving}
 use Rattle.scasp_syntax.specs.declared.atom.Atom.{Atom}
@@ -15,6 +15,7 @@ use Rattle.scasp_syntax.specs.declared.clause.Query.{Query}
 use Rattle.scasp_syntax.specs.declared.program.Program.{Program}
 use Rattle.scasp_cert.specs.Certificate.{Certificate}
 use Rattle.scasp_cert.specs.Trees.{Tree, Trees, pos_tree, neg_tree, loop_tree, seen_tree, test_tree, no_tree, tree, listed}
+use Rattle.scasp_checker.specs.MapEntries.{is_map_over}
 
 -- a positive literal that the item asks for, where the variables of its clause or query have these values
 abbrev pub asks : List Tm → FlatItem → Atom → Type 0
@@ -60,4 +61,4 @@ pub record Accepts (p : Program) (c : Certificate) : Type 0 where
   pub no_check : c.checks ≡ []
   pub no_clash : c.clashes ≡ []
   pub sample : IsTrue (are_ground c.sample)
-  pub no_map : c.map ≡ []
+  pub map : IsTrue (is_map_over (predicates p) c.map)

@@ -6,7 +6,9 @@ use Rattle.scasp_syntax.specs.declared.atom.Atom.{Atom}
 use Rattle.scasp_syntax.specs.declared.clause.Clause.{Clause}
 use Rattle.scasp_syntax.specs.declared.clause.Item.{Item}
 use Rattle.scasp_syntax.specs.declared.clause.Item.TheVariants.{Call}
+use Rattle.scasp_syntax.specs.declared.predicate_map.PredMap.{PredMap}
 use Rattle.scasp_syntax.specs.declared.program.Program.{Program}
+use Rattle.scasp_graph.specs.Map.{map_faults}
 use Rattle.scasp_cert.specs.Certificate.{Certificate}
 use Rattle.scasp_cert.specs.Trees.{Tree, pos_tree, loop_tree, listed}
 use Rattle.scasp_checker.specs.Faults.{faults}
@@ -84,3 +86,36 @@ another_instance = refl
 
 another_answer : first (faults with_terms (certificate (cons (app 7 nil) nil) (shows (cons (app 6 nil) nil)))) ≡ refused 1 reason.WrongLiteral
 another_answer = refl
+
+-- p :- not q. q :- not p. r. ?- r.
+abbrev loop : Program
+loop = record {
+  clauses = rule (atom 2 nil) (call false 3 nil ∷ []) 0 ∷ rule (atom 3 nil) (call false 2 nil ∷ []) 0 ∷ rule (atom 4 nil) [] 0 ∷ [];
+  queries = record { body = call true 4 nil ∷ []; names = [] } ∷ [];
+  well_formed = refl;
+}
+
+-- level 0, and this sign, for the predicate of this name
+abbrev sign : Bool → ℕ → PredMap
+sign plus name = record { pred = record { minus = false; name = name; arity = 0 }; level = 0; plus = plus }
+
+-- the certificate that shows r, with these levels and signs
+abbrev with_map : List PredMap → Certificate
+with_map entries = record (certificate nil (line 4 3 [] ∷ [])) { map = entries }
+
+-- with the sign `-` for q the program keeps the map, and without it its first clause breaks it
+signed : faults loop (with_map (sign false 3 ∷ [])) ≡ []
+signed = refl
+
+keeps_signs : map_faults loop [] (sign false 3 ∷ []) ≡ []
+keeps_signs = refl
+
+breaks_none : map_faults loop [] [] ≡ 1 ∷ 2 ∷ []
+breaks_none = refl
+
+signed_twice : first (faults loop (with_map (sign false 3 ∷ sign true 3 ∷ []))) ≡ refused 0 reason.WrongMap
+signed_twice = refl
+
+-- no predicate of the program has this name
+signs_none : first (faults loop (with_map (sign false 5 ∷ []))) ≡ refused 0 reason.WrongMap
+signs_none = refl

@@ -4,7 +4,7 @@ use Rattle.std.specs.Prelude.{ℕ, ◌+◌, Bool, true, false, ◌&&◌, nat_eq,
 use Rattle.std.specs.List.{flat_map}
 use Rattle.scasp_syntax.specs.Flat.{flat_body}
 use Rattle.scasp_syntax.specs.Instances.{atom_under, head_under}
-use Rattle.scasp_syntax.specs.Programs.{numbered, pred_of, is_rule_of}
+use Rattle.scasp_syntax.specs.Programs.{numbered, pred_of, is_rule_of, predicates}
 use Rattle.scasp_syntax.specs.Same.{same_atom}
 use Rattle.scasp_syntax.specs.Tm.{Tm, Tms, items}
 use Rattle.scasp_syntax.specs.Values.{are_ground, giving}
@@ -18,6 +18,7 @@ use Rattle.scasp_cert.specs.Certificate.{Certificate}
 use Rattle.scasp_cert.specs.Lines.{lines_of, lines_below}
 use Rattle.scasp_cert.specs.Trees.{Tree, Trees, pos_tree, neg_tree, loop_tree, seen_tree, test_tree, no_tree, tree, listed}
 use Rattle.scasp_cert.specs.declared.certificate.Clash.{Clash}
+use Rattle.scasp_checker.specs.MapEntries.{is_map_over}
 use Rattle.scasp_checker.specs.declared.refusal.Reason.{Reason}
 use Rattle.scasp_checker.specs.declared.refusal.Reason.TheVariants as reason
 use Rattle.scasp_checker.specs.declared.refusal.Refusal.{Refusal}
@@ -113,18 +114,18 @@ abbrev pub clash_faults : Clash → List Refusal
 clash_faults k = wants (min k.first k.second) reason.Clash false
 
 -- the faults of a certificate for this query
-abbrev pub query_faults : List Clause → Certificate → Query → List Refusal
-query_faults clauses c q =
+abbrev pub query_faults : Program → Certificate → Query → List Refusal
+query_faults p c q =
     wants 0 reason.WrongQuery (nat_eq (length (items c.terms)) (length q.names))
     ++ wants 0 reason.WrongVariable (are_ground c.terms && is_empty c.given)
-    ++ faults_among clauses 0 1 (items c.terms) (flat_body q.body) (listed c.trees)
+    ++ faults_among p.clauses 0 1 (items c.terms) (flat_body q.body) (listed c.trees)
     ++ wants (1 + lines_below (listed c.trees)) reason.WrongNode (is_empty c.checks)
     ++ flat_map clash_faults c.clashes
     ++ wants 0 reason.Sample (are_ground c.sample)
-    ++ wants 0 reason.WrongMap (is_empty c.map)
+    ++ wants 0 reason.WrongMap (is_map_over (predicates p) c.map)
 
 -- the faults of a certificate
 abbrev pub faults : Program → Certificate → List Refusal
 faults p c =
     wants 0 reason.WrongQuery (of_some (numbered p.queries c.query) (λ q. true))
-    ++ faults_of_some (numbered p.queries c.query) (query_faults p.clauses c)
+    ++ faults_of_some (numbered p.queries c.query) (query_faults p c)

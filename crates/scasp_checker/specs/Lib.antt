@@ -2,4 +2,6 @@ pub mod Accepted
 pub mod Examples
 pub mod Faults
 pub mod Judged
+pub mod MapEntries
+pub mod MapLevels
 pub mod Verdicts

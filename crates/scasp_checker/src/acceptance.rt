@@ -1,9 +1,10 @@
 //! Whether a certificate is accepted.
 
 ghost use Rattle.std.specs.Prelude.{◌≡◌, ◌+◌, length, IfOk, OnOk};
-ghost use Rattle.std.specs.List.{flat_map};
+ghost use Rattle.std.specs.List.{flat_map, list_any};
 ghost use Rattle.scasp_syntax.specs.Flat.{flat_body};
 ghost use Rattle.scasp_syntax.specs.Programs.{numbered, is_rule_of};
+ghost use Rattle.scasp_syntax.specs.Same.{same_pred};
 ghost use Rattle.scasp_syntax.specs.Tm.{items};
 ghost use Rattle.scasp_cert.specs.Certificate.{certificate_of};
 ghost use Rattle.scasp_cert.specs.Lines.{lines_of, lines_below};
@@ -11,13 +12,15 @@ ghost use Rattle.scasp_cert.specs.Trees.{listed};
 ghost use Rattle.scasp_cert.specs.View.{tree_of, trees_of};
 ghost use Rattle.scasp_checker.specs.Faults.{wants, of_some, is_positive_call, is_atom_of, is_instance, own_faults, items_of, pos_faults, faults_at, faults_below, count_faults, faults_among, clash_faults, query_faults, faults};
 ghost use Rattle.scasp_checker.specs.Judged.{Judges};
+ghost use Rattle.scasp_checker.specs.MapEntries.{has_entry, is_map_over};
 
 use crate::refusal::{CheckErr, Reason, Refusal};
 use scasp_cert::{Cert, Clashes, Node, Nodes};
+use scasp_graph::{Preds, predicates};
 use scasp_name::Memory;
 use scasp_syntax::{
-    Atom, Clause, FlatItem, FlatItems, Pred, Program, Query, Terms, are_ground, flat, flat_items,
-    instance_atom, same_atom,
+    Atom, Clause, FlatItem, FlatItems, Pred, PredMap, PredMaps, Program, Query, Terms, are_ground,
+    flat, flat_items, instance_atom, same_atom,
 };
 use std::alloc::Global;
 
@@ -252,6 +255,34 @@ fn accept_clashes(clashes: &Clashes) -> Result<(), CheckErr>
     }
 }
 
+/// Whether the predicate is in the list.
+fn has_pred(preds: &Preds, pred: Pred) -> bool
+    ensures { result ≡ list_any (same_pred pred) preds.now }
+{
+    preds.as_slice().iter().any(|other| pred == *other)
+}
+
+/// Whether one of the entries is for the predicate.
+fn has_entry(entries: &[PredMap], pred: Pred) -> bool
+    ensures { result ≡ has_entry entries.now pred }
+{
+    entries.iter().any(|entry| pred == entry.pred)
+}
+
+/// Whether each entry is for one of these predicates, and no two are for the same.
+fn is_map_over(preds: &Preds, map: &PredMaps) -> bool
+    ensures { result ≡ is_map_over preds.now map.now }
+{
+    let entries = map.as_slice();
+    for (place, entry) in entries.iter().enumerate() {
+        let others = &entries[place + 1..];
+        if !has_pred(preds, entry.pred) || has_entry(others, entry.pred) {
+            return false;
+        }
+    }
+    true
+}
+
 /// The tests of a certificate for this query.
 fn accept_query(
     alloc: Global,
@@ -259,7 +290,7 @@ fn accept_query(
     query: &Query,
     cert: &Cert,
 ) -> Result<(), CheckErr>
-    ensures { Judges result (query_faults program.now.clauses (certificate_of cert.now) query.now) }
+    ensures { Judges result (query_faults program.now (certificate_of cert.now) query.now) }
 {
     want(0, Reason::WrongQuery, cert.terms.len() == query.names.len())?;
     want(
@@ -272,7 +303,8 @@ fn accept_query(
     want(behind, Reason::WrongNode, cert.checks.len() == 0)?;
     accept_clashes(&cert.clashes)?;
     want(0, Reason::Sample, are_ground(&cert.sample))?;
-    want(0, Reason::WrongMap, cert.map.len() == 0)?;
+    let preds = predicates(alloc, program)?;
+    want(0, Reason::WrongMap, is_map_over(&preds, &cert.map))?;
     Ok(())
 }
 

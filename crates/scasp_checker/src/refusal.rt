@@ -23,7 +23,7 @@ pub enum Reason {
     Clash,
     /// The sample is not ground.
     Sample,
-    /// A level or a sign is given, and none is yet.
+    /// A level and sign is given for a predicate that the program lacks, or twice for one.
     WrongMap,
 }
 

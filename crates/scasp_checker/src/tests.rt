@@ -285,6 +285,21 @@ enum Change {
     OpenSample,
     GroundSample,
     OneMap,
+    MapOfNone,
+    MapTwice,
+}
+
+/// Level 0 and `+` for p, or for -p.
+fn level_zero(minus: bool) -> PredMap {
+    PredMap {
+        pred: Pred {
+            minus,
+            name: NameId::new(P),
+            arity: 0,
+        },
+        level: 0,
+        plus: true,
+    }
 }
 
 fn with_loop(alloc: Global) -> Result<Nodes, Memory> {
@@ -323,15 +338,12 @@ fn changed(alloc: Global, change: Change) -> Result<Cert, Memory> {
         })?,
         Change::OpenSample => cert.sample = terms(alloc, Listed::Variable)?,
         Change::GroundSample => cert.sample = terms(alloc, Listed::Name(Q))?,
-        Change::OneMap => cert.map.push(PredMap {
-            pred: Pred {
-                minus: false,
-                name: NameId::new(P),
-                arity: 0,
-            },
-            level: 0,
-            plus: true,
-        })?,
+        Change::OneMap => cert.map.push(level_zero(false))?,
+        Change::MapOfNone => cert.map.push(level_zero(true))?,
+        Change::MapTwice => {
+            cert.map.push(level_zero(false))?;
+            cert.map.push(level_zero(false))?;
+        }
     }
     Ok(cert)
 }
@@ -349,7 +361,9 @@ fn what_stands_beside_the_lines(rt: HostRuntime) -> Result<(), Fail> {
         (Change::OneClash, refused(2, Reason::Clash)),
         (Change::OpenSample, refused(0, Reason::Sample)),
         (Change::GroundSample, Ok(Verdict::Right)),
-        (Change::OneMap, refused(0, Reason::WrongMap)),
+        (Change::OneMap, Ok(Verdict::Right)),
+        (Change::MapOfNone, refused(0, Reason::WrongMap)),
+        (Change::MapTwice, refused(0, Reason::WrongMap)),
     ];
     for (change, expected) in rows {
         let cert = changed(alloc, change)?;

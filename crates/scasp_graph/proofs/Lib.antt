@@ -3,6 +3,7 @@ pub mod CheckedLemmas
 pub mod ComponentLemmas
 pub mod EntryLemmas
 pub mod GraphLemmas
+pub mod KeptLemmas
 pub mod LevelLemmas
 pub mod MapLemmas
 pub mod NumberingLemmas

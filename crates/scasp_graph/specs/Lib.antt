@@ -4,6 +4,7 @@ pub mod Examples
 pub mod Graphs
 pub mod Growing
 pub mod Judged
+pub mod Kept
 pub mod Levels
 pub mod Map
 pub mod Numbering

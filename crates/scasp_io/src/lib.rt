@@ -8,8 +8,6 @@ mod memory_files;
 mod memory_sink;
 mod outside;
 mod sure;
-#[cfg(test)]
-mod tests;
 mod whole;
 
 pub use errors::{Failed, ReadErr, SinkFault};

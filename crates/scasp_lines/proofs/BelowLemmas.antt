@@ -22,7 +22,7 @@ use Rattle.scasp_lines.specs.Bodies.{Body, split_body, inside_rule, inside_check
 use Rattle.scasp_lines.specs.Walk.{Part, of_node, of_rule, of_check, of_case, Line, Setting, Walked, line, node_walk, nodes_walk, branch_walk, covers_walk, part_walk}
 use Rattle.scasp_lines.specs.Sides.{Sides, sides}
 use Rattle.scasp_lines.specs.Lines.{setting, lines, walk_of}
-use Rattle.scasp_lines.proofs.ListLemmas.{Contains-none, Contains-here, Contains-there, Contains-cases, Contains-map}
+use Rattle.scasp_list.proofs.MemberLemmas.{Contains-none, Contains-here, Contains-there, Contains-cases, Contains-map}
 
 module _ (s : Setting) where
   node-root : (here : Place) (at next : ℕ) (due : Due) (t : Tree) → Contains (node_walk s here at next due t).lines (line at next here (of_node due t))

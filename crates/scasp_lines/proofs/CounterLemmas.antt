@@ -12,7 +12,7 @@ use Rattle.scasp_syntax.specs.declared.con.Con.{Con}
 use Rattle.scasp_syntax.specs.declared.con.Con.TheVariants as con
 use Rattle.scasp_cert.specs.Lines.{lines_of, lines_at}
 use Rattle.scasp_cert.specs.Trees.{Tree, Trees, Branch, Branches, pos_tree, neg_tree, loop_tree, seen_tree, test_tree, no_tree, tree, split, void, leaf, head, no_branch, branch}
-use Rattle.scasp_lines.specs.Negations.{new_parts}
+use Rattle.scasp_unify.specs.Negations.{new_parts}
 use Rattle.scasp_lines.specs.Covers.{Cover, with_universal, with_universals, cover_from}
 use Rattle.scasp_lines.specs.Openings.{bound_to, unopened}
 use Rattle.scasp_lines.specs.Places.{Place}

@@ -15,7 +15,7 @@ use Rattle.scasp_cert.specs.Trees.{Branch, split, void, leaf, head}
 use Rattle.scasp_lines.specs.Descent.{is_end, Ends}
 use Rattle.scasp_lines.specs.Below.{HasCase}
 use Rattle.scasp_lines.specs.Known.{is_con_known}
-use Rattle.scasp_lines.specs.Negations.{negated, new_parts}
+use Rattle.scasp_unify.specs.Negations.{negated, new_parts}
 use Rattle.scasp_lines.specs.Opened.{Opened, shaped, assumed, is_part, is_met, knows, none_known, well}
 use Rattle.scasp_lines.specs.Places.{Place, is_universal}
 use Rattle.scasp_lines.specs.Bodies.{Body, split_body}
@@ -26,7 +26,7 @@ use Rattle.scasp_lines.specs.Lines.{setting, free_of, lines, walk_of}
 use Rattle.scasp_lines.specs.Ways.{set_all}
 use Rattle.scasp_lines.proofs.BelowLemmas.{has-below, branch-root}
 use Rattle.scasp_lines.proofs.FitLemmas.{lines-fit}
-use Rattle.scasp_lines.proofs.ListLemmas.{list_all-member}
+use Rattle.scasp_list.proofs.MemberLemmas.{list_all-member}
 use Rattle.scasp_lines.proofs.NegationLemmas.{negated-holds}
 use Rattle.scasp_lines.proofs.PartLemmas.{nat-eq, part-unknown, set-off, set-on, set_all-ground}
 use Rattle.scasp_lines.proofs.SubWalkLemmas.{certificate-whole, line-whole}

@@ -11,11 +11,11 @@ use Rattle.scasp_syntax.specs.declared.con.Con.{Con}
 use Rattle.scasp_syntax.specs.declared.con.Con.TheVariants as con
 use Rattle.scasp_syntax.specs.declared.term.Term.TheVariants.{Var}
 use Rattle.scasp_syntax.proofs.SameLemmas.{tm_decided}
-use Rattle.scasp_lines.specs.Negations.{new_parts}
+use Rattle.scasp_unify.specs.Negations.{new_parts}
 use Rattle.scasp_lines.specs.Opened.{Opened, is_met, shaped}
 use Rattle.scasp_lines.specs.OpeningLaws.{OpeningSays}
 use Rattle.scasp_lines.specs.Openings.{Opening, bound_to, with_bound, with_assumed, with_shape, equal, with_clash, open_variable, open_term, open_terms}
-use Rattle.scasp_lines.specs.SimpleForm.{term_with}
+use Rattle.scasp_unify.specs.SimpleForm.{term_with}
 use Rattle.scasp_lines.proofs.OpeningFits.{tm-term, bound-kept}
 use Rattle.scasp_lines.proofs.PartLemmas.{nat-eq, nat-self, length-parts}
 

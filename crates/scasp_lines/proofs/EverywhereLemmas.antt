@@ -18,7 +18,7 @@ use Rattle.scasp_lines.specs.Lines.{setting, certificate_walk}
 use Rattle.scasp_lines.specs.Rooms.{room_of_clause, room_of_con, room_of, room_below, room_at, room_in, room_under}
 use Rattle.scasp_lines.proofs.Passages.{Claim, HoldsAt, Passes}
 use Rattle.scasp_lines.proofs.CounterLemmas.{rule-rises, check-rises, sides-rise, node-rises, nodes-rise, branch-rises}
-use Rattle.scasp_lines.proofs.ListLemmas.{Contains-none, Contains-here, Contains-there, Contains-cases}
+use Rattle.scasp_list.proofs.MemberLemmas.{Contains-none, Contains-here, Contains-there, Contains-cases}
 
 module _ (s : Setting) (F : Line → Type 0) (k : Claim) (passes : Passes s F k) where
   -- where F is known of all these lines, the claim holds at each

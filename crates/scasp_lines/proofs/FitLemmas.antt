@@ -13,7 +13,7 @@ use Rattle.scasp_syntax.specs.declared.program.Program.{Program}
 use Rattle.scasp_cert.specs.Certificate.{Certificate}
 use Rattle.scasp_lines.specs.Known.{are_known, is_con_known}
 use Rattle.scasp_lines.specs.Said.{is_part_known, is_line_known, are_lines_known}
-use Rattle.scasp_lines.specs.Negations.{negated}
+use Rattle.scasp_unify.specs.Negations.{negated}
 use Rattle.scasp_lines.specs.Opened.{Opened, sets, shaped, assumed, is_part, knows, none_known, well}
 use Rattle.scasp_lines.specs.OpeningLaws.{OpeningFits, OpeningGrows}
 use Rattle.scasp_lines.specs.Openings.{Opening, unopened}
@@ -28,7 +28,7 @@ use Rattle.scasp_lines.specs.Rooms.{room_of_clause}
 use Rattle.scasp_lines.proofs.CounterLemmas.{rule-rises, check-rises}
 use Rattle.scasp_lines.proofs.EverywhereLemmas.{everywhere}
 use Rattle.scasp_lines.proofs.KnownLemmas.{wider-tm}
-use Rattle.scasp_lines.proofs.ListLemmas.{list_all-from, list_all-member}
+use Rattle.scasp_list.proofs.MemberLemmas.{list_all-from, list_all-member}
 use Rattle.scasp_lines.proofs.OpeningFits.{grows-terms, no-part_above}
 use Rattle.scasp_lines.proofs.Passages.{Claim, HoldsFor, Passes}
 use Rattle.scasp_lines.proofs.UniversalLemmas.{covering-grows, covering-known}

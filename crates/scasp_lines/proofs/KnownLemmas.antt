@@ -1,14 +1,15 @@
 -- Terms and constraints of which all variables are known have the same value wherever what is known has.
-use Rattle.std.proofs.Common.{◌≡◌, ℕ, Bool, true, not, ℤ, List, [], ◌∷◌, refl, ap}
+use Rattle.std.proofs.Common.{◌≡◌, ℕ, Bool, true, not, ℤ, ◌+ℤ◌, ◌*ℤ◌, List, [], ◌∷◌, refl, ap}
 use Rattle.std.specs.List.{list_all}
 use Rattle.std.proofs.lemmas.Bool.{and_parts, and_from}
 use Rattle.scasp_num.specs.declared.linear.Coeff.{Coeff}
 use Rattle.scasp_num.specs.Linear.{compares}
+use Rattle.scasp_num.specs.Values.{row_sum}
 use Rattle.scasp_syntax.specs.Constraints.{holds, is_number, has_shape}
 use Rattle.scasp_syntax.specs.Tm.{Tm, Tms, var, num, app, nil, cons}
 use Rattle.scasp_syntax.specs.Values.{Sub, under, all_under}
 use Rattle.scasp_syntax.specs.View.{tm_of}
-use Rattle.scasp_syntax.specs.RowTruth.{sum_under}
+use Rattle.scasp_syntax.specs.RowTruth.{point}
 use Rattle.scasp_syntax.specs.declared.con.Con.{Con}
 use Rattle.scasp_syntax.specs.declared.con.Con.TheVariants as con
 use Rattle.scasp_lines.specs.Known.{is_known, are_known, is_con_known}
@@ -26,11 +27,11 @@ module _ (k : ℕ → Bool) (v w : Sub) (agree : (x : ℕ) → k x ≡ true → 
         let p = and_parts (is_known k t) (are_known k ts) h in
         let a = agree-tm t p.0 in let b = agree-tms ts p.1 in cc
 
-  agree-sum : (c : ℤ) (ks : List Coeff) → list_all (λ (j : Coeff). k j.x) ks ≡ true → sum_under v c ks ≡ sum_under w c ks
-  agree-sum c [] h = refl
-  agree-sum c (j ∷ ks) h =
+  agree-sum : (ks : List Coeff) → list_all (λ (j : Coeff). k j.x) ks ≡ true → row_sum (point v) ks ≡ row_sum (point w) ks
+  agree-sum [] h = refl
+  agree-sum (j ∷ ks) h =
       let p = and_parts (k j.x) (list_all (λ (i : Coeff). k i.x) ks) h in
-      let a = agree j.x p.0 in let b = agree-sum c ks p.1 in cc
+      let a = agree j.x p.0 in let b = agree-sum ks p.1 in cc
 
   pub agree-con : (c : Con) → is_con_known k c ≡ true → holds v c ≡ holds w c
   agree-con (con.Eq t s) h =
@@ -42,7 +43,7 @@ module _ (k : ℕ → Bool) (v w : Sub) (agree : (x : ℕ) → k x ≡ true → 
   agree-con (con.NotShape x name arity) h = ap (λ z. not (has_shape name arity z)) (agree x h)
   agree-con (con.Num t) h = ap is_number (agree-tm (tm_of t) h)
   agree-con (con.NotNum t) h = ap (λ z. not (is_number z)) (agree-tm (tm_of t) h)
-  agree-con (con.Row r) h = ap (λ (z : ℤ × ℤ). compares r.op z.0) (agree-sum r.constant r.coeffs h)
+  agree-con (con.Row r) h = ap (λ (z : ℤ × ℤ). compares r.op (z.0 +ℤ r.constant *ℤ z.1)) (agree-sum r.coeffs h)
 
 -- what is known stays known where more is
 mutual

@@ -9,10 +9,10 @@ use Rattle.scasp_syntax.specs.declared.con.Con.TheVariants as con
 use Rattle.scasp_syntax.specs.declared.term.Term.TheVariants.{Var}
 use Rattle.scasp_lines.specs.Known.{is_known, are_known, is_con_known}
 use Rattle.scasp_lines.specs.Opened.{shaped, is_part, knows, none_known, well}
-use Rattle.scasp_lines.specs.Negations.{new_parts}
+use Rattle.scasp_unify.specs.Negations.{new_parts}
 use Rattle.scasp_lines.specs.OpeningLaws.{OpeningFits, OpeningGrows}
 use Rattle.scasp_lines.specs.Openings.{Opening, bound_to, with_bound, with_assumed, with_shape, equal, with_clash, open_variable, open_term, open_terms}
-use Rattle.scasp_lines.specs.SimpleForm.{term_with}
+use Rattle.scasp_unify.specs.SimpleForm.{term_with}
 use Rattle.scasp_lines.proofs.KnownLemmas.{wider-tm, wider-tms}
 use Rattle.scasp_lines.proofs.PartLemmas.{nat-eq, part-above, part-below, parts-pass, new-parts}
 

@@ -14,9 +14,9 @@ use Rattle.scasp_syntax.specs.Constraints.{is_number}
 use Rattle.scasp_syntax.specs.declared.term.Term.TheVariants.{Var}
 use Rattle.scasp_lines.specs.Known.{is_known, are_known, is_con_known}
 use Rattle.scasp_lines.specs.Opened.{shaped, is_part, is_met, knows, none_known, well}
-use Rattle.scasp_lines.specs.Negations.{new_parts}
+use Rattle.scasp_unify.specs.Negations.{new_parts}
 use Rattle.scasp_lines.specs.Openings.{Opening, bound_to, with_bound, with_assumed, with_shape, equal, with_clash, open_variable, open_term, open_terms}
-use Rattle.scasp_lines.specs.SimpleForm.{term_with}
+use Rattle.scasp_unify.specs.SimpleForm.{term_with}
 use Rattle.scasp_lines.specs.OpeningLaws.{OpeningFits, OpeningSays, OpeningIsMet}
 use Rattle.scasp_lines.specs.Ways.{set_all}
 use Rattle.scasp_lines.proofs.KnownLemmas.{agree-tm, agree-tms, wider-tm, wider-tms}

@@ -5,7 +5,7 @@ use Rattle.std.proofs.lemmas.Bool.Decides.{Decides-eqb}
 use Rattle.scasp_syntax.specs.Tm.{Tm, Tms, nil, cons, items}
 use Rattle.scasp_syntax.specs.Values.{Sub, is_ground, are_ground, all_under}
 use Rattle.scasp_lines.specs.Known.{are_known}
-use Rattle.scasp_lines.specs.Negations.{new_parts}
+use Rattle.scasp_unify.specs.Negations.{new_parts}
 use Rattle.scasp_lines.specs.Opened.{is_part, none_known}
 use Rattle.scasp_lines.specs.Ways.{set_to, set_all}
 

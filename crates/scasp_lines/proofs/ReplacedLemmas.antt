@@ -11,7 +11,7 @@ use Rattle.scasp_syntax.specs.declared.con.Con.TheVariants as con
 use Rattle.scasp_syntax.proofs.SameLemmas.{tm_decided}
 use Rattle.scasp_syntax.proofs.ValueLemmas.{under-under}
 use Rattle.scasp_lines.specs.Opened.{Opened, assumed, shaped, is_met}
-use Rattle.scasp_lines.specs.Negations.{new_parts, negated}
+use Rattle.scasp_unify.specs.Negations.{new_parts, negated}
 use Rattle.scasp_lines.specs.Places.{Place}
 use Rattle.scasp_lines.specs.Sides.{Shape, sides_by, replacing, also_replaced, replaced_by, replaced_on}
 use Rattle.scasp_lines.specs.Surroundings.{IsReplaced}

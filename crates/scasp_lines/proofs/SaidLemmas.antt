@@ -18,7 +18,7 @@ use Rattle.scasp_lines.specs.Walk.{Part, of_node, of_rule, of_check, of_case, Li
 use Rattle.scasp_lines.specs.Lines.{free_of, lines}
 use Rattle.scasp_lines.specs.Ways.{ways}
 use Rattle.scasp_lines.proofs.KnownLemmas.{agree-tm, agree-tms}
-use Rattle.scasp_lines.proofs.ListLemmas.{Contains-map, Contains-from_map, Contains-flat_map, Contains-from_flat_map, Contains-filter, Contains-from_filter, list_all-from, list_all-member}
+use Rattle.scasp_list.proofs.MemberLemmas.{Contains-map, Contains-from_map, Contains-flat_map, Contains-from_flat_map, Contains-filter, Contains-from_filter, list_all-from, list_all-member}
 use Rattle.scasp_lines.proofs.WaysLemmas.{way-is_instance, instance-has_way}
 
 -- ---- what a part says depends on what is known alone

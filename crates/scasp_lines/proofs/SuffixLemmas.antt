@@ -15,7 +15,7 @@ use Rattle.scasp_syntax.specs.declared.con.Con.TheVariants as con
 use Rattle.scasp_cert.specs.Lines.{lines_of, lines_at}
 use Rattle.scasp_cert.specs.Trees.{Tree, Trees, Branch, Branches, pos_tree, neg_tree, loop_tree, seen_tree, test_tree, no_tree, tree, split, void, leaf, head, no_branch, branch}
 use Rattle.scasp_lines.specs.Opened.{Opened, IsInstance}
-use Rattle.scasp_lines.specs.Negations.{new_parts}
+use Rattle.scasp_unify.specs.Negations.{new_parts}
 use Rattle.scasp_lines.specs.Surroundings.{Extends}
 use Rattle.scasp_lines.specs.Openings.{Opening, bound_to, with_shape, with_clash, open_variable, open_term, open_terms, unopened}
 use Rattle.scasp_lines.specs.Covers.{Cover, with_universal, with_universals, cover_from}
@@ -25,7 +25,7 @@ use Rattle.scasp_lines.specs.Dues.{Due, first_due, other_dues}
 use Rattle.scasp_lines.specs.Walk.{Part, of_node, of_rule, of_check, of_case, Line, Setting, node_walk, nodes_walk, branch_walk, covers_walk, part_walk}
 use Rattle.scasp_lines.specs.Sides.{Shape, shape_of, sides_by, sides}
 use Rattle.scasp_lines.specs.Lines.{walk_of}
-use Rattle.scasp_lines.proofs.ListLemmas.{Contains-none, Contains-cases}
+use Rattle.scasp_list.proofs.MemberLemmas.{Contains-none, Contains-cases}
 use Rattle.scasp_lines.proofs.WaysLemmas.{instance-before}
 
 pub extends-same : (os : List Opened) → Extends os os

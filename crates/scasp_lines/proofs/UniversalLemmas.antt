@@ -13,7 +13,7 @@ use Rattle.scasp_lines.specs.Openings.{Opening, bound_to, open_terms}
 use Rattle.scasp_lines.specs.Covers.{Cover, with_universal, with_universals, value_of, term_or, cover_from, covering}
 use Rattle.scasp_lines.specs.Ways.{set_to}
 use Rattle.scasp_lines.proofs.KnownLemmas.{agree-tm, wider-tm}
-use Rattle.scasp_lines.proofs.ListLemmas.{list_all-member, list_any-member}
+use Rattle.scasp_list.proofs.MemberLemmas.{list_all-member, list_any-member}
 use Rattle.scasp_lines.proofs.OpeningFits.{bound-kept, bound-more, grows-terms}
 use Rattle.scasp_lines.proofs.OpeningLemmas.{opens-terms}
 use Rattle.scasp_lines.proofs.PartLemmas.{set_to-ground, nat-eq, nat-self}

@@ -15,7 +15,7 @@ use Rattle.scasp_lines.specs.Dues.{Due, first_due, other_dues, query_dues}
 use Rattle.scasp_lines.specs.Walk.{Part, of_node, of_rule, of_check, of_case, Line, Setting, node_walk, nodes_walk, branch_walk, covers_walk, rule_walk, check_walk, checks_walk, part_walk}
 use Rattle.scasp_lines.specs.Lines.{setting, certificate_walk, walk_of}
 use Rattle.scasp_lines.specs.Numbering.{lines_of_part, Counts}
-use Rattle.scasp_lines.proofs.ListLemmas.{Contains-none, Contains-cases}
+use Rattle.scasp_list.proofs.MemberLemmas.{Contains-none, Contains-cases}
 
 -- ---- numbers
 

@@ -1,20 +1,20 @@
 -- The instances of what opened, as a list and as a relation, agree.
-use Rattle.std.proofs.Common.{Bool, ◌≡◌, ◌∙◌, ℕ, zero, suc, true, false, ◌&&◌, ◌||◌, nat_lt, nat_eq, List, [], ◌∷◌, ◌++◌, length, IsTrue, refl, ap, sym, subst, inl, inr}
+use Rattle.std.proofs.Common.{Bool, ◌≡◌, ◌↔◌, ◌∙◌, ℕ, zero, suc, true, false, ◌&&◌, ◌||◌, nat_lt, nat_eq, List, [], ◌∷◌, ◌++◌, length, IsTrue, refl, ap, sym, subst, inl, inr}
 use Rattle.std.specs.List.{Contains, list_all, list_any}
 use Rattle.std.proofs.lemmas.Bool.{cond_both, true≢false, and_parts, and_from, or_left, or_right, not-true, cond-true, cond-false, cases_Bool}
 use Rattle.scasp_syntax.specs.declared.con.Con.{Con}
-use Rattle.scasp_syntax.specs.Constraints.{holds}
+use Rattle.scasp_syntax.specs.Constraints.{Meets, holds}
 use Rattle.scasp_syntax.specs.Same.{same_tm}
 use Rattle.scasp_syntax.specs.Tm.{Tm, Tms, var, num, app, items}
 use Rattle.scasp_syntax.specs.Values.{Sub, is_ground, all_under}
 use Rattle.scasp_syntax.proofs.SameLemmas.{tm_decided}
-use Rattle.scasp_lines.specs.Opened.{Opened, ranges, shaped, assumed, is_part, is_met, sets, knows, none_known, fits, well, IsInstance}
-use Rattle.scasp_lines.specs.Contexts.{constraints_of, context}
-use Rattle.scasp_lines.specs.Negations.{new_parts}
+use Rattle.scasp_lines.specs.Opened.{Opened, ranges, shaped, assumed, is_part, is_met, sets, knows, none_known, fits, well, AllMet, IsInstance}
+use Rattle.scasp_lines.specs.Contexts.{AreInDomain, constraints_of, context}
+use Rattle.scasp_unify.specs.Negations.{new_parts}
 use Rattle.scasp_lines.specs.Ways.{set_to, set_all, shape_step, step, ways}
 use Rattle.scasp_lines.proofs.KnownLemmas.{agree-con}
 use Rattle.scasp_lines.proofs.PartLemmas.{set_to-ground, set_all-ground, nat-eq, nat-self, part-unknown, set-off, set-on, long-parts, pointwise}
-use Rattle.scasp_lines.proofs.ListLemmas.{list_all-member, Contains-here, Contains-none, Contains-single, Contains-map, Contains-from_map, Contains-flat_map, Contains-from_flat_map, list_any-from, list_any-member}
+use Rattle.scasp_list.proofs.MemberLemmas.{list_all-member, Contains-here, Contains-there, Contains-none, Contains-single, Contains-map, Contains-from_map, Contains-flat_map, Contains-from_flat_map, list_any-from, list_any-member}
 
 -- an entry that fits is met alike where what is known, and what it sets, is alike
 entry-agree : (d : List Tm) (n : ℕ) (os : List Opened) (o : Opened) (v w : Sub) → fits n os o ≡ true
@@ -227,8 +227,36 @@ all-append : {X : Type 0} → (p : X → Bool) (xs ys : List X) → list_all p x
 all-append p [] ys a b = b
 all-append p (x ∷ xs) ys a b = let q = and_parts (p x) (list_all p xs) a in and_from (p x) (list_all p (xs ++ ys)) q.0 (all-append p xs ys q.1 b)
 
-pub context-met : (d : List Tm) (given : List Con) (os : List Opened) (v : Sub) → list_all (holds v) given ≡ true → list_all (is_met d v) os ≡ true → list_all (holds v) (context given os) ≡ true
+context-met : (d : List Tm) (given : List Con) (os : List Opened) (v : Sub) → list_all (holds v) given ≡ true → list_all (is_met d v) os ≡ true → list_all (holds v) (context given os) ≡ true
 context-met d given [] v g m = g
 context-met d given (o ∷ os) v g m =
     let q = and_parts (is_met d v o) (list_all (is_met d v) os) m in
     all-append (holds v) (context given os) (constraints_of o) (context-met d given os v g q.1) (constraints-met d v o q.0)
+
+all-parts : {X : Type 0} → (p : X → Bool) (xs ys : List X) → list_all p (xs ++ ys) ≡ true → (list_all p xs ≡ true) × (list_all p ys ≡ true)
+all-parts p [] ys h = (refl, h)
+all-parts p (x ∷ xs) ys h =
+    let q = and_parts (p x) (list_all p (xs ++ ys)) h in
+    let r = all-parts p xs ys q.1 in (and_from (p x) (list_all p xs) q.0 r.0, r.1)
+
+in-domain : (d : List Tm) (v : Sub) (os : List Opened) → list_all (is_met d v) os ≡ true → AreInDomain d v os
+in-domain d v os m x i = list_all-member (is_met d v) os (ranges x) m i
+
+opened-met : (d : List Tm) (v : Sub) (o : Opened) (os : List Opened) → AreInDomain d v (o ∷ os) → list_all (holds v) (constraints_of o) ≡ true → is_met d v o ≡ true
+opened-met d v (ranges x) os a h = a x (Contains-here (ranges x) os)
+opened-met d v (shaped x f k n) os a h = (and_parts (same_tm (v x) (app f (all_under v (new_parts k n)))) true h).0
+opened-met d v (assumed c) os a h = (and_parts (holds v c) true h).0
+
+met-context : (d : List Tm) (given : List Con) (os : List Opened) (v : Sub) → list_all (holds v) (context given os) ≡ true → AreInDomain d v os
+    → (list_all (holds v) given ≡ true) × (list_all (is_met d v) os ≡ true)
+met-context d given [] v h a = (h, refl)
+met-context d given (o ∷ os) v h a =
+    let p = all-parts (holds v) (context given os) (constraints_of o) h in
+    let rest = met-context d given os v p.0 (λ x i. a x (Contains-there o os (ranges x) i)) in
+    (rest.0, and_from (is_met d v o) (list_all (is_met d v) os) (opened-met d v o os a p.1) rest.1)
+
+-- the values meet the context exactly where they meet what is given and what opened, but for the domain
+pub context-exact : (d : List Tm) (given : List Con) (os : List Opened) (v : Sub)
+    → (Meets v given × AllMet d v os) ↔ (Meets v (context given os) × AreInDomain d v os)
+context-exact d given os v =
+    (λ m. (context-met d given os v m.0 m.1, in-domain d v os m.1), λ m. met-context d given os v m.0 m.1)

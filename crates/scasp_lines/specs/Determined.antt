@@ -8,7 +8,7 @@ use Rattle.scasp_syntax.specs.Values.{Sub, under}
 use Rattle.scasp_syntax.specs.View.{tm_of}
 use Rattle.scasp_syntax.specs.declared.con.Con.{Con}
 use Rattle.scasp_lines.specs.Openings.{equal}
-use Rattle.scasp_lines.specs.SimpleForm.{simple, term_with, differ}
+use Rattle.scasp_unify.specs.SimpleForm.{simple, term_with, differ}
 use Rattle.scasp_syntax.specs.declared.con.Con.TheVariants as con
 
 -- above each variable that one of these stands for by itself

@@ -13,7 +13,7 @@ use Rattle.scasp_syntax.specs.declared.clause.Query.{Query}
 use Rattle.scasp_syntax.specs.declared.con.Con.{Con}
 use Rattle.scasp_lines.specs.Bodies.{Body}
 use Rattle.scasp_lines.specs.Determined.{determined}
-use Rattle.scasp_lines.specs.Negations.{negated}
+use Rattle.scasp_unify.specs.Negations.{negated}
 use Rattle.scasp_lines.specs.Places.{Place}
 use Rattle.scasp_syntax.specs.declared.clause.FlatItem.TheVariants as flat
 

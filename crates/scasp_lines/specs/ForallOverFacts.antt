@@ -1,5 +1,5 @@
 -- A worked case: a universal variable that is split at two values. p :- q(X), not r(X). q(a). q(b). r(a). r(b). ?- not p.
-use Rattle.std.specs.Prelude.{◌≡◌, true, false, List, [], ◌∷◌}
+use Rattle.std.specs.Prelude.{◌≡◌, ℕ, true, false, List, [], ◌∷◌, map}
 use Rattle.std.proofs.Common.{refl}
 use Rattle.scasp_syntax.specs.Tm.{Tm, var, app, nil}
 use Rattle.scasp_syntax.specs.Values.{Sub}
@@ -12,6 +12,7 @@ use Rattle.scasp_syntax.specs.declared.term.Term.TheVariants.{Var, App}
 use Rattle.scasp_cert.specs.Trees.{neg_tree, split, void, leaf, listed, covering}
 use Rattle.scasp_lines.specs.Dues.{goal, nothing}
 use Rattle.scasp_lines.specs.Lines.{certificate_walk}
+use Rattle.scasp_lines.specs.Places.{Around}
 use Rattle.scasp_lines.specs.Said.{atoms_of, are_terms_in, said_by_lines}
 use Rattle.scasp_lines.specs.Samples.{atom, one, constant, is_true, is_not, rule, ask, answer, by_fact, numbers, contexts, dues}
 use Rattle.scasp_lines.specs.Walk.{Line}
@@ -58,6 +59,9 @@ all =
           (leaf 2 (listed (by_fact (q a) 2 ∷ by_fact (r a) 4 ∷ []))),
     ) ∷ [])) ∷ []) [])).lines
 
+abbrev around : ℕ → Around
+around at = record { at = at; plain = false }
+
 sixteen_lines : numbers all ≡ 1 ∷ 2 ∷ 3 ∷ 4 ∷ 5 ∷ 6 ∷ 7 ∷ 8 ∷ 9 ∷ 10 ∷ 11 ∷ 12 ∷ 13 ∷ 14 ∷ 15 ∷ 16 ∷ []
 sixteen_lines = refl
 
@@ -76,6 +80,12 @@ their_contexts :
     ∷ (not_a ∷ is_b ∷ []) ∷ (not_a ∷ is_b ∷ []) ∷ (not_a ∷ is_b ∷ [])
     ∷ (is_a ∷ []) ∷ (is_a ∷ []) ∷ (is_a ∷ []) ∷ []
 their_contexts = refl
+
+-- cases below a split are not plain
+not_plain : map (λ (l : Line). l.here.around) all
+    ≡ [] ∷ [] ∷ [] ∷ [] ∷ [] ∷ (around 5 ∷ []) ∷ (around 5 ∷ []) ∷ (around 5 ∷ []) ∷ (around 5 ∷ []) ∷ (around 5 ∷ [])
+    ∷ [] ∷ (around 11 ∷ []) ∷ (around 11 ∷ []) ∷ [] ∷ (around 14 ∷ []) ∷ (around 14 ∷ []) ∷ []
+not_plain = refl
 
 -- below the sides on which X equals a value, the value stands for X
 their_dues :

@@ -1,7 +1,4 @@
 pub mod Known
-pub mod Parts
-pub mod SimpleForm
-pub mod Negations
 pub mod Opened
 pub mod Contexts
 pub mod Ways
@@ -24,6 +21,7 @@ pub mod Below
 pub mod Descent
 pub mod Samples
 pub mod ForallOverFacts
+pub mod LoopThroughNegation
 pub mod LinearDenial
 pub mod ClosedDomainOnly
 pub mod OpeningExamples

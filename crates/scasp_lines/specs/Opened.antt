@@ -7,7 +7,7 @@ use Rattle.scasp_syntax.specs.Tm.{Tm, app}
 use Rattle.scasp_syntax.specs.Values.{Sub, all_under}
 use Rattle.scasp_syntax.specs.declared.con.Con.{Con}
 use Rattle.scasp_lines.specs.Known.{is_con_known}
-use Rattle.scasp_lines.specs.Negations.{new_parts}
+use Rattle.scasp_unify.specs.Negations.{new_parts}
 
 -- One entry of what opened: x is a variable of a clause, with a value in the domain; or x is f with n arguments, which the variables
 -- from k on stand for; or c is true.

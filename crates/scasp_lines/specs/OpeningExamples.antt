@@ -9,7 +9,7 @@ use Rattle.scasp_lines.specs.Openings.{open_terms, unopened, number_zero, number
 use Rattle.scasp_lines.specs.Places.{start, with_opened}
 use Rattle.scasp_lines.specs.Samples.{one, constant}
 use Rattle.scasp_lines.specs.Sides.{Sides, sides, shape_of}
-use Rattle.scasp_lines.specs.SimpleForm.{simple, differ}
+use Rattle.scasp_unify.specs.SimpleForm.{simple, differ}
 
 abbrev a : Tm
 a = constant 5

@@ -8,9 +8,9 @@ use Rattle.scasp_syntax.specs.Same.{same_number}
 use Rattle.scasp_syntax.specs.Tm.{Tm, Tms, var, app, nil, cons, num, items}
 use Rattle.scasp_syntax.specs.declared.con.Con.{Con}
 use Rattle.scasp_syntax.specs.declared.term.Term.TheVariants.{Var, Num}
-use Rattle.scasp_lines.specs.Negations.{new_parts}
+use Rattle.scasp_unify.specs.Negations.{new_parts}
 use Rattle.scasp_lines.specs.Opened.{Opened, shaped, assumed}
-use Rattle.scasp_lines.specs.SimpleForm.{term_with}
+use Rattle.scasp_unify.specs.SimpleForm.{term_with}
 use Rattle.scasp_syntax.specs.declared.con.Con.TheVariants as con
 
 -- What the head's variables stand for so far, what opened, and the number of the next part that appears on no line.

@@ -5,7 +5,7 @@ use Rattle.scasp_syntax.specs.Tm.{Tm, var, app, num, items}
 use Rattle.scasp_syntax.specs.Values.{Sub, under}
 use Rattle.scasp_syntax.specs.View.{tm_of}
 use Rattle.scasp_syntax.specs.declared.con.Con.{Con}
-use Rattle.scasp_lines.specs.Negations.{new_parts, negated}
+use Rattle.scasp_unify.specs.Negations.{new_parts, negated}
 use Rattle.scasp_lines.specs.Opened.{Opened, shaped, assumed}
 use Rattle.scasp_lines.specs.Places.{Place, is_universal}
 use Rattle.scasp_syntax.specs.declared.con.Con.TheVariants as con

@@ -20,13 +20,13 @@ ghost use Rattle.scasp_cert.specs.Trees.{Branch, listed};
 ghost use Rattle.scasp_lines.specs.Below.{HasBelow, HasQueryItems};
 ghost use Rattle.scasp_lines.specs.Bodies.{Body};
 ghost use Rattle.scasp_lines.specs.ClosedDomainOnly.{a, certificate, free, program};
-ghost use Rattle.scasp_lines.specs.Contexts.{context};
+ghost use Rattle.scasp_lines.specs.Contexts.{AreInDomain, context};
 ghost use Rattle.scasp_lines.specs.Covers.{cover_from, covering, value_of};
 ghost use Rattle.scasp_lines.specs.Descent.{Ends};
 ghost use Rattle.scasp_lines.specs.Dues.{due_of};
 ghost use Rattle.scasp_lines.specs.Known.{are_known, is_known};
 ghost use Rattle.scasp_lines.specs.Lines.{lines, setting, walk_of};
-ghost use Rattle.scasp_lines.specs.Negations.{negated};
+ghost use Rattle.scasp_unify.specs.Negations.{negated};
 ghost use Rattle.scasp_lines.specs.Numbering.{Counts, lines_of_part};
 ghost use Rattle.scasp_lines.specs.Opened.{IsInstance, Opened, knows, well, AllMet, AreUnknown};
 ghost use Rattle.scasp_lines.specs.OpeningLaws.{CoverGrows, CoverIsMet, OpeningFits, OpeningGrows, OpeningIsMet, OpeningSays};
@@ -38,8 +38,9 @@ ghost use Rattle.scasp_lines.specs.Surroundings.{PartSurrounded};
 ghost use Rattle.scasp_lines.specs.Walk.{Line, Setting, of_case};
 ghost use Rattle.scasp_lines.specs.Ways.{ways};
 
-/// The instances of what opened, as a list and as a relation, agree. An instance is ground where the free values
-/// and the domain are, meets the context, and is one of what had opened before.
+/// The instances of what opened, as a list and as a relation, agree. An instance is ground where the free values and
+/// the domain are, and is one of what had opened before. Values meet the context exactly where they meet what is given
+/// and what opened, but for the domain.
 pub fn ways_are_instances()
     ensures met { (d : List Tm) (n : ℕ) (os : List Opened) (free w : Sub) → IsTrue (well n os)
         → Contains (ways d os free) w → IsInstance n d free os w }
@@ -47,8 +48,8 @@ pub fn ways_are_instances()
         → (w : Sub) × Contains (ways d os free) w × ((x : ℕ) → IsTrue (knows n os x) → w x ≡ v x) }
     ensures ground { (d : List Tm) (os : List Opened) (free w : Sub) → IsTrue (list_all is_ground d)
         → ((x : ℕ) → IsTrue (is_ground (free x))) → Contains (ways d os free) w → (x : ℕ) → IsTrue (is_ground (w x)) }
-    ensures context { (d : List Tm) (given : List ThisCon) (os : List Opened) (v : Sub) → Meets v given → AllMet d v os
-        → Meets v (context given os) }
+    ensures context { (d : List Tm) (given : List ThisCon) (os : List Opened) (v : Sub)
+        → (Meets v given × AllMet d v os) ↔ (Meets v (context given os) × AreInDomain d v os) }
     ensures before { (n : ℕ) (d : List Tm) (free : Sub) (more os : List Opened) (v : Sub)
         → IsInstance n d free (more ++ os) v → IsInstance n d free os v }
 {}

@@ -1,9 +1,11 @@
 -- How the test of a comparison with 0 and the comparison itself belong together.
-use Rattle.std.proofs.Common.{◌≡◌, ◌≢◌, zero, suc, true, false, not, ℤ, pos, negsuc, refl, ap, subst, arith}
+use Rattle.std.proofs.Common.{◌≡◌, ◌≢◌, ◌↔◌, ℕ, IsTrue, zero, suc, true, false, not, ℤ, pos, negsuc, refl, ap, subst, arith}
 use Rattle.std.proofs.lemmas.Int.{ints}
 use Rattle.scasp_num.specs.declared.linear.Op.{Op}
 use Rattle.scasp_num.specs.declared.linear.Op.TheVariants as op
-use Rattle.scasp_num.specs.Linear.{is_zero, Compares, compares}
+use Rattle.scasp_num.specs.Number.{Number}
+use Rattle.scasp_num.specs.Linear.{Linear, is_zero, Compares, compares}
+use Rattle.scasp_num.specs.Values.{numerator_under, Holds, holds}
 use Rattle.scasp_num.proofs.NormalForms.{zero_is}
 
 pub ne_zero : (z : ℤ) → is_zero z ≡ false → z ≢ pos 0
@@ -27,3 +29,6 @@ compares-is op.Ne z h = by z h
     by (pos zero) h = cc
     by (pos (suc n)) h = ne_zero (pos (suc n)) refl
     by (negsuc n) h = ne_zero (negsuc n) refl
+
+pub holds-decided : (v : ℕ → Number) (r : Linear) → IsTrue (holds v r) ↔ Holds v r
+holds-decided v r = (compares-is r.op (numerator_under v r), compares-true r.op (numerator_under v r))

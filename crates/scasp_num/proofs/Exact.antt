@@ -112,7 +112,7 @@ difference_of-is p q n e = ap (sum_of p) e
 
 -- ---- where there is a result
 
-within-and : {A : Type 0} (z : ℤ) (f : ℤ → Option A) (rest : Bool) → (in_range z ≡ true → is_some (f z) ≡ rest) → is_some (within z >>= f) ≡ (in_range z && rest)
+pub within-and : {A : Type 0} (z : ℤ) (f : ℤ → Option A) (rest : Bool) → (in_range z ≡ true → is_some (f z) ≡ rest) → is_some (within z >>= f) ≡ (in_range z && rest)
 within-and z f rest h = by (in_range z) refl
   where
     by : (t : Bool) → in_range z ≡ t → is_some ((if t then Some z else None) >>= f) ≡ (t && rest)

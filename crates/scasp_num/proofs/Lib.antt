@@ -13,3 +13,6 @@ pub mod SameNumber
 pub mod Placing
 pub mod Comparing
 pub mod SameRows
+pub mod Kept
+pub mod PairSums
+pub mod Fits

@@ -14,7 +14,7 @@ use Rattle.scasp_num.proofs.Exact.{bind-some}
 use Rattle.scasp_num.proofs.Meaning.{normal_form-meets_of}
 
 -- a list of what is left, from the first term that is kept
-kept-some : (d : ℤ) (x : ℕ) (k : Coeff) (ks others : List Coeff) → Some others ≡ (within (d *ℤ k.c) >>= (λ c. others_times d x ks >>= (λ rest. Some (record { x = k.x; c = c } ∷ rest)))) → (c : ℤ) × (rest : List Coeff) × (c ≡ d *ℤ k.c) × InRange c × (Some rest ≡ others_times d x ks) × (others ≡ record { x = k.x; c = c } ∷ rest)
+pub kept-some : (d : ℤ) (x : ℕ) (k : Coeff) (ks others : List Coeff) → Some others ≡ (within (d *ℤ k.c) >>= (λ c. others_times d x ks >>= (λ rest. Some (record { x = k.x; c = c } ∷ rest)))) → (c : ℤ) × (rest : List Coeff) × (c ≡ d *ℤ k.c) × InRange c × (Some rest ≡ others_times d x ks) × (others ≡ record { x = k.x; c = c } ∷ rest)
 kept-some d x k ks others e =
     let a = bind-some (within (d *ℤ k.c)) (λ c. others_times d x ks >>= (λ rest. Some (record { x = k.x; c = c } ∷ rest))) others e in
     let b = bind-some (others_times d x ks) (λ rest. Some (record { x = k.x; c = a.0 } ∷ rest)) others a.2 in
@@ -45,7 +45,7 @@ others_times-Ascends d x (k ∷ ks) others e a = by (k.x == x) e (λ rest g. oth
         let s = kept-some d x k ks others e in
         subst (λ (o : List Coeff). Ascends o) (sym s.5) (others_times-each (λ j. k.x < j.x) (λ j. k.x < j.x) d x (λ j c h _. h) ks s.1 s.4 a.0, rest s.1 s.4)
 
-coefficient-none : (x : ℕ) (ks : List Coeff) → Each (λ j. x < j.x) ks → coefficient x ks ≡ pos 0
+pub coefficient-none : (x : ℕ) (ks : List Coeff) → Each (λ j. x < j.x) ks → coefficient x ks ≡ pos 0
 coefficient-none x [] h = refl
 coefficient-none x (k ∷ ks) h = by (k.x == x) refl (coefficient-none x ks h.1)
   where

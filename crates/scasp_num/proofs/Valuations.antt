@@ -27,7 +27,7 @@ row_sum-times v m d (k ∷ ks) h = by k.c (m k.x) (v k.x).num (v k.x).den (weigh
     by c x qn qd w r s e f =
         +ℤ-*ℤ (c *ℤ x) w (qd *ℤ s) ∙ (λ i. (sym (*ℤ_assoc (c *ℤ x) qd s) ∙ ap (λ y. y *ℤ s) (*ℤ_assoc c x qd ∙ ap (λ y. c *ℤ y) (sym e) ∙ sym (*ℤ_assoc c qn d)) ∙ *ℤ_right_comm (c *ℤ qn) d s) i +ℤ (ap (λ y. w *ℤ y) (*ℤ_comm qd s) ∙ sym (*ℤ_assoc w s qd) ∙ ap (λ y. y *ℤ qd) f ∙ *ℤ_right_comm r d qd) i) ∙ sym (+ℤ-*ℤ (c *ℤ qn *ℤ s) (r *ℤ qd) d)
 
-row_sum-pos : (v : ℕ → Number) (ks : List Coeff) → pos 0 <ℤ (row_sum v ks).1
+pub row_sum-pos : (v : ℕ → Number) (ks : List Coeff) → pos 0 <ℤ (row_sum v ks).1
 row_sum-pos v [] = omega (arith, ints)
 row_sum-pos v (k ∷ ks) = times-pos (v k.x).den (row_sum v ks).1 (v k.x).reduced.positive (row_sum-pos v ks)
 

@@ -155,7 +155,7 @@ summed-times m l sums (p ∷ ps) out e ks (j ∷ js) a b =
 
 -- ---- the least common multiple is one
 
-multiple-step : (l d : ℤ) → (unsigned_abs l ∣ unsigned_abs (l *ℤ int_div d (pos (gcd (unsigned_abs l) (unsigned_abs d))))) × (unsigned_abs d ∣ unsigned_abs (l *ℤ int_div d (pos (gcd (unsigned_abs l) (unsigned_abs d)))))
+pub multiple-step : (l d : ℤ) → (unsigned_abs l ∣ unsigned_abs (l *ℤ int_div d (pos (gcd (unsigned_abs l) (unsigned_abs d))))) × (unsigned_abs d ∣ unsigned_abs (l *ℤ int_div d (pos (gcd (unsigned_abs l) (unsigned_abs d)))))
 multiple-step l d =
     let a = unsigned_abs l in
     let b = unsigned_abs d in

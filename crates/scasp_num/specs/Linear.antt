@@ -1,5 +1,5 @@
 -- Linear comparisons with whole coefficients, as plain values: what they mean, and their normal form.
-use Rattle.std.specs.Prelude.{◌≡◌, ◌≢◌, ℕ, zero, suc, ◌<◌, ◌≤◌, Bool, true, false, ◌&&◌, not, ◌==◌, nat_lt, if◌then◌else◌, ℤ, pos, negsuc, ◌+ℤ◌, ◌*ℤ◌, neg_ℤ, ◌<ℤ◌, ◌≤ℤ◌, unsigned_abs, int_div, int_lt, max, List, [], ◌∷◌, map, Option, Some, None, Result, Ok, Err, IsFalse, ⊤}
+use Rattle.std.specs.Prelude.{◌≡◌, ◌≢◌, ℕ, zero, suc, ◌<◌, ◌≤◌, Bool, true, false, ◌&&◌, not, ◌==◌, nat_lt, if◌then◌else◌, ℤ, pos, negsuc, ◌+ℤ◌, ◌*ℤ◌, neg_ℤ, ◌<ℤ◌, ◌≤ℤ◌, unsigned_abs, int_div, int_lt, max, List, [], ◌∷◌, ◌++◌, map, filter, Option, Some, None, Result, Ok, Err, IsFalse, ⊤}
 use Rattle.scasp_list.specs.Each.{Each}
 use Rattle.scasp_num.specs.declared.linear.Coeff.{Coeff}
 use Rattle.scasp_num.specs.declared.linear.Op.{Op}
@@ -165,6 +165,13 @@ put_of r x q = do
   others ← others_times q.den x r.coeffs
   constant ← put_constant r x q
   Some (normal_form (record { coeffs = others; constant = constant; op = r.op }))
+
+-- the integers that this forms: it has a result where all of them lie in range
+abbrev pub put_integers : Linear → ℕ → Number → List ℤ
+put_integers r x q =
+    let left = q.den *ℤ r.constant in
+    let right = coefficient x r.coeffs *ℤ q.num in
+    map (λ k. q.den *ℤ k.c) (filter (λ k. not (k.x == x)) r.coeffs) ++ left ∷ right ∷ (left +ℤ right) ∷ []
 
 -- the values m with z for x
 abbrev pub replaced : (ℕ → ℤ) → ℕ → ℤ → ℕ → ℤ

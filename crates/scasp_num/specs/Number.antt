@@ -1,7 +1,9 @@
 -- Rational numbers: fractions in lowest terms, without bound.
 use Rattle.std.specs.Prelude.{◌≡◌, ◌<◌, ◌^◌, ℤ, pos, ◌*ℤ◌, ◌<ℤ◌, unsigned_abs}
 use Rattle.std.specs.Coded.{Coded, code_by, coded×, coded_ℤ}
-use Rattle.scasp_num.specs.Gcd.{gcd}
+use Rattle.std.proofs.Common.{arith}
+use Rattle.std.proofs.lemmas.Int.{ints}
+use Rattle.scasp_num.specs.Gcd.{gcd, gcd_within}
 use mathlib.Core.Path.{refl}
 use denote.Struct.Props.{props}
 use base.Stored.{coded_sub}
@@ -19,6 +21,13 @@ pub record Number : Type 0 where
   pub num : ℤ
   pub den : ℤ
   pub reduced : IsReduced num den
+
+pub zero-IsReduced : IsReduced (pos 0) (pos 1)
+unfolding gcd gcd_within
+zero-IsReduced = record { positive = omega (arith, ints); lowest = refl }
+
+abbrev pub zero_number : Number
+zero_number = record { num = pos 0; den = pos 1; reduced = zero-IsReduced }
 
 abbrev Parts : Type 0
 Parts = (p : ℤ × ℤ) × IsReduced p.0 p.1

@@ -63,7 +63,7 @@ impl Model for Row {
 impl Row {
     ghost use Rattle.std.specs.Prelude.{◌↔◌, ℕ, ℤ, IfOk, Option, pos, ◌<ℤ◌, ◌+ℤ◌, ◌*ℤ◌, ◌≢◌, List};
     ghost use Rattle.scasp_num.specs.Linear.{IsNormal, Meets, Compares, weighted, negation, put_of, join_of, Gives, replaced, coefficient};
-    ghost use Rattle.scasp_num.specs.Sums.{normal_of, IsTimes, AreTimes};
+    ghost use Rattle.scasp_num.specs.Sums.{normal_of, IsTimes, AreTimes, SumHolds};
     ghost use Rattle.scasp_num.specs.Number.{InRange, Number};
     ghost use Rattle.scasp_num.specs.Values.{Holds, with_value};
     ghost use Rattle.scasp_num.specs.declared.linear.Coeff.{Coeff};
@@ -80,6 +80,8 @@ impl Row {
         ensures meets { IfOk result
             (λ row. (m : ℕ → ℤ) (d l : ℤ) (ks : List Coeff) (z : ℤ) → (pos 0 <ℤ l) → AreTimes l pairs.now ks → IsTimes l constant.now z →
             Meets m d row ↔ Compares op (weighted m ks +ℤ z *ℤ d)) }
+        ensures holds { IfOk result
+            (λ row. (v : ℕ → Number) → Holds v row ↔ SumHolds v pairs.now constant.now op) }
         ensures normal { IfOk result IsNormal }
     {
         let sums = summed(alloc, pairs.as_slice())?;

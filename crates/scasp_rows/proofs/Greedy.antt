@@ -12,6 +12,7 @@ use Rattle.scasp_list.specs.Each.{Each}
 use Rattle.scasp_list.proofs.EachLemmas.{Each-map, Each-left, Each-right, Each-append, Each-both}
 use Rattle.scasp_num.specs.Linear.{Linear, IsNormal, weighted, Compares, Meets}
 use Rattle.scasp_num.specs.Sums.{normal_of}
+use Rattle.scasp_num.proofs.Kept.{normal_of-op, normal_of-IsNormal}
 use Rattle.scasp_num.proofs.Integers.{*ℤ_assoc, *ℤ-+ℤ}
 use Rattle.scasp_num.proofs.Numbers.{some-same}
 use Rattle.scasp_num.proofs.Exact.{bind-some}
@@ -23,7 +24,7 @@ use Rattle.scasp_rows.specs.Points.{NoDisequation}
 use Rattle.scasp_rows.specs.Steps.{whole, times}
 use Rattle.scasp_rows.specs.Elimination.{elimination}
 use Rattle.scasp_rows.specs.Samples.{strict, alternatives, unless_unsat, first_met, first_of, if_some, with_all}
-use Rattle.scasp_rows.proofs.Sums.{value, scaled, scaled-weighted, times-are, whole-times, normal_of-op, normal_of-IsNormal}
+use Rattle.scasp_rows.proofs.Sums.{value, scaled, scaled-weighted, times-are, whole-times}
 use Rattle.scasp_rows.proofs.Reaching.{false_reached}
 use Rattle.scasp_rows.proofs.Soundness.{unsat_reached}
 use Rattle.scasp_rows.proofs.Completeness.{sat-values, point_by, point-meets}

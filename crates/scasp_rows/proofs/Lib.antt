@@ -17,3 +17,4 @@ pub mod Independence
 pub mod Greedy
 pub mod Sampling
 pub mod Fitting
+pub mod StepRanges

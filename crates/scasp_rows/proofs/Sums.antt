@@ -1,5 +1,5 @@
 -- The sum of two rows: which values it compares, and that it is in normal form.
-use Rattle.std.proofs.Common.{◌≡◌, ◌≢◌, ◌↔◌, ℕ, true, ℤ, pos, ◌+ℤ◌, ◌*ℤ◌, ◌<ℤ◌, ◌≤ℤ◌, unsigned_abs, int_div, Some, List, [], ◌∷◌, ◌++◌, refl, sym, ap, subst, ◌∙◌, arith}
+use Rattle.std.proofs.Common.{◌≡◌, ◌≢◌, ◌↔◌, ℕ, true, ℤ, pos, ◌+ℤ◌, ◌*ℤ◌, ◌<ℤ◌, ◌≤ℤ◌, Some, List, [], ◌∷◌, ◌++◌, refl, sym, ap, subst, ◌∙◌, arith}
 use Rattle.std.proofs.lemmas.Bool.{and_parts}
 use Rattle.std.proofs.lemmas.Int.{ints}
 use Rattle.std.proofs.Math.IntN.{*ℤ_comm, *ℤ-zero, +ℤ_idl, +ℤ_assoc}
@@ -7,21 +7,19 @@ use Rattle.scasp_num.specs.declared.linear.Coeff.{Coeff}
 use Rattle.scasp_num.specs.declared.linear.RatPair.{RatPair}
 use Rattle.scasp_num.specs.declared.linear.Op.{Op}
 use Rattle.scasp_num.specs.declared.linear.Op.TheVariants as op
-use Rattle.scasp_num.specs.Number.{Number, IsFraction, InRange}
+use Rattle.scasp_num.specs.Number.{Number, IsFraction}
 use Rattle.scasp_num.specs.Arithmetic.{◌>>=◌, sum_of}
-use Rattle.scasp_list.specs.Each.{Each}
 use Rattle.scasp_list.proofs.EachLemmas.{Each-left, Each-right}
-use Rattle.scasp_num.specs.Linear.{Linear, Ascends, IsNormal, weighted, Compares, Meets, normal_form}
+use Rattle.scasp_num.specs.Linear.{Linear, IsNormal, weighted, Compares, Meets}
 use Rattle.scasp_num.specs.Values.{Holds, HaveDenominator}
-use Rattle.scasp_num.specs.Sums
-use Rattle.scasp_num.specs.Sums.{normal_of, summed, multiple, whole_number, IsTimes, AreTimes}
+use Rattle.scasp_num.specs.Sums.{normal_of, IsTimes, AreTimes}
+use Rattle.scasp_num.proofs.Kept.{normal_of-op, normal_of-IsNormal}
 use Rattle.scasp_num.proofs.Integers.{*ℤ_assoc, *ℤ-+ℤ, +ℤ-*ℤ, *ℤ_right_comm, *ℤ-cancel}
-use Rattle.scasp_num.proofs.Numbers.{times-pos, some-same, within-some}
+use Rattle.scasp_num.proofs.Numbers.{times-pos, some-same}
 use Rattle.scasp_num.proofs.Exact.{bind-some, lowest-exact, sum_of-exact}
 use Rattle.scasp_num.proofs.Meaning.{compares-scaled}
 use Rattle.scasp_num.proofs.Valuations.{Holds-Meets, denominator-exists}
-use Rattle.scasp_num.proofs.NormalForms.{normal_form-IsNormal}
-use Rattle.scasp_num.proofs.Wholes.{normal_of-meets, summed-Rises, whole-Ascends, whole-range}
+use Rattle.scasp_num.proofs.Wholes.{normal_of-meets}
 use Rattle.scasp_rows.specs.Points.{RationalPoint}
 use Rattle.scasp_rows.specs.Steps.{whole, times, terms_sum, constant_sum, joined, row_sum, may_scale, may_step}
 
@@ -181,46 +179,6 @@ joined-comparing op.Le op.Lt n k e = cc
 joined-comparing op.Le op.Le n k e = cc
 joined-comparing op.Le op.Ne n k e = k refl
 joined-comparing op.Ne u n k e = n refl
-
--- the whole row of which a normal form is made
-pub record IsNormalOf (o : Op) (row : Linear) : Type 0 where
-  pub coeffs : List Coeff
-  pub constant : ℤ
-  pub ascending : Ascends coeffs
-  pub range : Each (λ k. InRange k.c) coeffs
-  pub constant_range : InRange constant
-  pub made : row ≡ normal_form (record { coeffs = coeffs; constant = constant; op = o })
-
-pub normal_of-parts : (pairs : List RatPair) (q : Number) (o : Op) (row : Linear) → Some row ≡ normal_of pairs q o → IsNormalOf o row
-unfolding normal_of
-normal_of-parts pairs q o row e =
-    let f = λ (coeffs : List Coeff) (constant : ℤ). Some (normal_form (record { coeffs = coeffs; constant = constant; op = o })) in
-    let s = bind-some (summed [] pairs) (λ sums. multiple q.den sums >>= (λ n. Sums.whole n sums >>= (λ cs. whole_number n q >>= (λ c. f cs c)))) row e in
-    let n = bind-some (multiple q.den s.0) (λ n. Sums.whole n s.0 >>= (λ cs. whole_number n q >>= (λ c. f cs c))) row s.2 in
-    let w = bind-some (Sums.whole n.0 s.0) (λ cs. whole_number n.0 q >>= (λ c. f cs c)) row n.2 in
-    let c = bind-some (whole_number n.0 q) (λ c. f w.0 c) row w.2 in
-    record {
-      coeffs = w.0;
-      constant = c.0;
-      ascending = whole-Ascends n.0 s.0 w.0 w.1 (summed-Rises [] pairs s.0 s.1 tt);
-      range = whole-range n.0 s.0 w.0 w.1;
-      constant_range = (within-some c.0 (q.num *ℤ int_div n.0 (pos (unsigned_abs q.den))) c.1).1;
-      made = some-same {x = row} {y = normal_form (record { coeffs = w.0; constant = c.0; op = o })} c.2;
-    }
-
-pub normal_form-op : (r : Linear) → (normal_form r).op ≡ r.op
-unfolding normal_form
-normal_form-op r = refl
-
-pub normal_of-op : (pairs : List RatPair) (q : Number) (o : Op) (row : Linear) → Some row ≡ normal_of pairs q o → row.op ≡ o
-normal_of-op pairs q o row e =
-    let p = normal_of-parts pairs q o row e in
-    ap (λ (r : Linear). r.op) p.made ∙ normal_form-op (record { coeffs = p.coeffs; constant = p.constant; op = o })
-
-pub normal_of-IsNormal : (pairs : List RatPair) (q : Number) (o : Op) (row : Linear) → Some row ≡ normal_of pairs q o → IsNormal row
-normal_of-IsNormal pairs q o row e =
-    let n = normal_of-parts pairs q o row e in
-    subst IsNormal (sym n.made) (normal_form-IsNormal (record { coeffs = n.coeffs; constant = n.constant; op = o }) n.ascending n.constant_range n.range)
 
 -- the sum of two rows is in normal form
 pub row_sum-IsNormal : (a : ℤ) (p : Linear) (b : ℤ) (q row : Linear) → Some row ≡ row_sum a p b q → IsNormal row

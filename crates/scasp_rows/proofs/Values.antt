@@ -10,9 +10,10 @@ use Rattle.scasp_num.specs.declared.linear.Op.{Op}
 use Rattle.scasp_num.specs.declared.linear.Op.TheVariants as op
 use Rattle.scasp_list.specs.Each.{Each}
 use Rattle.scasp_num.specs.Linear.{Linear, Ascends, IsNormal, weighted, Compares, coefficient, replaced}
+use Rattle.scasp_num.proofs.Kept.{normal_of-op}
 use Rattle.scasp_num.proofs.Integers.{*ℤ_assoc, +ℤ-*ℤ}
 use Rattle.scasp_rows.specs.Steps.{joined, row_sum}
-use Rattle.scasp_rows.proofs.Sums.{value, row_sum-IsSum, row_sum-IsNormal, row_sum-meets, normal_of-op}
+use Rattle.scasp_rows.proofs.Sums.{value, row_sum-IsSum, row_sum-IsNormal, row_sum-meets}
 
 -- the values m x / d with X/e for x, over e times the denominator
 abbrev pub moved : (ℕ → ℤ) → ℤ → ℕ → ℤ → ℕ → ℤ

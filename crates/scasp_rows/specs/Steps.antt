@@ -8,7 +8,7 @@ use Rattle.scasp_num.specs.declared.linear.Op.TheVariants as op
 use Rattle.scasp_num.specs.declared.linear.RowErr.{RowErr}
 use Rattle.scasp_num.specs.declared.linear.RowErr.TheVariants as row_err
 use Rattle.scasp_num.specs.declared.hints.Step.{Step}
-use Rattle.scasp_num.specs.Number.{Number}
+use Rattle.scasp_num.specs.Number.{Number, InRange}
 use Rattle.scasp_num.specs.Arithmetic.{◌>>=◌, lowest, sum_of}
 use Rattle.scasp_num.specs.Linear.{Linear, is_zero, coefficient}
 use Rattle.scasp_num.specs.Sums.{normal_of}
@@ -109,6 +109,10 @@ AddsTimes before after (Err row_err.Overflow) o = None ≡ o
 AddsTimes before after (Err row_err.Memory) o = ⊤
 
 -- ---- lists of steps
+
+-- the multipliers lie from -M to M
+abbrev pub StepInRange : Step → Type 0
+StepInRange s = InRange s.a × InRange s.b
 
 -- the row with this number, counted from 1
 abbrev pub row_numbered : List Linear → ℕ → Option Linear

@@ -1,5 +1,5 @@
 //! The elimination of variables (Fourier 1826, Motzkin 1936).
-ghost use Rattle.std.specs.Prelude.{◌≡◌, ◌+◌, ◌++◌, [], ◌∷◌, IfOk, OnOk, filter, length};
+ghost use Rattle.std.specs.Prelude.{◌≡◌, ◌≢◌, ◌+◌, ◌++◌, [], ◌∷◌, IfOk, OnOk, filter, length};
 ghost use Rattle.std.specs.Option.{option_copied};
 ghost use Rattle.scasp_list.specs.Each.{Each};
 ghost use Rattle.scasp_num.specs.Linear.{IsNormal};
@@ -381,9 +381,9 @@ pub(crate) fn started(alloc: Global, rows: &[Row]) -> State
 #[tactic(auto, unfolding(crate::specs::Elimination::elimination))]
 pub(crate) fn elimination(alloc: Global, rows: &[Row]) -> Result<State, Halt>
     ensures exact { Ends result (elimination rows.now) }
-    ensures normal { OnOk result (Each IsNormal rows.now) }
+    ensures normal { result ≢ Err Halt.Memory → Each IsNormal rows.now }
 {
-    let state = all_looked(rows, started(alloc, rows))?;
     let variables = variables(alloc, rows)?;
+    let state = all_looked(rows, started(alloc, rows))?;
     eliminated(alloc, variables.as_slice(), state)
 }

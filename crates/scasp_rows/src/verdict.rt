@@ -1,7 +1,8 @@
 //! Whether rational values meet all rows, by the elimination of their variables.
 ghost use Rattle.std.specs.Prelude.{◌≡◌, ◌↔◌, IfOk, IsTrue};
+ghost use Rattle.scasp_list.specs.Each.{Each};
 ghost use Rattle.scasp_rows.specs.Points.{IsMet, NoDisequation};
-ghost use Rattle.scasp_rows.specs.Steps.{ReachesFalse};
+ghost use Rattle.scasp_rows.specs.Steps.{ReachesFalse, StepInRange};
 ghost use Rattle.scasp_rows.specs.Verdicts.{IfUnsat, Says, verdict_of};
 
 use crate::elimination::elimination;
@@ -36,6 +37,7 @@ pub fn eliminate(alloc: Global, rows: &Rows) -> Result<Verdict, LinErr>
     ensures exact { Says result (verdict_of rows.now) }
     ensures sat { IfOk result (λ verdict. (verdict ≡ Verdict.Sat) ↔ IsMet rows.now) }
     ensures unsat { IfOk result (λ verdict. IfUnsat verdict (ReachesFalse rows.now)) }
+    ensures multipliers { IfOk result (λ verdict. IfUnsat verdict (Each StepInRange)) }
 {
     match elimination(alloc, rows.as_slice()) {
         Ok(_) => Ok(Verdict::Sat),

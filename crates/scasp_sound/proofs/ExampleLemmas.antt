@@ -5,9 +5,10 @@ use Rattle.scasp_syntax.specs.Same.{same_atom}
 use Rattle.scasp_syntax.specs.declared.atom.Atom.{Atom}
 use Rattle.scasp_syntax.proofs.SameLemmas.{atom_decided}
 use Rattle.scasp_model.specs.Atoms.{among}
+use Rattle.scasp_model.specs.Examples.{lit, rule, p, q, r}
 use Rattle.scasp_model.specs.Residual.{residual}
 use Rattle.scasp_model.specs.Stable.{Stable}
-use Rattle.scasp_sound.specs.Examples.{lit, rule, p, q, r, circle, entered, choice}
+use Rattle.scasp_sound.specs.Examples.{circle, entered, choice}
 use Rattle.scasp_sound.specs.Support.{Founded, by_rule, RestsBelow, Lower, Supports}
 use Rattle.scasp_sound.proofs.FoundedLemmas.{founded-by_rank}
 use Rattle.scasp_sound.proofs.JoinLemmas.{joined}

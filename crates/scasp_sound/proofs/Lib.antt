@@ -2,7 +2,6 @@ pub mod BelowLemmas
 pub mod BodyLemmas
 pub mod CarriedLemmas
 pub mod ExampleLemmas
-pub mod ExistenceLemmas
 pub mod FoundedLemmas
 pub mod HeadLemmas
 pub mod JoinLemmas

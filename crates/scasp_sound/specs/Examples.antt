@@ -1,34 +1,10 @@
 -- Small programs. What they support stands at the law `small_programs`.
-use Rattle.std.specs.Prelude.{◌≡◌, ℕ, Bool, true, false, List, [], ◌∷◌, Option, Some, None}
+use Rattle.std.specs.Prelude.{◌≡◌, true, false, List, [], ◌∷◌, Some, None}
 use Rattle.std.proofs.Common.{refl}
-use Rattle.scasp_syntax.specs.Tm.{nil}
-use Rattle.scasp_syntax.specs.declared.atom.Atom.{Atom}
-use Rattle.scasp_syntax.specs.declared.atom.Lit.{Lit}
+use Rattle.scasp_model.specs.Examples.{lit, rule, p, q, r, s}
 use Rattle.scasp_model.specs.Residual.{residual}
 use Rattle.scasp_model.specs.declared.program.GroundClause.{GroundClause}
-use Rattle.scasp_sound.specs.Existence.{is_without_denials}
 use Rattle.scasp_sound.specs.Support.{negated_atoms}
-
-abbrev atom : ℕ → Atom
-atom name = record { minus = false; name = name; args = nil }
-
-abbrev pub lit : Bool → Atom → Lit
-lit positive a = record { positive = positive; atom = a }
-
-abbrev pub rule : Option Atom → List Lit → GroundClause
-rule head body = record { head = head; body = body }
-
-abbrev pub p : Atom
-p = atom 2
-
-abbrev pub q : Atom
-q = atom 3
-
-abbrev pub r : Atom
-r = atom 4
-
-abbrev pub s : Atom
-s = atom 5
 
 -- p :- p.
 abbrev pub circle : List GroundClause
@@ -51,9 +27,6 @@ choice =
 -- r :- not s.
 choice_left : residual (p ∷ []) (q ∷ []) choice ≡ rule (Some r) (lit false s ∷ []) ∷ []
 choice_left = refl
-
-denied : is_without_denials choice ≡ false
-denied = refl
 
 negated : negated_atoms (lit true p ∷ lit false q ∷ lit false p ∷ []) ≡ q ∷ p ∷ []
 negated = refl

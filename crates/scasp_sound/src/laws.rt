@@ -1,17 +1,14 @@
 //! What holds of atoms that a ground program supports.
 ghost use Rattle.std.specs.Prelude.{◌≡◌, ℕ, ◌+◌, ◌⊎◌, Bool, IsTrue, List, [], ◌∷◌, ◌++◌, length, not, Contains};
 ghost use Rattle.scasp_model.specs.Atoms.{SameAtoms, among};
-ghost use Rattle.scasp_model.specs.Least.{least_model};
+ghost use Rattle.scasp_model.specs.Examples.{p, q, r};
 ghost use Rattle.scasp_model.specs.Levelled.{plus_steps, plus_model, levelled_model};
 ghost use Rattle.scasp_model.specs.Levels.{keeps_rule, keeps_levels};
-ghost use Rattle.scasp_model.specs.Programs.{is_without_not};
-ghost use Rattle.scasp_model.specs.Reduct.{definite};
 ghost use Rattle.scasp_model.specs.Residual.{residual, residual_of};
 ghost use Rattle.scasp_model.specs.Stable.{Stable};
 ghost use Rattle.scasp_model.specs.declared.program.GroundClause.{GroundClause as ThisClause};
 ghost use Rattle.scasp_sound.specs.Carried.{CarriedByRule};
-ghost use Rattle.scasp_sound.specs.Examples.{choice, circle, entered, p, q, r};
-ghost use Rattle.scasp_sound.specs.Existence.{Extends, HasStable, is_without_denials};
+ghost use Rattle.scasp_sound.specs.Examples.{choice, circle, entered};
 ghost use Rattle.scasp_sound.specs.Support.{BodiesWithin, Founded, Joins, Lower, LowerInPair, RestsBelow, Supports};
 ghost use Rattle.scasp_syntax.specs.declared.atom.Atom.{Atom as ThisAtom};
 
@@ -39,16 +36,6 @@ pub fn carried()
 pub fn support()
     ensures sound { (g : List ThisClause) (f m : List ThisAtom) → Stable g m → ((b : ThisAtom) → IsTrue (among f b) → IsTrue (not (among m b))) → (a : ThisAtom) → Founded g f a → IsTrue (among m a) }
     ensures complete { (g : List ThisClause) (f m : List ThisAtom) → Stable g m → ((b : ThisAtom) → IsTrue (among f b) → IsTrue (not (among m b))) → BodiesWithin g m f → Supports g m f }
-{}
-
-/// A program without `not` and denials has a stable model, and what known atoms leave of it is again
-/// such a program. So what they leave of it has a stable model, and atoms that it supports extend to one.
-pub fn existence()
-    ensures least { (g : List ThisClause) → IsTrue (is_without_not g) → IsTrue (is_without_denials g) → Stable g (least_model (definite g)) }
-    ensures without_not { (g : List ThisClause) (t f : List ThisAtom) → IsTrue (is_without_not g) → IsTrue (is_without_not (residual t f g)) }
-    ensures without_denials { (g : List ThisClause) (t f : List ThisAtom) → IsTrue (is_without_denials g) → IsTrue (is_without_denials (residual t f g)) }
-    ensures some { (g : List ThisClause) (t f : List ThisAtom) → IsTrue (is_without_not g) → IsTrue (is_without_denials g) → HasStable (residual t f g) }
-    ensures extends { (g : List ThisClause) (t f : List ThisAtom) → IsTrue (is_without_not g) → IsTrue (is_without_denials g) → Supports g t f → Extends g t }
 {}
 
 /// Rules that keep levels and signs have a stable model, the levelled one. Within a level, more steps than

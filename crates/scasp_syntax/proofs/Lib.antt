@@ -1,3 +1,4 @@
+pub mod ConstraintLemmas
 pub mod SameLemmas
 pub mod TermLemmas
 pub mod ValueLemmas

@@ -1,23 +1,20 @@
--- Whether a linear comparison holds under a valuation.
-use Rattle.std.specs.Prelude.{Bool, ℤ, pos, ◌+ℤ◌, ◌*ℤ◌, List, [], ◌∷◌}
-use Rattle.scasp_num.specs.Linear.{Linear, compares}
-use Rattle.scasp_num.specs.declared.linear.Coeff.{Coeff}
+-- Whether a linear comparison holds under a substitution: where each variable stands for the number that its value is.
+use Rattle.std.specs.Prelude.{ℕ, Bool}
+use Rattle.scasp_num.specs.Linear.{Linear}
+use Rattle.scasp_num.specs.Number.{Number, zero_number}
+use Rattle.scasp_num.specs.Values.{holds}
 use Rattle.scasp_syntax.specs.Tm.{Tm, var, num, app}
 use Rattle.scasp_syntax.specs.Values.{Sub}
 
--- the numerator and the denominator of a value; what is no number counts as 0
-abbrev pub fraction_of : Tm → ℤ × ℤ
-fraction_of (var x) = (pos 0, pos 1)
-fraction_of (num q) = (q.num, q.den)
-fraction_of (app f ts) = (pos 0, pos 1)
+-- the number that a value is; what is no number counts as 0
+abbrev pub number_of : Tm → Number
+number_of (var x) = zero_number
+number_of (num q) = q
+number_of (app f ts) = zero_number
 
--- the constant and each coefficient times its variable's value, summed, as a numerator and a denominator above 0
-abbrev pub sum_under : Sub → ℤ → List Coeff → ℤ × ℤ
-sum_under v constant [] = (constant, pos 1)
-sum_under v constant (k ∷ ks) =
-    let value = fraction_of (v k.x) in
-    let rest = sum_under v constant ks in
-    (((k.c *ℤ value.0) *ℤ rest.1) +ℤ (rest.0 *ℤ value.1), value.1 *ℤ rest.1)
+-- the numbers of the variables
+abbrev pub point : Sub → ℕ → Number
+point v x = number_of (v x)
 
 abbrev pub row_holds : Sub → Linear → Bool
-row_holds v r = compares r.op (sum_under v r.constant r.coeffs).0
+row_holds v r = holds (point v) r

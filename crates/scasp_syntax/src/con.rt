@@ -17,7 +17,7 @@ pub enum Con {
     Num(Term),
     /// The term is no number.
     NotNum(Term),
-    /// The linear comparison holds, and its variables are numbers.
+    /// The linear comparison holds, where a variable that is no number counts as 0.
     Row(Row),
 }
 

@@ -1,8 +1,12 @@
 //! What holds of terms and programs.
-ghost use Rattle.std.specs.Prelude.{◌≡◌, ◌≢◌, ◌↔◌, IsTrue};
+ghost use Rattle.std.specs.Prelude.{◌≡◌, ◌≢◌, ◌↔◌, ℕ, IsTrue, length};
+ghost use Rattle.scasp_num.specs.Linear.{Linear};
+ghost use Rattle.scasp_num.specs.Number.{Number};
+ghost use Rattle.scasp_num.specs.Values.{Holds};
 ghost use Rattle.scasp_syntax.specs.Same.{same_tm, same_tms, same_pred, same_atom, same_lit};
 ghost use Rattle.scasp_syntax.specs.Constraints.{holds};
-ghost use Rattle.scasp_syntax.specs.Tm.{Tm, Tms};
+ghost use Rattle.scasp_syntax.specs.Tm.{Tm, Tms, num, app, items};
+ghost use Rattle.scasp_syntax.specs.RowTruth.{point};
 ghost use Rattle.scasp_syntax.specs.Values.{Sub, Valuation, under, is_ground};
 ghost use Rattle.scasp_syntax.specs.View.{tm_of};
 ghost use Rattle.scasp_syntax.specs.declared.con.Con.TheVariants as con;
@@ -30,4 +34,20 @@ pub fn substitutions_compose()
 pub fn equations_hold_for_equal_values()
     ensures equation { (v : Sub) (t s : ThisTerm) → IsTrue (holds v (con.Eq t s)) ↔ (under v (tm_of t) ≡ under v (tm_of s)) }
     ensures disequation { (v : Sub) (t s : ThisTerm) → IsTrue (holds v (con.Neq t s)) ↔ (under v (tm_of t) ≢ under v (tm_of s)) }
+{}
+
+/// A term is a number exactly where its value is one, and it is none exactly where its value is none.
+pub fn numbers_are_tested()
+    ensures number { (v : Sub) (t : ThisTerm) → IsTrue (holds v (con.Num t)) ↔ ((q : Number) × (under v (tm_of t) ≡ num q)) }
+    ensures no_number { (v : Sub) (t : ThisTerm) → IsTrue (holds v (con.NotNum t)) ↔ ((q : Number) → under v (tm_of t) ≢ num q) }
+{}
+
+/// A variable has not a name with so many arguments exactly where its value is no such term.
+pub fn shapes_are_excluded()
+    ensures { (v : Sub) (x name arity : ℕ) → IsTrue (holds v (con.NotShape x name arity)) ↔ ((ts : Tms) → length (items ts) ≡ arity → v x ≢ app name ts) }
+{}
+
+/// A row holds exactly where it is true of the numbers that the variables are.
+pub fn rows_hold_at_points()
+    ensures { (v : Sub) (r : Linear) → IsTrue (holds v (con.Row r)) ↔ Holds (point v) r }
 {}

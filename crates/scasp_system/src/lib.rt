@@ -6,8 +6,6 @@ mod host;
 mod opener;
 mod retrying;
 mod sink;
-#[cfg(test)]
-mod tests;
 mod words;
 
 pub use files::SystemFiles;

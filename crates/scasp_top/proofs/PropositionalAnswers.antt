@@ -257,27 +257,45 @@ no-length : {A : Type 0} (xs : List A) → is_empty xs ≡ true → 0 ≡ length
 no-length [] e = refl
 no-length (x ∷ xs) e = cc
 
+event-shown : (p : Program) → IsTrue (are_propositional p.clauses p.queries)
+    → (number : ℕ) (query : Query) → numbered p.queries number ≡ Some query
+    → (budget calls : ℕ) (rest : List State) (c : Certificate)
+    → Finds (search_for p.clauses number) budget (start query.body ∷ []) 0 (record { event = answered c; calls = calls; rest = rest })
+    → IsShownBy p.clauses (flat_body query.body) number c × IsTrue (is_empty query.names)
+event-shown p plain number query named budget calls rest c found =
+    let both = and_parts (list_all is_propositional_rule p.clauses) (list_all is_propositional_query p.queries) plain in
+    let parts = and_parts (are_plain_calls query.body) (is_empty query.names) (query-propositional p.queries number query both.1 named) in
+    let begins : IsSound p.clauses (flat_body query.body) (start query.body) =
+    closed-sound p.clauses (flat_body query.body) [] query.body [] (record { shown = []; parts = refl; trees = tt; plain = parts.0 }) in
+    (walk-shown p.clauses (flat_body query.body) number budget found.0 (start query.body ∷ []) 0 _ c both.0 (begins, tt) found.1 refl, parts.1)
+
 pub answers-accepted : (p : Program) → IsTrue (are_propositional p.clauses p.queries)
     → (number : ℕ) (query : Query) → numbered p.queries number ≡ Some query
     → (budget calls : ℕ) (rest : List State) (c : Certificate)
     → Finds (search_for p.clauses number) budget (start query.body ∷ []) 0 (record { event = answered c; calls = calls; rest = rest })
     → Accepts p c
 answers-accepted p plain number query named budget calls rest c found =
-    let both = and_parts (list_all is_propositional_rule p.clauses) (list_all is_propositional_query p.queries) plain in
-    let parts = and_parts (are_plain_calls query.body) (is_empty query.names) (query-propositional p.queries number query both.1 named) in
-    let begins : IsSound p.clauses (flat_body query.body) (start query.body) =
-    closed-sound p.clauses (flat_body query.body) [] query.body [] (record { shown = []; parts = refl; trees = tt; plain = parts.0 }) in
-    let shown : IsShownBy p.clauses (flat_body query.body) number c =
-    walk-shown p.clauses (flat_body query.body) number budget found.0 (start query.body ∷ []) 0 _ c both.0 (begins, tt) found.1 refl in
+    let answer = event-shown p plain number query named budget calls rest c found in
+    let shown : IsShownBy p.clauses (flat_body query.body) number c = answer.0 in
     subst (Accepts p) (sym shown.is) (record {
       query = query;
       named = named;
-      each_variable = no-length query.names parts.1;
+      each_variable = no-length query.names answer.1;
       no_variable = refl;
       nothing_given = refl;
       trees = shown.accepted;
       no_check = refl;
       no_clash = refl;
       sample = refl;
-      no_map = refl;
+      map = refl;
     })
+
+-- an answer of the search gives no level and no sign
+pub answers-without_map : (p : Program) → IsTrue (are_propositional p.clauses p.queries)
+    → (number : ℕ) (query : Query) → numbered p.queries number ≡ Some query
+    → (budget calls : ℕ) (rest : List State) (c : Certificate)
+    → Finds (search_for p.clauses number) budget (start query.body ∷ []) 0 (record { event = answered c; calls = calls; rest = rest })
+    → c.map ≡ []
+answers-without_map p plain number query named budget calls rest c found =
+    let shown : IsShownBy p.clauses (flat_body query.body) number c = (event-shown p plain number query named budget calls rest c found).0 in
+    ap (λ (z : Certificate). z.map) shown.is

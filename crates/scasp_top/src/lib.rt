@@ -5,8 +5,6 @@ pub mod laws;
 mod output;
 mod program_run;
 mod status;
-#[cfg(test)]
-mod tests;
 mod top;
 mod words;
 

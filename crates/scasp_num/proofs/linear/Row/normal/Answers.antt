@@ -7,6 +7,7 @@ use Rattle.scasp_num.specs.Linear.{Ascends}
 use Rattle.scasp_num.specs.Sums.{summed, whole, normal_of}
 use Rattle.scasp_num.proofs.Numbers.{stored, plain}
 use Rattle.scasp_num.proofs.Wholes.{summed-Rises, whole-Ascends, whole-range, normal_of-meets}
+use Rattle.scasp_num.proofs.PairSums.{normal_of-holds}
 use Rattle.scasp_num.proofs.linear.Row.normal.Goals as goal
 
 pub normal_form-requires-clause-ascending : goal.normal_form-requires-clause-ascending
@@ -35,3 +36,6 @@ returns-clause-exact c = grind (arith, plain)
 
 pub returns-clause-meets : goal.returns-clause-meets
 returns-clause-meets c = normal_of-meets c.args.pairs.now c.args.constant.now c.args.op c.in_ok-row.row (returns-clause-exact c)
+
+pub returns-clause-holds : goal.returns-clause-holds
+returns-clause-holds c = normal_of-holds c.args.pairs.now c.args.constant.now c.args.op c.in_ok-row.row (returns-clause-exact c)

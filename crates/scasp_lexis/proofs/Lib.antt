@@ -1,0 +1,10 @@
+pub mod Walks
+pub mod SignLemmas
+pub mod CommentLemmas
+pub mod QuotedLemmas
+pub mod Utf8Lemmas
+pub mod NumberLemmas
+pub mod DirectiveLemmas
+pub mod NameLemmas
+pub mod FrontLemmas
+pub mod TokenLemmas
