@@ -1,0 +1,11 @@
+pub mod TestLemmas
+pub mod NodeLemmas
+pub mod CaseLemmas
+pub mod PairLemmas
+pub mod AcceptedLemmas
+pub mod ScopeLemmas
+pub mod OlderLemmas
+pub mod NormalityLemmas
+pub mod HintLemmas
+pub mod ApartLemmas
+pub mod ListLemmas
