@@ -1,10 +1,10 @@
 -- What is left of a program that keeps a map keeps the map's levels and signs.
-use Rattle.std.proofs.Common.{◌≡◌, ◌∷◌, ◌∙◌, ℕ, zero, suc, ◌+◌, Bool, true, false, ◌&&◌, ◌||◌, nat_eq, List, [], Option, None, Some, length, refl, ap, sym, subst, inl, inr, arith}
+use Rattle.std.proofs.Common.{◌≡◌, ◌∷◌, ◌∙◌, ℕ, zero, suc, ◌+◌, Bool, true, ◌||◌, nat_eq, List, [], Option, None, Some, length, refl, ap, sym, subst, inl, inr, arith}
 use Rattle.std.specs.List.{Contains, list_all, list_any, filter, flat_map, slice_get}
 use Rattle.std.proofs.lemmas.Bool.{and_parts, and_from, or_cases, or_parts, cond-true, cases_Bool}
 use Rattle.std.proofs.lemmas.Option.{slice_get-get_or}
 use Rattle.scasp_syntax.specs.Instances.{atom_under, head_under}
-use Rattle.scasp_syntax.specs.Programs.{numbered, pred_of}
+use Rattle.scasp_syntax.specs.Programs.{pred_of}
 use Rattle.scasp_syntax.specs.Tm.{Tm, Tms, items, nil, cons}
 use Rattle.scasp_syntax.specs.Values.{Sub, all_under, giving}
 use Rattle.scasp_syntax.specs.declared.atom.Atom.{Atom}
@@ -20,7 +20,7 @@ use Rattle.scasp_graph.proofs.MapLemmas.{faults-cons}
 use Rattle.scasp_model.specs.Grounding.{choices, ground_program, instances, instance_of, is_test_true, literal_under}
 use Rattle.scasp_model.specs.Levels.{keeps_literal, keeps_rule, keeps_levels}
 use Rattle.scasp_model.specs.Programs.{head_is}
-use Rattle.scasp_model.specs.Residual.{is_known, is_known_true, is_known_false, residual_of, residual}
+use Rattle.scasp_model.specs.Residual.{is_known, is_known_false, residual_of, residual}
 use Rattle.scasp_model.specs.declared.program.GroundClause.{GroundClause}
 use Rattle.scasp_sound.proofs.KeepingLemmas.{residual-keeps}
 use Rattle.scasp_sound.proofs.ListLemmas.{Contains-none, Contains-from_map, Contains-from_flat_map}

@@ -4,16 +4,14 @@ use Rattle.std.specs.List.{Contains, list_all, list_any, flat_map, filter}
 use Rattle.std.proofs.lemmas.Bool.{false≢true, and_parts, and_from, cond-true, cond-false}
 use Rattle.std.proofs.lemmas.List.{append-nil}
 use Rattle.scasp_syntax.specs.Flat.{flat_body}
-use Rattle.scasp_syntax.specs.Instances.{atom_under, head_under}
+use Rattle.scasp_syntax.specs.Instances.{atom_under}
 use Rattle.scasp_syntax.specs.Same.{same_atom}
 use Rattle.scasp_syntax.specs.Tm.{Tm, items}
 use Rattle.scasp_syntax.specs.Values.{Sub, giving}
 use Rattle.scasp_syntax.specs.declared.atom.Atom.{Atom}
 use Rattle.scasp_syntax.specs.declared.atom.Lit.{Lit}
-use Rattle.scasp_syntax.specs.declared.clause.Clause.{Clause}
 use Rattle.scasp_syntax.specs.declared.clause.FlatItem.{FlatItem}
 use Rattle.scasp_syntax.specs.declared.clause.FlatItem.TheVariants as flat
-use Rattle.scasp_syntax.specs.declared.clause.Item.{Item}
 use Rattle.scasp_syntax.specs.declared.clause.Item.TheVariants as item
 use Rattle.scasp_syntax.specs.declared.program.Program.{Program}
 use Rattle.scasp_syntax.proofs.SameLemmas.{atom_decided}
@@ -31,7 +29,7 @@ use Rattle.scasp_sound.specs.Good.{Good, GoodAt, GoodRight, Extendable, holds_by
 use Rattle.scasp_sound.specs.Support.{Founded, Supports, Joins}
 use Rattle.scasp_sound.proofs.JoinLemmas.{joined}
 use Rattle.scasp_sound.proofs.LevelInduction.{levelled-stable}
-use Rattle.scasp_sound.proofs.ListLemmas.{Contains-here, Contains-there, Contains-map, Contains-from_map, Contains-from_flat_map, Contains-filter, Contains-from_filter, list_all-from, list_all-member, list_any-from, list_any-member}
+use Rattle.scasp_sound.proofs.ListLemmas.{Contains-here, Contains-there, Contains-map, Contains-from_map, Contains-filter, Contains-from_filter, list_all-from, list_any-from, list_any-member}
 use Rattle.scasp_sound.proofs.SupportLemmas.{Supports-founded}
 use Rattle.scasp_checker.specs.Accepted.{Accepts, AreAccepted}
 use Rattle.scasp_checker.specs.MapLevels.{level_of, plus_of, NoneLeft}

@@ -1,5 +1,5 @@
 -- What follows from the answers of the checker.
-use Rattle.std.proofs.Common.{◌≡◌, ◌∙◌, List, [], None, Some, ap, sym}
+use Rattle.std.proofs.Common.{◌≡◌, ◌∙◌, [], None, Some, ap, sym}
 use Rattle.scasp_syntax.specs.declared.program.Program.{Program}
 use Rattle.scasp_cert.specs.Certificate.{Certificate}
 use Rattle.scasp_graph.specs.Map.{map_faults}
