@@ -3,6 +3,7 @@ pub mod FailureLemmas
 pub mod LaterParts
 pub mod Members
 pub mod NegationLemmas
+pub mod NumberLemmas
 pub mod PointLemmas
 pub mod ResolvedRowLemmas
 pub mod ResolverLemmas

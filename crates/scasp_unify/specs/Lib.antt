@@ -4,6 +4,7 @@ pub mod Numbers
 pub mod Parts
 pub mod PointMeets
 pub mod Points
+pub mod ResolvedLists
 pub mod ResolvedRows
 pub mod Resolver
 pub mod SimpleForm

@@ -2,6 +2,7 @@
 ghost use Rattle.std.specs.Prelude.{◌≡◌, ◌≢◌, ◌<◌, [], ◌∷◌, length, map, take, IfOk, IfSome, MatchOption, is_some, option_map};
 ghost use Rattle.scasp_syntax.specs.Values.{under};
 ghost use Rattle.scasp_syntax.specs.View.{tm_of};
+ghost use Rattle.scasp_unify.specs.Parts.{parts};
 ghost use Rattle.scasp_unify.specs.Resolver.{extended};
 ghost use Rattle.scasp_unify.specs.Solving.{Clashes, LeadsTo, Solves, part_of, resolved_parts, sub_of};
 ghost use Rattle.scasp_unify.specs.Unification.{Absorbs, unifier};
@@ -11,6 +12,26 @@ use crate::parts::{Part, find_parts};
 use scasp_list::Memory;
 use scasp_syntax::Term;
 use std::alloc::Global;
+
+/// The parts of an equation between two terms, as the bindings resolve them; None where they clash.
+pub fn resolved_sides(
+    alloc: Global,
+    left: &Term,
+    right: &Term,
+    bindings: &[Binding],
+) -> Result<Option<Vec<Part>>, Memory>
+    ensures { IfOk result (λ found. option_map (λ v. map part_of v.items) found
+        ≡ parts (under (sub_of bindings.now) (tm_of left.now)) (under (sub_of bindings.now) (tm_of right.now))) }
+{
+    let first = resolve(alloc, left, bindings)?;
+    let second = resolve(alloc, right, bindings)?;
+    let mut found = Vec::new(alloc);
+    if find_parts(alloc, &first, &second, &mut found)? {
+        Ok(Some(found))
+    } else {
+        Ok(None)
+    }
+}
 
 /// The parts of a part, as the bindings resolve it; None where it clashes.
 fn resolved_parts(
