@@ -1,0 +1,59 @@
+-- Small steps of a reader, computed.
+use Rattle.std.specs.Prelude.{◌≡◌, ℕ, List, [], ◌∷◌, codes, Option, None, Some, Result, Ok, Err, pos, option_map}
+use Rattle.std.proofs.Common.{refl}
+use Rattle.scasp_num.specs.Gcd.{gcd, gcd_within}
+use Rattle.scasp_num.specs.Arithmetic.{number, lowest, quotient_of, product_of}
+use Rattle.scasp_syntax.specs.Tm.{num}
+use Rattle.scasp_lexis.specs.Numbers.{literal_value}
+use Rattle.scasp_lexis.specs.Tokens.{tokens_of}
+use Rattle.scasp_phrase.specs.declared.fault.Fault.{Fault}
+use Rattle.scasp_phrase.specs.declared.fault.Kind.TheVariants as kind
+use Rattle.scasp_phrase.specs.Faults.{fault_at}
+use Rattle.scasp_phrase.specs.Steps.{State, start}
+use Rattle.scasp_phrase.specs.Names.{variable_at}
+use Rattle.scasp_phrase.specs.Constants.{constant}
+
+abbrev reader_of : List ℕ → State
+reader_of text = start (tokens_of text) []
+
+abbrev value_of : {A : Type 0} → Result (A × State) Fault → Option A
+value_of (Ok x) = Some x.0
+value_of (Err f) = None
+
+-- the fault that was noted, or that stopped the reader
+abbrev fault_of : {A : Type 0} → Result (A × State) Fault → Option Fault
+fault_of (Ok x) = x.1.fault
+fault_of (Err f) = Some f
+
+a_fraction : value_of (constant (reader_of (codes "6/8."))) ≡ option_map num (number (pos 3) (pos 4))
+unfolding tokens_of literal_value lowest gcd gcd_within quotient_of product_of
+a_fraction = refl
+
+a_zero_divisor : fault_of (constant (reader_of (codes "2/0 = X"))) ≡ Some (fault_at 2 kind.Expected)
+unfolding tokens_of literal_value lowest gcd gcd_within
+a_zero_divisor = refl
+
+a_large_number : fault_of (constant (reader_of (codes "170141183460469231731687303715884105728"))) ≡ Some (fault_at 0 kind.NumberTooLarge)
+unfolding tokens_of literal_value
+a_large_number = refl
+
+a_name : fault_of (constant (reader_of (codes "- a"))) ≡ Some (fault_at 2 kind.Expected)
+unfolding tokens_of
+a_name = refl
+
+a_sign_of_prolog : fault_of (constant (reader_of (codes "->"))) ≡ Some (fault_at 0 kind.Unsupported)
+unfolding tokens_of
+a_sign_of_prolog = refl
+
+a_bar_outside_of_lists : fault_of (constant (reader_of (codes "|"))) ≡ Some (fault_at 0 kind.Unsupported)
+unfolding tokens_of
+a_bar_outside_of_lists = refl
+
+abbrev clause_with : List (List ℕ) → State
+clause_with variables = record (start [] []) { variables = variables }
+
+a_known_variable : value_of (variable_at 7 (codes "Y") (clause_with (codes "X" ∷ codes "Y" ∷ []))) ≡ Some 1
+a_known_variable = refl
+
+an_anonymous_variable : value_of (variable_at 7 (codes "_") (clause_with (codes "_" ∷ codes "Y" ∷ []))) ≡ Some 2
+an_anonymous_variable = refl

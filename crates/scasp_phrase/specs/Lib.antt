@@ -1,0 +1,6 @@
+pub mod Faults
+pub mod SameSign
+pub mod Steps
+pub mod Names
+pub mod Constants
+pub mod Examples
