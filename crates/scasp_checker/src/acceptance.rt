@@ -51,7 +51,7 @@ fn is_atom_of(alloc: Global, values: &Terms, due: &FlatItem, atom: &Atom) -> Res
     match due {
         FlatItem::Call(lit) => {
             let wanted = instance_atom(alloc, &lit.atom, values)?;
-            Ok(same_atom(atom, &wanted))
+            same_atom(alloc, atom, &wanted)
         }
         FlatItem::Test(_) => Ok(false),
     }
@@ -77,7 +77,7 @@ fn is_instance(alloc: Global, terms: &Terms, atom: &Atom, clause: &Clause) -> Re
     match &clause.head {
         Some(head) => {
             let head = instance_atom(alloc, head, terms)?;
-            Ok(same_atom(&head, atom))
+            same_atom(alloc, &head, atom)
         }
         None => Ok(false),
     }
@@ -112,11 +112,8 @@ fn accept_line(
 ) -> Result<(), CheckErr>
     ensures { Judges result (own_faults program.now.clauses line (items values.now) due.now atom.now rule terms.now) }
 {
-    want(
-        line,
-        Reason::WrongVariable,
-        are_ground(&atom.args) && are_ground(terms),
-    )?;
+    let is_closed = are_ground(alloc, &atom.args)? && are_ground(alloc, terms)?;
+    want(line, Reason::WrongVariable, is_closed)?;
     want(line, Reason::WrongNode, is_positive_call(due))?;
     want(
         line,
@@ -293,16 +290,13 @@ fn accept_query(
     ensures { Judges result (query_faults program.now (certificate_of cert.now) query.now) }
 {
     want(0, Reason::WrongQuery, cert.terms.len() == query.names.len())?;
-    want(
-        0,
-        Reason::WrongVariable,
-        are_ground(&cert.terms) && cert.given.len() == 0,
-    )?;
+    let is_closed = are_ground(alloc, &cert.terms)?;
+    want(0, Reason::WrongVariable, is_closed && cert.given.len() == 0)?;
     let dues = flat_items(alloc, &query.body)?;
     let behind = accept_nodes(alloc, &cert.trees, program, 0, 1, &cert.terms, &dues)?;
     want(behind, Reason::WrongNode, cert.checks.len() == 0)?;
     accept_clashes(&cert.clashes)?;
-    want(0, Reason::Sample, are_ground(&cert.sample))?;
+    want(0, Reason::Sample, are_ground(alloc, &cert.sample)?)?;
     let preds = predicates(alloc, program)?;
     want(0, Reason::WrongMap, is_map_over(&preds, &cert.map))?;
     Ok(())

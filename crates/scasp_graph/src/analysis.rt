@@ -12,12 +12,12 @@ ghost use Rattle.scasp_graph.specs.Walks.{item_dependencies, clause_dependencies
 use crate::components::{Member, find_components};
 use crate::graph::{Edge, Graph};
 use crate::levels::{find_levels, find_odd};
-use crate::numbering::{Numbering, Preds};
+use crate::numbering::Numbering;
 use crate::occurrences::number;
 use crate::order::finishing_order;
 use scasp_name::Memory;
 use scasp_syntax::{
-    Atom, Clause, Item, Items, Pred, PredMap, PredMaps, Program, RuleList, Sequence,
+    Atom, Clause, Item, Items, Pred, PredMap, PredMaps, Preds, Program, RuleList, Sequence,
 };
 use std::alloc::Global;
 

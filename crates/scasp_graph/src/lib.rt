@@ -13,5 +13,5 @@ mod order;
 
 pub use analysis::{Analysis, analyse};
 pub use map::{MapFault, has_number, map_holds};
-pub use numbering::{Numbering, Preds};
+pub use numbering::Numbering;
 pub use occurrences::{number, predicates};

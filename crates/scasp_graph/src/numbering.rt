@@ -5,12 +5,9 @@ ghost use Rattle.scasp_graph.specs.Numbering.{place_in};
 
 use indexmap::IndexSet;
 use scasp_name::Memory;
-use scasp_syntax::{Pred, Sequence};
+use scasp_syntax::{Pred, Preds};
 use std::alloc::Global;
 use std::marker::Model;
-
-/// A list of predicates.
-pub type Preds = Sequence<Pred>;
 
 /// Distinct predicates in order, each with its place.
 #[derive(Drop)]
@@ -73,7 +70,7 @@ impl Numbering {
     pub fn predicates(&self, alloc: Global) -> Result<Preds, Memory>
         ensures { IfOk result (λ preds. preds ≡ self.now) }
     {
-        let mut preds = Sequence::new(alloc);
+        let mut preds = Preds::new(alloc);
         for pred in self.as_slice() {
             preds.push(*pred)?;
         }

@@ -4,9 +4,9 @@ ghost use Rattle.std.specs.List.{flat_map};
 ghost use Rattle.scasp_syntax.specs.Programs.{body_preds, clause_preds, predicates};
 ghost use Rattle.scasp_graph.specs.Growing.{grown, query_preds};
 
-use crate::numbering::{Numbering, Preds};
+use crate::numbering::Numbering;
 use scasp_name::Memory;
-use scasp_syntax::{Clause, Clauses, Item, Items, Program, Queries};
+use scasp_syntax::{Clause, Clauses, Item, Items, Preds, Program, Queries};
 use std::alloc::Global;
 
 /// Puts the predicates of the body at the end that are not in the list.

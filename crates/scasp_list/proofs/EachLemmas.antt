@@ -1,6 +1,7 @@
--- What holds of each item of a list: weakened, of two lists, at a place, and of what a filter keeps.
-use Rattle.std.proofs.Common.{◌≡◌, ℕ, zero, suc, Bool, true, false, cond, List, [], ◌∷◌, ◌++◌, Some, subst}
-use Rattle.std.specs.List.{filter, slice_get}
+-- What holds of each item of a list: weakened, of two lists, at a place, by a test, and of what a filter keeps.
+use Rattle.std.proofs.Common.{◌≡◌, ℕ, zero, suc, Bool, true, false, cond, List, [], ◌∷◌, ◌++◌, Some, refl, subst}
+use Rattle.std.specs.List.{filter, list_all, slice_get}
+use Rattle.std.proofs.lemmas.Bool.{and_from, and_parts}
 use Rattle.scasp_list.specs.Each.{Each}
 
 pub Each-map : {A : Type 0} (P Q : A → Type 0) → ((x : A) → P x → Q x) → (xs : List A) → Each P xs → Each Q xs
@@ -27,6 +28,14 @@ pub Each-at : {A : Type 0} (P : A → Type 0) (xs : List A) (i : ℕ) (x : A) �
 Each-at P [] i x e f = cc
 Each-at P (y ∷ ys) zero x e f = subst P (let same : y ≡ x = cc in same) e.0
 Each-at P (y ∷ ys) (suc i) x e f = Each-at P ys i x e.1 f
+
+pub Each-from_test : {A : Type 0} (p : A → Bool) (P : A → Type 0) → ((x : A) → p x ≡ true → P x) → (xs : List A) → list_all p xs ≡ true → Each P xs
+Each-from_test p P f [] e = tt
+Each-from_test p P f (x ∷ xs) e = let parts = and_parts (p x) (list_all p xs) e in (f x parts.0, Each-from_test p P f xs parts.1)
+
+pub test_from-Each : {A : Type 0} (p : A → Bool) (P : A → Type 0) → ((x : A) → P x → p x ≡ true) → (xs : List A) → Each P xs → list_all p xs ≡ true
+test_from-Each p P f [] e = refl
+test_from-Each p P f (x ∷ xs) e = and_from (p x) (list_all p xs) (f x e.0) (test_from-Each p P f xs e.1)
 
 pub Each-filter : {A : Type 0} (P : A → Type 0) (p : A → Bool) (xs : List A) → Each P xs → Each P (filter p xs)
 Each-filter P p [] e = tt

@@ -3,8 +3,6 @@
 
 mod memory;
 mod sequence;
-#[cfg(test)]
-mod tests;
 
 pub use memory::Memory;
 pub use sequence::Sequence;

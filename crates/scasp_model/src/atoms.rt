@@ -1,20 +1,32 @@
 //! Lists of atoms as sets.
-ghost use Rattle.std.specs.Prelude.{◌≡◌, ◌&&◌};
+ghost use Rattle.std.specs.Prelude.{◌≡◌, IfOk};
 ghost use Rattle.scasp_model.specs.Atoms.{among, has_all};
 
 use crate::program::AtomList;
+use scasp_name::Memory;
 use scasp_syntax::{Atom, same_atom};
+use std::alloc::Global;
 
 /// Whether the atom is in the list.
-pub fn among(atoms: &AtomList, atom: &Atom) -> bool
-    ensures { result ≡ among atoms.now atom.now }
+pub fn among(alloc: Global, atoms: &AtomList, atom: &Atom) -> Result<bool, Memory>
+    ensures { IfOk result (λ answer. answer ≡ among atoms.now atom.now) }
 {
-    atoms.as_slice().iter().any(|other| same_atom(atom, other))
+    for other in atoms.as_slice() {
+        if same_atom(alloc, atom, other)? {
+            return Ok(true);
+        }
+    }
+    Ok(false)
 }
 
 /// Whether each of these atoms is in the list.
-pub fn has_all(atoms: &AtomList, wanted: &AtomList) -> bool
-    ensures { result ≡ has_all atoms.now wanted.now }
+pub fn has_all(alloc: Global, atoms: &AtomList, wanted: &AtomList) -> Result<bool, Memory>
+    ensures { IfOk result (λ answer. answer ≡ has_all atoms.now wanted.now) }
 {
-    wanted.as_slice().iter().all(|atom| among(atoms, atom))
+    for atom in wanted.as_slice() {
+        if !among(alloc, atoms, atom)? {
+            return Ok(false);
+        }
+    }
+    Ok(true)
 }

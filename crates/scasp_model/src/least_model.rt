@@ -58,7 +58,7 @@ fn round(alloc: Global, rules: &DefiniteRules, present: &AtomList) -> Result<Ato
 {
     let mut atoms = present.duplicate(alloc)?;
     for rule in rules.as_slice() {
-        if has_all(present, &rule.body) && !among(&atoms, &rule.head) {
+        if has_all(alloc, present, &rule.body)? && !among(alloc, &atoms, &rule.head)? {
             atoms.push(rule.head.duplicate(alloc)?)?;
         }
     }

@@ -10,12 +10,15 @@ use scasp_syntax::{Duplicate, Lits, Sequence};
 use std::alloc::Global;
 
 /// Whether the body has `not` before an atom of the list.
-fn is_blocked(atoms: &AtomList, body: &Lits) -> bool
-    ensures { result ≡ is_blocked atoms.now body.now }
+fn is_blocked(alloc: Global, atoms: &AtomList, body: &Lits) -> Result<bool, Memory>
+    ensures { IfOk result (λ answer. answer ≡ is_blocked atoms.now body.now) }
 {
-    body.as_slice()
-        .iter()
-        .any(|literal| !literal.positive && among(atoms, &literal.atom))
+    for literal in body.as_slice() {
+        if !literal.positive && among(alloc, atoms, &literal.atom)? {
+            return Ok(true);
+        }
+    }
+    Ok(false)
 }
 
 /// The atoms of the body that stand without `not`.
@@ -52,7 +55,7 @@ pub fn reduct(alloc: Global, g: &GroundProgram, m: &AtomList) -> Result<Definite
 {
     let mut rules = Sequence::new(alloc);
     for clause in g.as_slice() {
-        if is_blocked(m, &clause.body) {
+        if is_blocked(alloc, m, &clause.body)? {
             continue;
         }
         if let Some(head) = &clause.head {

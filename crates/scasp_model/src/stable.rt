@@ -12,41 +12,52 @@ use scasp_syntax::{Lit, Lits};
 use std::alloc::Global;
 
 /// Whether the literal is true where exactly these atoms are.
-fn is_true_in(m: &AtomList, literal: &Lit) -> bool
-    ensures { result ≡ is_true_in m.now literal.now }
+fn is_true_in(alloc: Global, m: &AtomList, literal: &Lit) -> Result<bool, Memory>
+    ensures { IfOk result (λ answer. answer ≡ is_true_in m.now literal.now) }
 {
-    among(m, &literal.atom) == literal.positive
+    let is_among = among(alloc, m, &literal.atom)?;
+    Ok(is_among == literal.positive)
 }
 
 /// Whether each literal of the body is true there.
-fn are_true_in(m: &AtomList, body: &Lits) -> bool
-    ensures { result ≡ are_true_in m.now body.now }
+fn are_true_in(alloc: Global, m: &AtomList, body: &Lits) -> Result<bool, Memory>
+    ensures { IfOk result (λ answer. answer ≡ are_true_in m.now body.now) }
 {
-    body.as_slice().iter().all(|literal| is_true_in(m, literal))
+    for literal in body.as_slice() {
+        if !is_true_in(alloc, m, literal)? {
+            return Ok(false);
+        }
+    }
+    Ok(true)
 }
 
 /// Whether the clause is a denial whose body is true there.
-fn is_violated(m: &AtomList, clause: &GroundClause) -> bool
-    ensures { result ≡ is_violated m.now clause.now }
+fn is_violated(alloc: Global, m: &AtomList, clause: &GroundClause) -> Result<bool, Memory>
+    ensures { IfOk result (λ answer. answer ≡ is_violated m.now clause.now) }
 {
     match &clause.head {
-        None => are_true_in(m, &clause.body),
-        Some(_) => false,
+        None => are_true_in(alloc, m, &clause.body),
+        Some(_) => Ok(false),
     }
 }
 
 /// Whether the program has a denial whose body is true there.
-fn has_violation(m: &AtomList, g: &GroundProgram) -> bool
-    ensures { result ≡ has_violation m.now g.now }
+fn has_violation(alloc: Global, m: &AtomList, g: &GroundProgram) -> Result<bool, Memory>
+    ensures { IfOk result (λ answer. answer ≡ has_violation m.now g.now) }
 {
-    g.as_slice().iter().any(|clause| is_violated(m, clause))
+    for clause in g.as_slice() {
+        if is_violated(alloc, m, clause)? {
+            return Ok(true);
+        }
+    }
+    Ok(false)
 }
 
 /// Whether the two lists have the same atoms.
-fn have_same_atoms(m: &AtomList, n: &AtomList) -> bool
-    ensures { IsTrue result ↔ SameAtoms m.now n.now }
+fn have_same_atoms(alloc: Global, m: &AtomList, n: &AtomList) -> Result<bool, Memory>
+    ensures { IfOk result (λ answer. IsTrue answer ↔ SameAtoms m.now n.now) }
 {
-    has_all(n, m) && has_all(m, n)
+    Ok(has_all(alloc, n, m)? && has_all(alloc, m, n)?)
 }
 
 /// Whether the atoms of the list are a stable model of the program: those of the least model of its
@@ -55,5 +66,5 @@ pub fn is_stable(alloc: Global, g: &GroundProgram, m: &AtomList) -> Result<bool,
     ensures { IfOk result (λ answer. IsTrue answer ↔ Stable g.now m.now) }
 {
     let model = least_of(alloc, &reduct(alloc, g, m)?)?;
-    Ok(have_same_atoms(m, &model) && !has_violation(m, g))
+    Ok(have_same_atoms(alloc, m, &model)? && !has_violation(alloc, m, g)?)
 }

@@ -16,3 +16,4 @@ pub mod SameRows
 pub mod Kept
 pub mod PairSums
 pub mod Fits
+pub mod NormalTests

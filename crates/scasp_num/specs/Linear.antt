@@ -1,5 +1,6 @@
 -- Linear comparisons with whole coefficients, as plain values: what they mean, and their normal form.
 use Rattle.std.specs.Prelude.{◌≡◌, ◌≢◌, ℕ, zero, suc, ◌<◌, ◌≤◌, Bool, true, false, ◌&&◌, not, ◌==◌, nat_lt, if◌then◌else◌, ℤ, pos, negsuc, ◌+ℤ◌, ◌*ℤ◌, neg_ℤ, ◌<ℤ◌, ◌≤ℤ◌, unsigned_abs, int_div, int_lt, max, List, [], ◌∷◌, ◌++◌, map, filter, Option, Some, None, Result, Ok, Err, IsFalse, ⊤}
+use Rattle.std.specs.List.{list_all}
 use Rattle.scasp_list.specs.Each.{Each}
 use Rattle.scasp_num.specs.declared.linear.Coeff.{Coeff}
 use Rattle.scasp_num.specs.declared.linear.Op.{Op}
@@ -8,7 +9,7 @@ use Rattle.scasp_num.specs.declared.linear.RowErr.{RowErr}
 use Rattle.scasp_num.specs.declared.linear.RowErr.TheVariants as err
 use Rattle.scasp_num.specs.Gcd.{gcd}
 use Rattle.scasp_num.specs.Number.{Number, InRange}
-use Rattle.scasp_num.specs.Arithmetic.{◌>>=◌, within}
+use Rattle.scasp_num.specs.Arithmetic.{◌>>=◌, in_range, within}
 
 -- c1*x1+..+ck*xk+constant OP 0
 pub record Linear : Type 0 where
@@ -59,6 +60,17 @@ pub record IsNormal (r : Linear) : Type 0 where
   pub range : Each (λ k. InRange k.c) r.coeffs
   pub primitive : common_divisor (integers r) ≤ 1
   pub sign : IsFalse (is_negated r)
+
+-- whether each variable is above those before it
+abbrev pub ascends : List Coeff → Bool
+ascends [] = true
+ascends (k ∷ ks) = list_all (λ j. nat_lt k.x j.x) ks && ascends ks
+
+-- whether the row is in normal form
+abbrev pub is_normal : Linear → Bool
+is_normal r =
+    ascends r.coeffs && list_all (λ k. not (is_zero k.c)) r.coeffs && in_range r.constant && list_all (λ k. in_range k.c) r.coeffs
+    && nat_lt (common_divisor (integers r)) 2 && not (is_negated r)
 
 -- ---- meaning: the variable x stands for the rational number m x / d, for one d above 0
 

@@ -6,7 +6,7 @@ ghost use Rattle.scasp_num.specs.declared.linear.Op.{Op};
 ghost use Rattle.scasp_num.specs.declared.linear.RatPair.{RatPair};
 ghost use Rattle.scasp_num.specs.Number.{Number, IsFraction, InRange};
 ghost use Rattle.scasp_num.specs.Arithmetic.{in_range};
-ghost use Rattle.scasp_num.specs.Linear.{Linear, IsNormal, Meets, coefficient, put_of, put_integers, join_of};
+ghost use Rattle.scasp_num.specs.Linear.{Linear, IsNormal, is_normal, Meets, coefficient, put_of, put_integers, join_of};
 ghost use Rattle.scasp_num.specs.Sums.{added, addition_integers, summed, normal_of, normal_integers, SumHolds};
 ghost use Rattle.scasp_num.specs.Values.{Holds, holds, with_value, HaveDenominator};
 
@@ -32,6 +32,11 @@ pub fn whole_numbers()
     ensures right_distributive { (a b c : ℤ) → (a +ℤ b) *ℤ c ≡ a *ℤ c +ℤ b *ℤ c }
     ensures cancels { (a b c : ℤ) → pos 0 <ℤ c → a *ℤ c ≡ b *ℤ c → a ≡ b }
     ensures above { (a b : ℤ) → pos 0 <ℤ a → pos 0 <ℤ b → pos 0 <ℤ (a *ℤ b) }
+{}
+
+/// The test of normal form decides it.
+pub fn normal_form_is_decided()
+    ensures { (r : Linear) → IsTrue (is_normal r) ↔ IsNormal r }
 {}
 
 /// The test of a row's truth decides it.

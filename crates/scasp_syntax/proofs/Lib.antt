@@ -1,4 +1,6 @@
 pub mod ConstraintLemmas
+pub mod ProgramLemmas
 pub mod SameLemmas
 pub mod TermLemmas
 pub mod ValueLemmas
+pub mod Walks

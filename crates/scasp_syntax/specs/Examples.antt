@@ -1,9 +1,10 @@
 -- Small cases of the definitions, computed.
-use Rattle.std.specs.Prelude.{◌≡◌, ℕ, Bool, true, false, pos, negsuc, [], ◌∷◌, Some, None}
+use Rattle.std.specs.Prelude.{◌≡◌, ℕ, Bool, true, false, pos, negsuc, List, [], ◌∷◌, Some, None}
 use Rattle.std.proofs.Common.{refl}
 use Rattle.scasp_num.specs.declared.linear.Op.TheVariants as op
 use Rattle.scasp_num.specs.Linear.{Linear}
 use Rattle.scasp_syntax.specs.Constraints.{holds}
+use Rattle.scasp_syntax.specs.Denials.{generated_denials}
 use Rattle.scasp_syntax.specs.Flat.{flat_body, number_test}
 use Rattle.scasp_syntax.specs.Programs.{predicates, rules_of, pred_of}
 use Rattle.scasp_syntax.specs.Tm.{Tms, var, app, nil, cons, weight}
@@ -81,3 +82,34 @@ flattened :
     flat_body (compared_item ∷ compared_item ∷ call true p0 ∷ [])
     ≡ number_test 0 ∷ number_test 1 ∷ flat.Test (con.Row above_ten) ∷ flat.Test (con.Row above_ten) ∷ flat.Call (record { positive = true; atom = p0 }) ∷ []
 flattened = refl
+
+-- r :- -q. -p(a, b). -p(b, a) :- p(a, b). ?- -q, not -r. Where -q, -p/2 and -r occur, in this order
+abbrev negated : ℕ → Tms → Atom
+negated name args = record { minus = true; name = name; args = args }
+
+abbrev fact_of : Atom → Clause
+fact_of a = record { head = Some a; body = []; vars = 0 }
+
+abbrev ab : Tms
+ab = cons (app 6 nil) (cons (app 7 nil) nil)
+
+abbrev ba : Tms
+ba = cons (app 7 nil) (cons (app 6 nil) nil)
+
+abbrev with_minus : List Clause
+with_minus =
+    record { head = Some (atom 4 nil); body = call true (negated 3 nil) ∷ []; vars = 0 } ∷ fact_of (negated 2 ab)
+    ∷ record { head = Some (negated 2 ba); body = call true (atom 2 ab) ∷ []; vars = 0 } ∷ []
+
+abbrev asked : Query
+asked = record { body = call true (negated 3 nil) ∷ call false (negated 4 nil) ∷ []; names = [] }
+
+-- :- q, -q. :- p(V0, V1), -p(V0, V1). :- r, -r.
+abbrev apart : ℕ → Tms → ℕ → Clause
+apart name args vars = record { head = None; body = call true (atom name args) ∷ call true (negated name args) ∷ []; vars = vars }
+
+kept_apart : generated_denials with_minus (asked ∷ []) ≡ apart 3 nil 0 ∷ apart 2 (cons (var 0) (cons (var 1) nil)) 2 ∷ apart 4 nil 0 ∷ []
+kept_apart = refl
+
+no_minus : generated_denials (rule ∷ denial ∷ fact ∷ []) (query ∷ []) ≡ []
+no_minus = refl

@@ -1,4 +1,5 @@
 pub mod Constraints
+pub mod Denials
 pub mod Examples
 pub mod Falls
 pub mod Flat

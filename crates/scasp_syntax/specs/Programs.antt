@@ -8,6 +8,7 @@ use Rattle.scasp_syntax.specs.declared.atom.Pred.{Pred}
 use Rattle.scasp_syntax.specs.declared.clause.Clause.{Clause}
 use Rattle.scasp_syntax.specs.declared.clause.Item.{Item}
 use Rattle.scasp_syntax.specs.declared.clause.Item.TheVariants.{Call, Equal, Differ, Linear}
+use Rattle.scasp_syntax.specs.declared.clause.Query.{Query}
 use Rattle.scasp_syntax.specs.declared.program.Program.{Program}
 
 -- the predicate of an atom
@@ -59,6 +60,9 @@ abbrev pub first_occurrences : List Pred → List Pred
 first_occurrences [] = []
 first_occurrences (p ∷ ps) = p ∷ filter (λ q. not (same_pred p q)) (first_occurrences ps)
 
--- the predicates of a program in order of first occurrence: the clauses in order, then the queries
+-- the predicates that occur, in order of first occurrence: the clauses in order, then the queries
+abbrev pub predicates_in : List Clause → List Query → List Pred
+predicates_in clauses queries = first_occurrences (flat_map clause_preds clauses ++ flat_map (λ q. body_preds q.body) queries)
+
 abbrev pub predicates : Program → List Pred
-predicates program = first_occurrences (flat_map clause_preds program.clauses ++ flat_map (λ q. body_preds q.body) program.queries)
+predicates program = predicates_in program.clauses program.queries

@@ -32,6 +32,18 @@ abbrev mutual
   same_tms (cons t ts) nil = false
   same_tms (cons t ts) (cons u us) = same_tm t u && same_tms ts us
 
+-- the same variable, the same number, or the same name with any arguments
+abbrev pub same_head : Tm → Tm → Bool
+same_head (var x) (var y) = nat_eq x y
+same_head (var x) (num r) = false
+same_head (var x) (app g us) = false
+same_head (num q) (var y) = false
+same_head (num q) (num r) = same_number q r
+same_head (num q) (app g us) = false
+same_head (app f ts) (var y) = false
+same_head (app f ts) (num r) = false
+same_head (app f ts) (app g us) = nat_eq f g
+
 abbrev pub same_pred : Pred → Pred → Bool
 same_pred p q = same_bool p.minus q.minus && nat_eq p.name q.name && nat_eq p.arity q.arity
 

@@ -17,6 +17,12 @@ abbrev pub items : Tms → List Tm
 items nil = []
 items (cons t ts) = t ∷ items ts
 
+-- the arguments of a term; a variable and a number have none
+abbrev pub args_of : Tm → Tms
+args_of (var x) = nil
+args_of (num q) = nil
+args_of (app f ts) = ts
+
 -- a list of terms, as `Tms`
 abbrev pub listed : List Tm → Tms
 listed [] = nil

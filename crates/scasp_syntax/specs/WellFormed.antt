@@ -1,6 +1,7 @@
--- What each program keeps of its variables.
-use Rattle.std.specs.Prelude.{ℕ, Bool, true, ◌&&◌, nat_eq, nat_lt, List, [], ◌∷◌, length, Option, None, Some}
+-- What each program keeps of its variables and of its rows.
+use Rattle.std.specs.Prelude.{ℕ, Bool, true, ◌&&◌, nat_eq, nat_lt, List, [], ◌∷◌, length, Option, None, Some, ⊤}
 use Rattle.std.specs.List.{list_all, list_any}
+use Rattle.scasp_num.specs.Linear.{IsNormal, is_normal}
 use Rattle.scasp_syntax.specs.Tm.{Tm, Tms, var, num, app, nil, cons}
 use Rattle.scasp_syntax.specs.View.{tm_of}
 use Rattle.scasp_syntax.specs.declared.atom.Atom.{Atom}
@@ -31,11 +32,12 @@ abbrev pub lists_variables : Lin → Bool
 lists_variables l =
     ascends l.vars && list_all (λ k. list_any (nat_eq k.x) l.vars) l.row.coeffs
 
+-- the variables of the item are below n, and its row is in normal form
 abbrev pub is_item_below : ℕ → Item → Bool
 is_item_below n (Call l) = are_below n l.atom.args
 is_item_below n (Equal t s) = is_below n (tm_of t) && is_below n (tm_of s)
 is_item_below n (Differ t s) = is_below n (tm_of t) && is_below n (tm_of s)
-is_item_below n (Linear l) = lists_variables l && list_all (λ x. nat_lt x n) l.vars
+is_item_below n (Linear l) = lists_variables l && list_all (λ x. nat_lt x n) l.vars && is_normal l.row
 
 abbrev pub is_head_below : ℕ → Option Atom → Bool
 is_head_below n None = true
@@ -50,3 +52,10 @@ is_query_well_formed q = list_all (is_item_below (length q.names)) q.body
 abbrev pub are_well_formed : List Clause → List Query → Bool
 are_well_formed clauses queries =
     list_all is_clause_well_formed clauses && list_all is_query_well_formed queries
+
+-- a linear item's row is in normal form
+abbrev pub HasNormalRow : Item → Type 0
+HasNormalRow (Call l) = ⊤
+HasNormalRow (Equal t s) = ⊤
+HasNormalRow (Differ t s) = ⊤
+HasNormalRow (Linear l) = IsNormal l.row

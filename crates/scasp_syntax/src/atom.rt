@@ -26,6 +26,9 @@ pub struct Lit {
     pub atom: Atom,
 }
 
+/// A list of predicates.
+pub type Preds = Sequence<Pred>;
+
 /// A list of atoms.
 pub type Atoms = Sequence<Atom>;
 

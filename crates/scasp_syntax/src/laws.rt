@@ -1,5 +1,6 @@
 //! What holds of terms and programs.
-ghost use Rattle.std.specs.Prelude.{◌≡◌, ◌≢◌, ◌↔◌, ℕ, IsTrue, length};
+ghost use Rattle.std.specs.Prelude.{◌≡◌, ◌≢◌, ◌↔◌, ℕ, IsTrue, List, length};
+ghost use Rattle.scasp_list.specs.Each.{Each};
 ghost use Rattle.scasp_num.specs.Linear.{Linear};
 ghost use Rattle.scasp_num.specs.Number.{Number};
 ghost use Rattle.scasp_num.specs.Values.{Holds};
@@ -9,11 +10,16 @@ ghost use Rattle.scasp_syntax.specs.Tm.{Tm, Tms, num, app, items};
 ghost use Rattle.scasp_syntax.specs.RowTruth.{point};
 ghost use Rattle.scasp_syntax.specs.Values.{Sub, Valuation, under, is_ground};
 ghost use Rattle.scasp_syntax.specs.View.{tm_of};
+ghost use Rattle.scasp_syntax.specs.WellFormed.{HasNormalRow, are_well_formed};
+ghost use Rattle.scasp_syntax.specs.Denials.{with_denials};
 ghost use Rattle.scasp_syntax.specs.declared.con.Con.TheVariants as con;
 ghost use Rattle.scasp_syntax.specs.declared.term.Term.{Term as ThisTerm};
 ghost use Rattle.scasp_syntax.specs.declared.atom.Atom.{Atom as ThisAtom};
 ghost use Rattle.scasp_syntax.specs.declared.atom.Lit.{Lit as ThisLit};
 ghost use Rattle.scasp_syntax.specs.declared.atom.Pred.{Pred as ThisPred};
+ghost use Rattle.scasp_syntax.specs.declared.clause.Clause.{Clause as ThisClause};
+ghost use Rattle.scasp_syntax.specs.declared.clause.Query.{Query as ThisQuery};
+ghost use Rattle.scasp_syntax.specs.declared.program.Program.{Program as ThisProgram};
 
 /// The tests of equality answer true exactly for what is equal.
 pub fn equality_is_decided()
@@ -50,4 +56,15 @@ pub fn shapes_are_excluded()
 /// A row holds exactly where it is true of the numbers that the variables are.
 pub fn rows_hold_at_points()
     ensures { (v : Sub) (r : Linear) → IsTrue (holds v (con.Row r)) ↔ Holds (point v) r }
+{}
+
+/// Each row of a program is in normal form.
+pub fn programs_have_normal_rows()
+    ensures clauses { (p : ThisProgram) → Each (λ c. Each HasNormalRow c.body) p.clauses }
+    ensures queries { (p : ThisProgram) → Each (λ q. Each HasNormalRow q.body) p.queries }
+{}
+
+/// The generated denials are well formed, whatever occurs.
+pub fn generated_denials_are_well_formed()
+    ensures { (clauses : List ThisClause) (queries : List ThisQuery) → IsTrue (are_well_formed clauses queries) → IsTrue (are_well_formed (with_denials clauses queries) queries) }
 {}

@@ -17,16 +17,14 @@ mod program;
 mod renaming;
 mod sizes;
 mod term;
-#[cfg(test)]
-mod tests;
 
-pub use atom::{Atom, Atoms, Lit, Lits, Pred};
+pub use atom::{Atom, Atoms, Lit, Lits, Pred, Preds};
 pub use clause::{
     Clause, Clauses, FlatItem, FlatItems, Item, Items, Lin, Queries, Query, VarNames,
 };
 pub use con::{Con, ConLists, Cons};
 pub use copies::{Duplicate, copy, copy_terms};
-pub use equality::{same, same_atom, same_lit, same_term, same_terms};
+pub use equality::{same, same_atom, same_lit, same_terms};
 pub use flat_bodies::{flat, flat_items};
 pub use groundness::{are_ground, is_ground};
 pub use hint::Hint;

@@ -7,8 +7,7 @@ use crate::clause::{Clause, Clauses, Queries, Query};
 /// A program: its rules and denials, numbered from 1, and its queries, numbered from 1 by themselves.
 ///
 /// Every variable of a clause is below its `vars`, every variable of a query below the length of its
-/// `names`, and the variables of a linear item ascend and hold those of its row. Rows are in normal form
-/// by their type.
+/// `names`, and the variables of a linear item ascend and hold those of its row, which is in normal form.
 #[derive(Debug, Drop)]
 pub struct Program {
     pub clauses: Clauses,

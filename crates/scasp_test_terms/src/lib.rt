@@ -6,4 +6,12 @@ mod cells;
 #[cfg(test)]
 mod lexis;
 #[cfg(test)]
+mod lists;
+#[cfg(test)]
+mod names;
+#[cfg(test)]
+mod programs;
+#[cfg(test)]
 mod reader;
+#[cfg(test)]
+mod terms;

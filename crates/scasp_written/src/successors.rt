@@ -13,32 +13,32 @@ use scasp_syntax::{Atom, Clause, Duplicate, Item, Items, Lit, Terms, same_atom};
 use std::alloc::Global;
 
 /// Whether a clause with this head is a rule of the atom.
-fn heads(atom: &Atom, head: &Option<Atom>) -> bool
-    ensures { result ≡ heads atom.now head.now }
+fn heads(alloc: Global, atom: &Atom, head: &Option<Atom>) -> Result<bool, Memory>
+    ensures { IfOk result (λ answer. answer ≡ heads atom.now head.now) }
 {
     match head {
-        None => false,
-        Some(head) => same_atom(head, atom),
+        None => Ok(false),
+        Some(head) => same_atom(alloc, head, atom),
     }
 }
 
 /// Whether one of the frames is of the atom.
-fn is_any(atom: &Atom, frames: &[Frame]) -> bool
-    ensures { result ≡ list_any (λ f. same_atom f.atom atom.now) frames.now }
+fn is_any(alloc: Global, atom: &Atom, frames: &[Frame]) -> Result<bool, Memory>
+    ensures { IfOk result (λ answer. answer ≡ list_any (λ f. same_atom f.atom atom.now) frames.now) }
 {
     for frame in frames {
-        if same_atom(&frame.atom, atom) {
-            return true;
+        if same_atom(alloc, &frame.atom, atom)? {
+            return Ok(true);
         }
     }
-    false
+    Ok(false)
 }
 
 /// Whether the atom is that of a literal open around it.
-fn repeats(atom: &Atom, frames: &[Frame]) -> bool
-    ensures { result ≡ repeats atom.now (above_of frames.now) }
+fn repeats(alloc: Global, atom: &Atom, frames: &[Frame]) -> Result<bool, Memory>
+    ensures { IfOk result (λ answer. answer ≡ repeats atom.now (above_of frames.now)) }
 {
-    is_any(atom, frames)
+    is_any(alloc, atom, frames)
 }
 
 /// A copy of items.
@@ -108,7 +108,7 @@ fn push_tries(
     while place > 0 {
         place -= 1;
         let clause = &clauses[place];
-        if heads(atom, &clause.head) {
+        if heads(alloc, atom, &clause.head)? {
             stack.push(entered(alloc, position, atom, items, place as u64 + 1, clause)?)?;
         }
     }
@@ -143,7 +143,7 @@ fn push_call(
 ) -> Result<(), Memory>
     ensures { OnOk result (states_of stack.new.items ≡ successors clauses.now (state_of position.now) (Item.Call lit.now ∷ items.now) ++ states_of stack.old.items) }
 {
-    if !lit.positive || repeats(&lit.atom, &position.frames) {
+    if !lit.positive || repeats(alloc, &lit.atom, &position.frames)? {
         return Ok(());
     }
     push_tries(alloc, clauses, position, &lit.atom, items, stack)

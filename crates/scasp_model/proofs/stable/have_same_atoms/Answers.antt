@@ -1,10 +1,10 @@
 use Rattle.scasp_model.proofs.AtomLemmas.{SameAtoms-tested, SameAtoms-refused}
 use Rattle.scasp_model.proofs.stable.have_same_atoms.Goals as goal
 
-pub returns-then-has_all : goal.returns-then-has_all
-returns-then-has_all c =
-    SameAtoms-tested c.args.m.now c.args.n.now c.has_all.result c.has_all-then-has_all.result c.has_all.ensures c.if-has_all.true c.has_all-then-has_all.ensures
+pub returns-in_ok-has_all-2 : goal.returns-in_ok-has_all-2
+returns-in_ok-has_all-2 c =
+    SameAtoms-tested c.args.m.now c.args.n.now c.in_ok-has_all.field-0 c.in_ok-has_all-2.field-0 c.in_ok-has_all.ensures c.if-branch.true c.in_ok-has_all-2.ensures
 
-pub returns-else-has_all : goal.returns-else-has_all
-returns-else-has_all c =
-    SameAtoms-refused c.args.m.now c.args.n.now c.has_all.result c.has_all.ensures c.if-has_all.false
+pub returns-else-branch : goal.returns-else-branch
+returns-else-branch c =
+    SameAtoms-refused c.args.m.now c.args.n.now c.in_ok-has_all.field-0 c.in_ok-has_all.ensures c.if-branch.false

@@ -1,4 +1,4 @@
-use Rattle.std.proofs.Common.{◌≡◌, List, [], Some, to_z, of_z, sym, subst, ◌∙◌, arith}
+use Rattle.std.proofs.Common.{rules, ◌≡◌, List, [], Some, to_z, of_z, sym, subst, ◌∙◌, arith}
 use Rattle.std.specs.Int.{w128}
 use Rattle.scasp_num.specs.declared.linear.Coeff.{Coeff}
 use Rattle.scasp_num.specs.Number.{InRange}
@@ -10,25 +10,19 @@ use Rattle.scasp_num.proofs.Wholes.{summed-Rises, whole-Ascends, whole-range, no
 use Rattle.scasp_num.proofs.PairSums.{normal_of-holds}
 use Rattle.scasp_num.proofs.linear.Row.normal.Goals as goal
 
-pub normal_form-requires-clause-ascending : goal.normal_form-requires-clause-ascending
-normal_form-requires-clause-ascending c =
+pub normal_form-requires : goal.normal_form-requires
+normal_form-requires c =
     let q = c.args.constant.now in
     let pairs = c.args.pairs.now in
     let sums : Some c.in_ok-sums.sums ≡ summed [] pairs = c.in_ok-sums.ensures ∙ (λ i. summed [] (c.as_slice.ensures i)) in
     let l : to_z w128 (of_z w128 c.in_ok-l.l) ≡ c.in_ok-l.l = stored c.in_ok-l.l c.in_ok-l.ensures.range in
     let coeffs : Some c.in_ok-coeffs.coeffs ≡ whole c.in_ok-l.l c.in_ok-sums.sums = c.in_ok-coeffs.ensures ∙ (λ i. whole (l i) (c.as_slice-3.ensures i)) in
     let same : c.as_slice-4.result.now ≡ c.in_ok-coeffs.coeffs = c.as_slice-4.ensures in
-    subst (λ (ks : List Coeff). Ascends ks) (sym same) (whole-Ascends c.in_ok-l.l c.in_ok-sums.sums c.in_ok-coeffs.coeffs coeffs (summed-Rises [] pairs c.in_ok-sums.sums sums tt))
-
-pub normal_form-requires-clause-range : goal.normal_form-requires-clause-range
-normal_form-requires-clause-range c =
-    let q = c.args.constant.now in
-    let pairs = c.args.pairs.now in
-    let sums : Some c.in_ok-sums.sums ≡ summed [] pairs = c.in_ok-sums.ensures ∙ (λ i. summed [] (c.as_slice.ensures i)) in
-    let l : to_z w128 (of_z w128 c.in_ok-l.l) ≡ c.in_ok-l.l = stored c.in_ok-l.l c.in_ok-l.ensures.range in
-    let coeffs : Some c.in_ok-coeffs.coeffs ≡ whole c.in_ok-l.l c.in_ok-sums.sums = c.in_ok-coeffs.ensures ∙ (λ i. whole (l i) (c.as_slice-3.ensures i)) in
-    let same : c.as_slice-4.result.now ≡ c.in_ok-coeffs.coeffs = c.as_slice-4.ensures in
-    subst (λ (ks : List Coeff). Each (λ k. InRange k.c) ks) (sym same) (whole-range c.in_ok-l.l c.in_ok-sums.sums c.in_ok-coeffs.coeffs coeffs)
+    record {
+      ascending = subst (λ (ks : List Coeff). Ascends ks) (sym same) (whole-Ascends c.in_ok-l.l c.in_ok-sums.sums c.in_ok-coeffs.coeffs coeffs (summed-Rises [] pairs c.in_ok-sums.sums sums tt));
+      constant_range = search rules;
+      range = subst (λ (ks : List Coeff). Each (λ k. InRange k.c) ks) (sym same) (whole-range c.in_ok-l.l c.in_ok-sums.sums c.in_ok-coeffs.coeffs coeffs);
+    }
 
 pub returns-clause-exact : goal.returns-clause-exact
 unfolding normal_of

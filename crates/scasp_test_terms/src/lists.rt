@@ -1,4 +1,5 @@
-use crate::{Memory, Sequence};
+//! Lists.
+use scasp_list::{Memory, Sequence};
 use std::alloc::{AllocError, Global};
 use std::test::Fail;
 

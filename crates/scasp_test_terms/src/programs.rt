@@ -1,50 +1,19 @@
-//! Each call that takes memory, once with ample memory.
-ghost use Rattle.std.specs.Prelude.{◌≡◌, ◌+◌, ◌^◌, ◌<◌, IfOk, IsTrue};
-ghost use Rattle.scasp_syntax.specs.Tm.{app, cons, nil};
+//! Programs and flat bodies: each call that takes memory, once with ample memory.
+ghost use Rattle.std.specs.Prelude.{◌≡◌, IfOk, IsTrue};
+ghost use Rattle.scasp_syntax.specs.Tm.{cons, nil};
 ghost use Rattle.scasp_syntax.specs.View.{tm_of};
 ghost use Rattle.scasp_syntax.specs.WellFormed.{is_clause_well_formed};
 
-use crate::{
-    Atom, Clause, Con, Duplicate, FlatItem, Hint, Item, Lin, Lit, PredMap, Program, Sequence, Term,
-    Terms, are_ground, copy, flat, instance_atom, is_ground, rename, same, same_atom, same_lit,
-    size,
-};
 use scasp_name::{Memory, NameId};
 use scasp_num::{Op, Rat, RatPair, RatPairs, Row};
+use scasp_syntax::{
+    Atom, Clause, Con, Duplicate, FlatItem, Hint, Item, Lin, Lit, PredMap, Program, Sequence, Term,
+    Terms, flat,
+};
 use std::alloc::Global;
-use std::process::Abort;
 use std::test::Fail;
 
-fn application(alloc: Global, name: u64, arg: Term) -> Result<Term, Memory>
-    ensures { IfOk result (λ term. tm_of term ≡ app name (cons (tm_of arg) nil)) }
-{
-    let mut args = Terms::new(alloc);
-    args.push(arg)?;
-    Ok(Term::App(NameId::new(name), args))
-}
-
-fn test_term(rt: &impl Abort, alloc: Global, x: u64, by: u64) -> Result<(), Memory>
-    requires { x + by + 1 < 2 ^ 64 }
-{
-    let term = application(alloc, 2, Term::Var(x))?;
-    assert!(rt; same(&copy(alloc, &term)?, &term)?);
-    assert_eq!(rt; size(&term)?, 2);
-    let other = application(alloc, 2, Term::Var(x + 1))?;
-    assert!(rt; !same(&term, &other)?);
-    let raised = application(alloc, 2, Term::Var(x + by))?;
-    assert!(rt; same(&rename(alloc, &term, by)?, &raised)?);
-    Ok(())
-}
-
-#[test]
-fn terms_are_copied_renamed_counted_and_compared(rt: HostRuntime) -> Result<(), Fail> {
-    test_term(&rt, rt.alloc(), 0, 3)?;
-    test_term(&rt, rt.alloc(), 7, 0)?;
-    test_term(&rt, rt.alloc(), 0, u64::MAX - 1)?;
-    Ok(())
-}
-
-/// The literal `p(V0)`.
+/// The literal `-p(V0)`.
 fn literal(alloc: Global, positive: bool) -> Result<Lit, Memory>
     ensures { IfOk result (λ l. l.atom.args ≡ cons (tm_of (Term.Var 0)) nil) }
 {
@@ -61,7 +30,7 @@ fn literal(alloc: Global, positive: bool) -> Result<Lit, Memory>
     })
 }
 
-/// The rule `p(V0) :- not p(V0).`
+/// The rule `-p(V0) :- not -p(V0).`
 fn rule(alloc: Global) -> Result<Clause, Memory>
     ensures { IfOk result (λ c. IsTrue (is_clause_well_formed c)) }
 {
@@ -99,12 +68,8 @@ fn programs_are_copied(rt: HostRuntime) -> Result<(), Fail> {
 #[test]
 fn other_values_are_copied(rt: HostRuntime) -> Result<(), Fail> {
     let alloc = rt.alloc();
-    let positive = literal(alloc, true)?;
-    let negative = literal(alloc, false)?;
-    assert!(rt; same_lit(&positive, &positive.duplicate(alloc)?));
-    assert!(rt; !same_lit(&positive, &negative));
     let mut map = Sequence::new(alloc);
-    let pred = positive.atom.pred();
+    let pred = literal(alloc, true)?.atom.pred();
     map.push(PredMap {
         pred,
         level: 4,
@@ -156,20 +121,5 @@ fn bodies_are_made_flat(rt: HostRuntime) -> Result<(), Fail> {
     assert!(rt; matches!(&items[3], FlatItem::Test(Con::Row(_))));
     assert!(rt; matches!(&items[4], FlatItem::Test(Con::Eq(..))));
     assert!(rt; matches!(&items[5], FlatItem::Test(Con::Row(_))));
-    Ok(())
-}
-
-#[test]
-fn atoms_are_instantiated(rt: HostRuntime) -> Result<(), Fail> {
-    let alloc = rt.alloc();
-    let open = literal(alloc, true)?.atom;
-    let mut values = Terms::new(alloc);
-    values.push(Term::Num(Rat::new(7, 2)?))?;
-    let closed = instance_atom(alloc, &open, &values)?;
-    assert!(rt; !are_ground(&open.args));
-    assert!(rt; are_ground(&closed.args));
-    assert!(rt; !same_atom(&open, &closed));
-    assert!(rt; same_atom(&open, &instance_atom(alloc, &open, &Terms::new(alloc))?));
-    assert!(rt; !is_ground(&Term::Var(0)));
     Ok(())
 }
