@@ -3,6 +3,7 @@ ghost use Rattle.std.specs.Prelude.{◌≡◌, ◌↔◌, ℤ, true, is_some, Li
 ghost use Rattle.scasp_num.specs.declared.hints.Step.{Step};
 ghost use Rattle.scasp_num.specs.declared.linear.RatPair.{RatPair};
 ghost use Rattle.scasp_num.specs.Linear.{Each, IsNormal, Linear};
+ghost use Rattle.scasp_rows.specs.PlainRows.{is_met};
 ghost use Rattle.scasp_rows.specs.Points.{IsMet, MeetsAll, NoDisequation, RationalPoint};
 ghost use Rattle.std.specs.List.{list_all};
 ghost use Rattle.scasp_num.specs.Arithmetic.{in_range};
@@ -25,6 +26,11 @@ pub fn unsat_reached()
 /// Where the elimination goes through, some point meets all the rows.
 pub fn sat_met()
     ensures { (rows : List Linear) (s : State) → Each IsNormal rows → NoDisequation rows → elimination rows ≡ Ok s → IsMet rows }
+{}
+
+/// The elimination without bounds decides whether some rational point meets all the rows.
+pub fn rows_are_decided()
+    ensures { (rows : List Linear) → NoDisequation rows → is_met rows ≡ true ↔ IsMet rows }
 {}
 
 /// A point found for rows meets them.
