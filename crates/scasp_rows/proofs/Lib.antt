@@ -20,3 +20,5 @@ pub mod Fitting
 pub mod StepRanges
 pub mod Pairing
 pub mod Indexing
+pub mod BetweenLemmas
+pub mod PlainLemmas

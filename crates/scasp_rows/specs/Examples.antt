@@ -1,5 +1,5 @@
 -- Small cases of the definitions, computed.
-use Rattle.std.specs.Prelude.{◌≡◌, ℕ, ℤ, pos, negsuc, List, [], ◌∷◌, Result, Ok, Err}
+use Rattle.std.specs.Prelude.{◌≡◌, true, false, ℕ, ℤ, pos, negsuc, List, [], ◌∷◌, Result, Ok, Err}
 use Rattle.std.proofs.Common.{refl}
 use Rattle.scasp_num.specs.declared.linear.Coeff.{Coeff}
 use Rattle.scasp_num.specs.declared.linear.Op.TheVariants as op
@@ -14,6 +14,7 @@ use Rattle.scasp_rows.specs.declared.steps.StepErr.TheVariants as step_err
 use Rattle.scasp_rows.specs.Steps.{row_sum, step_of}
 use Rattle.scasp_rows.specs.Elimination.{without, elimination}
 use Rattle.scasp_rows.specs.Samples.{point_of, solution_of}
+use Rattle.scasp_rows.specs.PlainRows.{is_met}
 
 abbrev term : ℕ → ℤ → Coeff
 term x c = record { x = x; c = c }
@@ -59,3 +60,14 @@ shown (Err h) = []
 between : shown (point_of (below_three ∷ above_one ∷ [])) ≡ (0, pos 2, pos 1) ∷ []
 unfolding point_of without solution_of row_sum normal_of normal_form lowest sum_of product_of quotient_of gcd gcd_within
 between = refl
+
+-- ---- without bounds
+
+-- 85070591730234615865843651857942052864*V0+3*V1-1 #= 0, and 5*V0-V1-2 #= 0, as above
+large_met : is_met (record { coeffs = term 0 (pos 85070591730234615865843651857942052864) ∷ term 1 (pos 3) ∷ []; constant = negsuc 0; op = op.Eq } ∷ record { coeffs = term 0 (pos 5) ∷ term 1 (negsuc 0) ∷ []; constant = negsuc 1; op = op.Eq } ∷ []) ≡ true
+unfolding is_met
+large_met = refl
+
+denied_unmet : is_met (below_three ∷ above_five ∷ []) ≡ false
+unfolding is_met
+denied_unmet = refl

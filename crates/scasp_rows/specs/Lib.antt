@@ -7,4 +7,5 @@ pub mod Keys
 pub mod Verdicts
 pub mod Samples
 pub mod Sampled
+pub mod PlainRows
 pub mod Examples

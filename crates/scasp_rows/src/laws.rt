@@ -4,6 +4,7 @@ ghost use Rattle.scasp_num.specs.declared.hints.Step.{Step};
 ghost use Rattle.scasp_num.specs.declared.linear.RatPair.{RatPair};
 ghost use Rattle.scasp_list.specs.Each.{Each};
 ghost use Rattle.scasp_num.specs.Linear.{IsNormal, Linear};
+ghost use Rattle.scasp_rows.specs.PlainRows.{is_met};
 ghost use Rattle.scasp_rows.specs.Points.{IsMet, MeetsAll, NoDisequation, RationalPoint};
 ghost use Rattle.std.specs.List.{list_all};
 ghost use Rattle.scasp_num.specs.Arithmetic.{in_range};
@@ -26,6 +27,11 @@ pub fn unsat_reached()
 /// Where the elimination goes through, some point meets all the rows.
 pub fn sat_met()
     ensures { (rows : List Linear) (s : State) → Each IsNormal rows → NoDisequation rows → elimination rows ≡ Ok s → IsMet rows }
+{}
+
+/// The elimination without bounds decides whether some rational point meets all the rows.
+pub fn rows_are_decided()
+    ensures { (rows : List Linear) → NoDisequation rows → is_met rows ≡ true ↔ IsMet rows }
 {}
 
 /// A point found for rows meets them.
