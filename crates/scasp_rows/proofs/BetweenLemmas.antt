@@ -1,12 +1,12 @@
 -- A value between lower and upper bounds, all strict or not.
 use Rattle.std.proofs.Common.{◌≡◌, ◌≢◌, Bool, true, false, ◌||◌, ℤ, pos, ◌+ℤ◌, ◌*ℤ◌, neg_ℤ, ◌<ℤ◌, ◌≤ℤ◌, List, [], ◌∷◌, refl, subst, arith}
 use Rattle.std.proofs.lemmas.Int.{ints, by_lt_z}
+use Rattle.scasp_list.specs.Each.{Each}
+use Rattle.scasp_list.proofs.EachLemmas.{Each-both, Each-map}
 use Rattle.scasp_num.specs.declared.linear.Op.TheVariants as op
-use Rattle.scasp_num.specs.Linear.{Each, Compares, is_equation}
+use Rattle.scasp_num.specs.Linear.{Compares, is_equation}
 use Rattle.scasp_num.proofs.Numbers.{times-pos}
-use Rattle.scasp_num.proofs.NormalForms.{Each-map}
 use Rattle.scasp_rows.proofs.Bounds.{below-compares, middle-low, middle-high, above-low, below-high, fractions-chain}
-use Rattle.scasp_rows.proofs.Extending.{Each-both}
 use Rattle.scasp_rows.specs.PlainRows.{Plain, comparison}
 
 inequality : (b : Bool) → is_equation (comparison b) ≡ false

@@ -5,21 +5,23 @@ use Rattle.std.proofs.lemmas.Bool.{and_parts, eqb-true}
 use Rattle.std.proofs.lemmas.Bool.Decides.{nat_tests}
 use Rattle.std.proofs.lemmas.Int.{ints}
 use Rattle.std.proofs.Math.IntN.{*ℤ_comm, *ℤ-zero, zero-*ℤ}
+use Rattle.std.proofs.lemmas.Bool.{and_from}
+use Rattle.scasp_list.specs.Each.{Each}
+use Rattle.scasp_list.proofs.EachLemmas.{Each-append, Each-both, Each-left, Each-map, Each-right}
 use Rattle.scasp_num.specs.declared.linear.Coeff.{Coeff}
 use Rattle.scasp_num.specs.declared.linear.Op.{Op}
 use Rattle.scasp_num.specs.declared.linear.Op.TheVariants as op
-use Rattle.scasp_num.specs.Linear.{Linear, Each, Compares, compares, Meets, weighted}
+use Rattle.scasp_num.specs.Linear.{Linear, Compares, compares, Meets, weighted}
 use Rattle.scasp_num.proofs.Comparing.{compares-true, compares-is}
 use Rattle.scasp_num.proofs.Integers.{*ℤ_assoc, *ℤ-+ℤ, +ℤ-*ℤ, neg-*ℤ}
 use Rattle.scasp_num.proofs.Meaning.{compares-scaled}
-use Rattle.scasp_num.proofs.NormalForms.{Each-map, zero_is}
+use Rattle.scasp_num.proofs.NormalForms.{zero_is}
 use Rattle.scasp_num.proofs.Numbers.{times-pos}
 use Rattle.scasp_rows.specs.Points.{IsMet, NoDisequation}
-use Rattle.scasp_rows.proofs.Sums.{Each-left, Each-right, Each-append, both-true}
 use Rattle.scasp_rows.proofs.Values.{moved}
 use Rattle.scasp_rows.proofs.Forward.{below-size, above-size}
 use Rattle.scasp_rows.proofs.Soundness.{below-nonzero, above-nonzero}
-use Rattle.scasp_rows.proofs.Extending.{size-above, one-sign, Each-both}
+use Rattle.scasp_rows.proofs.Extending.{size-above, one-sign}
 use Rattle.scasp_rows.proofs.Completeness.{point_by, point-meets}
 use Rattle.scasp_rows.proofs.Independence.{both-whole}
 use Rattle.scasp_rows.specs.PlainRows.{Plain, comparison, size, paired, all_paired, is_lower, is_free, is_upper, without, are_met, sum_at, plain_by, plain_rows, terms_bound, rows_bound, is_met}
@@ -247,7 +249,7 @@ constants-met : (m : ℕ → ℤ) (d : ℤ) → pos 0 <ℤ d → (rows : List Pl
 constants-met m d above [] h = refl
 constants-met m d above (r ∷ rs) h =
     let same : pos 0 +ℤ r.constant *ℤ d ≡ r.constant *ℤ d = omega (arith, ints) in
-    both-true (compares-true (comparison r.is_strict) r.constant ((compares-scaled (comparison r.is_strict) r.constant d above).1 (subst (Compares (comparison r.is_strict)) same h.0))) (constants-met m d above rs h.1)
+    and_from _ _ (compares-true (comparison r.is_strict) r.constant ((compares-scaled (comparison r.is_strict) r.constant d above).1 (subst (Compares (comparison r.is_strict)) same h.0))) (constants-met m d above rs h.1)
 
 constants-back : (rows : List Plain) → are_met zero rows ≡ true → Each (PlainMeets zero (λ x. pos 0) (pos 1)) rows
 constants-back [] e = tt
