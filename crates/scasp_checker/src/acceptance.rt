@@ -16,11 +16,11 @@ ghost use Rattle.scasp_checker.specs.MapEntries.{has_entry, is_map_over};
 
 use crate::refusal::{CheckErr, Reason, Refusal};
 use scasp_cert::{Cert, Clashes, Node, Nodes};
-use scasp_graph::{Preds, predicates};
+use scasp_graph::predicates;
 use scasp_name::Memory;
 use scasp_syntax::{
-    Atom, Clause, FlatItem, FlatItems, Pred, PredMap, PredMaps, Program, Query, Terms, are_ground,
-    flat, flat_items, instance_atom, same_atom,
+    Atom, Clause, FlatItem, FlatItems, Pred, PredMap, PredMaps, Preds, Program, Query, Terms,
+    are_ground, flat, flat_items, instance_atom, same_atom,
 };
 use std::alloc::Global;
 
