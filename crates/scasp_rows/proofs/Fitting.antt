@@ -1,6 +1,6 @@
 -- A sum of two rows is made exactly where its products and sums lie in range.
 use Rattle.std.proofs.Common.{◌≡◌, ℕ, suc, ◌<◌, ◌^◌, ◌==◌, nat_lt, Bool, true, false, ◌&&◌, ℤ, pos, negsuc, ◌+ℤ◌, ◌*ℤ◌, neg_ℤ, unsigned_abs, int_div, Some, None, Option, is_some, List, [], ◌∷◌, ◌++◌, refl, sym, ap, subst, ◌∙◌, arith, append-nil, append_assoc}
-use Rattle.std.specs.Prelude.{if◌then◌else◌}
+use Rattle.std.specs.Prelude.{if◌then◌else◌, Err, IsOk}
 use Rattle.std.specs.List.{list_all}
 use Rattle.std.proofs.lemmas.Bool.{and_parts, eqb-true}
 use Rattle.std.proofs.lemmas.Bool.Decides.{nat_tests}
@@ -24,8 +24,9 @@ use Rattle.scasp_num.proofs.Numbers.{ltb_lt, lt_ltb, some-same, within-some}
 use Rattle.scasp_num.proofs.Exact.{bind-some, lowest-exact, lowest-fits, sum_of-exact, sum_of-fits}
 use Rattle.scasp_num.proofs.SameNumber.{same_number}
 use Rattle.scasp_num.proofs.Joins.{coefficient-range, later, merged-range, merged-Ascends}
+use Rattle.scasp_rows.specs.declared.steps.StepErr.TheVariants as step_err
 use Rattle.scasp_rows.specs.Samples.{strict, alternatives}
-use Rattle.scasp_rows.specs.Steps.{whole, times, terms_sum, joined, row_sum, products, sums_with, step_integers, pair_sum, pairs_fit}
+use Rattle.scasp_rows.specs.Steps.{whole, times, terms_sum, joined, row_sum, products, sums_with, step_integers, pair_sum, pairs_fit, may_step, step_of, sum_or_overflow}
 use Rattle.scasp_rows.proofs.Sums.{scaled}
 use Rattle.scasp_rows.proofs.Values.{coefficient-absent}
 
@@ -423,6 +424,21 @@ fits-pairwise a b p q hp hq =
 pub fits-by : (a b : ℤ) (p q : Linear) (ks js : List Coeff) → IsNormal p → IsNormal q → ks ≡ p.coeffs → js ≡ q.coeffs → (s t u d : Bool) → s ≡ list_all in_range (products a ks) → t ≡ list_all in_range (products b js) → u ≡ pairs_fit a p.coeffs b js → d ≡ is_some (pair_sum a p.constant b q.constant) → (((s && t) && u) && d) ≡ is_some (row_sum a p b q)
 fits-by a b p q ks js hp hq e f s t u d es et eu ed =
     (λ i. (((es ∙ ap (λ (l : List Coeff). list_all in_range (products a l)) e) i && (et ∙ ap (λ (l : List Coeff). list_all in_range (products b l)) f) i) && (eu ∙ ap (λ (l : List Coeff). pairs_fit a p.coeffs b l) f) i) && ed i) ∙ sym (fits-pairwise a b p q hp hq)
+
+-- a step answers by whether the sum fits
+pub step-overflows : (a : ℤ) (p : Linear) (b : ℤ) (q : Linear) → may_step a p b q ≡ true → is_some (row_sum a p b q) ≡ false → step_of a p b q ≡ Err step_err.Overflow
+step-overflows a p b q e f = ap (λ t. if t then sum_or_overflow (row_sum a p b q) else Err step_err.Sign) e ∙ by (row_sum a p b q) f
+  where
+    by : (o : Option Linear) → is_some o ≡ false → sum_or_overflow o ≡ Err step_err.Overflow
+    by None f = refl
+    by (Some row) f = cc
+
+pub step-made : (a : ℤ) (p : Linear) (b : ℤ) (q : Linear) → may_step a p b q ≡ true → is_some (row_sum a p b q) ≡ true → IsOk (step_of a p b q)
+step-made a p b q e f = subst (λ t. IsOk (if t then sum_or_overflow (row_sum a p b q) else Err step_err.Sign)) (sym e) (by (row_sum a p b q) f)
+  where
+    by : (o : Option Linear) → is_some o ≡ true → IsOk (sum_or_overflow o)
+    by None f = cc
+    by (Some row) f = refl
 
 -- ---- the strict rows of a disequation are always made
 

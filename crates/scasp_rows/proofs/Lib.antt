@@ -22,3 +22,4 @@ pub mod Pairing
 pub mod Indexing
 pub mod BetweenLemmas
 pub mod PlainLemmas
+pub mod SettingAside

@@ -7,5 +7,6 @@ pub mod Keys
 pub mod Verdicts
 pub mod Samples
 pub mod Sampled
+pub mod Asides
 pub mod PlainRows
 pub mod Examples

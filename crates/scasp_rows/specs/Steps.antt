@@ -1,5 +1,5 @@
 -- The sum of two rows with multipliers, and lists of such steps.
-use Rattle.std.specs.Prelude.{◌≡◌, ℕ, zero, suc, Bool, true, false, ◌&&◌, not, if◌then◌else◌, ℤ, pos, ◌+ℤ◌, ◌*ℤ◌, int_lt, List, [], ◌∷◌, ◌++◌, slice_get, is_some, Option, Some, None, Result, Ok, Err, ⊤}
+use Rattle.std.specs.Prelude.{◌≡◌, ℕ, zero, suc, Bool, true, false, ◌&&◌, not, if◌then◌else◌, ℤ, pos, ◌+ℤ◌, ◌*ℤ◌, int_lt, List, [], ◌∷◌, ◌++◌, slice_get, is_some, Option, Some, None, Result, Ok, Err, IsOk, ⊤}
 use Rattle.std.specs.List.{list_any}
 use Rattle.scasp_num.specs.declared.linear.Coeff.{Coeff}
 use Rattle.scasp_num.specs.declared.linear.RatPair.{RatPair}
@@ -99,20 +99,20 @@ may_scale a op.Ne = false
 abbrev pub may_step : ℤ → Linear → ℤ → Linear → Bool
 may_step a p b q = may_scale a p.op && may_scale b q.op
 
+abbrev pub sum_or_overflow : Option Linear → Result Linear StepErr
+sum_or_overflow (Some row) = Ok row
+sum_or_overflow None = Err err.Overflow
+
 -- what a step gives: the sum, or why there is none
 abbrev pub step_of : ℤ → Linear → ℤ → Linear → Result Linear StepErr
 step_of a p b q = if may_step a p b q then sum_or_overflow (row_sum a p b q) else Err err.Sign
-  where
-    sum_or_overflow : Option Linear → Result Linear StepErr
-    sum_or_overflow (Some row) = Ok row
-    sum_or_overflow None = Err err.Overflow
 
--- the call answers so, where there is memory
+-- the call answers so; memory is wanting only where there is a row to make
 abbrev pub Answers : Result Linear StepErr → Result Linear StepErr → Type 0
 Answers (Ok row) s = s ≡ Ok row
 Answers (Err err.Overflow) s = s ≡ Err err.Overflow
 Answers (Err err.Sign) s = s ≡ Err err.Sign
-Answers (Err err.Memory) s = ⊤
+Answers (Err err.Memory) s = IsOk s
 
 -- the pairs with those of a list behind them, where the list is made
 abbrev pub AddsTimes : List RatPair → List RatPair → Result Unit RowErr → Option (List RatPair) → Type 0

@@ -1,14 +1,15 @@
 //! The values that variables take after their elimination.
-ghost use Rattle.std.specs.Prelude.{◌≡◌, ◌≢◌, ◌*ℤ◌, neg_ℤ, ◌∷◌, None, IfOk, pos};
+ghost use Rattle.std.specs.Prelude.{◌≡◌, ◌≢◌, ◌*ℤ◌, neg_ℤ, [], ◌∷◌, None, IfOk, pos};
 ghost use Rattle.std.specs.Result.{result_ok};
 ghost use Rattle.scasp_rows.specs.Steps.{whole};
+ghost use Rattle.scasp_rows.specs.Asides.{asides_from, rows_having, valued};
 ghost use Rattle.scasp_rows.specs.Elimination.{Ends, factor};
 ghost use Rattle.scasp_rows.specs.Samples.{between, bound, bound_with, by_solution, is_less, middle, over, plus_product, plus_term, solution_of, sum_with, tighter, value_for, value_in, values_from, with_value_for, zero_number};
 
 use crate::elimination::{first_equation, without};
 use crate::rows::{factor, has_sign};
 use crate::state::{Halt, Sign, Standing, StandingRows, State, copy};
-use scasp_list::Memory;
+use scasp_list::{Memory, Sequence};
 use scasp_num::{Coeff, Overflow, Rat, RatPair, RatPairs, Row};
 use std::alloc::Global;
 use std::cmp::Ordering;
@@ -223,28 +224,64 @@ fn with_value_for(
     }
 }
 
-/// A copy of the rows.
-fn copies(alloc: Global, rows: &[Standing]) -> Result<StandingRows, Memory>
-    ensures { IfOk result (λ all. all ≡ rows.now) }
+/// The rows with a variable, as it is eliminated.
+#[derive(Debug, Drop)]
+pub struct Aside {
+    pub x: u64,
+    pub rows: StandingRows,
+}
+
+/// What is set aside, in the order of elimination.
+type Asides = Sequence<Aside>;
+
+/// The rows with `x`.
+fn rows_having(alloc: Global, x: u64, rows: &[Standing]) -> Result<StandingRows, Memory>
+    ensures { IfOk result (λ kept. kept ≡ rows_having x rows.now) }
 {
-    let mut all = StandingRows::new(alloc);
+    let mut kept = StandingRows::new(alloc);
     for r in rows {
-        all.push(copy(r)?)?;
+        if factor(x, r) != 0 {
+            kept.push(copy(r)?)?;
+        }
     }
-    Ok(all)
+    Ok(kept)
+}
+
+/// Eliminates the variables in order, and keeps of each the rows with it.
+fn set_aside(alloc: Global, variables: &[u64], start: State) -> Result<Asides, Halt>
+    ensures { Ends result (asides_from variables.now start) }
+{
+    let mut asides = Asides::new(alloc);
+    let mut state = start;
+    for x in variables {
+        let rows = rows_having(alloc, *x, state.standing.as_slice())?;
+        asides.push(Aside { x: *x, rows })?;
+        state = without(alloc, *x, state)?;
+    }
+    Ok(asides)
+}
+
+/// Gives the variables their values, from the last one to the first.
+fn valued(alloc: Global, asides: Asides) -> Result<RatPairs, Halt>
+    ensures { Ends result (valued asides []) }
+{
+    let mut rest = asides.into_vec();
+    let mut point = RatPairs::new(alloc);
+    while let Some(aside) = rest.pop() {
+        match with_value_for(alloc, aside.x, aside.rows.as_slice(), point.as_slice()) {
+            Ok(known) => point = known,
+            Err(halt) => return Err(halt),
+        }
+    }
+    Ok(point)
 }
 
 /// Eliminates the variables in order, and gives them values in the opposite order.
 pub(crate) fn values_from(alloc: Global, variables: &[u64], state: State) -> Result<RatPairs, Halt>
     ensures { Ends result (values_from variables.now state) }
 {
-    match variables.split_first() {
-        None => Ok(RatPairs::new(alloc)),
-        Some((x, later)) => {
-            let aside = copies(alloc, state.standing.as_slice())?;
-            let rest = without(alloc, *x, state)?;
-            let point = values_from(alloc, later, rest)?;
-            with_value_for(alloc, *x, aside.as_slice(), point.as_slice())
-        }
+    match set_aside(alloc, variables, state) {
+        Ok(asides) => valued(alloc, asides),
+        Err(halt) => Err(halt),
     }
 }

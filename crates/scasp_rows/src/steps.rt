@@ -6,6 +6,7 @@ ghost use Rattle.scasp_num.specs.Values.{Holds};
 ghost use Rattle.scasp_rows.specs.Points.{RationalPoint};
 ghost use Rattle.scasp_rows.specs.Steps.{AddsTimes, Answers, constant_sum, joined, may_scale, row_sum, step_of, terms_sum, times, whole};
 
+use crate::range::sum_fits;
 use scasp_num::{Coeff, Op, Overflow, Rat, RatPair, RatPairs, Row, RowErr};
 use std::alloc::Global;
 use thiserror::Error;
@@ -24,7 +25,7 @@ pub enum StepErr {
 /// The normal form of `a` times `p` plus `b` times `q`, a consequence of the two rows: strict where one of
 /// them is, and an equation where both are. Sign exactly where a multiplier is 0, a row has `=\=`, or a
 /// multiplier below 0 stands at a row that is no equation. Else Overflow exactly where a product or sum
-/// lies outside -M..M, where M is 2^127 - 1.
+/// lies outside -M..M, where M is 2^127 - 1, and Memory only where neither is due.
 pub fn step(alloc: Global, a: i128, p: &Row, b: i128, q: &Row) -> Result<Row, StepErr>
     ensures exact { Answers result (step_of a p.now b q.now) }
     ensures holds { IfOk result (λ row. (v : RationalPoint) → Holds v p.now → Holds v q.now → Holds v row) }
@@ -32,6 +33,9 @@ pub fn step(alloc: Global, a: i128, p: &Row, b: i128, q: &Row) -> Result<Row, St
 {
     if !may_scale(a, p.op()) || !may_scale(b, q.op()) {
         return Err(StepErr::Sign);
+    }
+    if !sum_fits(a, p, b, q) {
+        return Err(StepErr::Overflow);
     }
     match row_sum(alloc, a, p, b, q) {
         Ok(row) => Ok(row),
