@@ -1,5 +1,5 @@
 -- Two literals that are shown apart have no atom in common.
-use Rattle.std.proofs.Common.{◌≡◌, ◌∙◌, ℕ, suc, ◌+◌, ◌-◌, ◌<◌, ◌≤◌, max, Bool, true, false, cond, ◌&&◌, not, nat_eq, nat_lt, ℤ, pos, ◌≢◌, List, [], ◌∷◌, ◌++◌, map, None, refl, ap, sym, subst, inl, inr, ◌⊎◌, arith}
+use Rattle.std.proofs.Common.{◌≡◌, ◌∙◌, ℕ, suc, ◌+◌, ◌-◌, ◌<◌, ◌≤◌, max, Bool, true, false, cond, ◌&&◌, not, nat_eq, nat_lt, ℤ, ◌+ℤ◌, ◌*ℤ◌, pos, ◌≢◌, List, [], ◌∷◌, ◌++◌, map, None, refl, ap, sym, subst, inl, inr, ◌⊎◌, arith}
 use Rattle.std.specs.Prelude.{int_lt}
 use Rattle.std.specs.List.{list_all}
 use Rattle.std.proofs.lemmas.Bool.{and_parts, and_from, cases_Bool, cond-true, cond-false, cond_both, ltb-true, ltb-false}
@@ -9,7 +9,8 @@ use Rattle.scasp_num.specs.Linear.{Ascends, IsNormal, Linear, common_divisor, co
 use Rattle.scasp_num.specs.Number.{InRange}
 use Rattle.scasp_num.specs.declared.linear.Coeff.{Coeff}
 use Rattle.scasp_syntax.specs.Constraints.{holds, has_shape, is_number}
-use Rattle.scasp_syntax.specs.RowTruth.{sum_under}
+use Rattle.scasp_syntax.specs.RowTruth.{number_of, point}
+use Rattle.scasp_num.specs.Values.{row_sum}
 use Rattle.scasp_syntax.specs.Tm.{Tm, Tms, var, num, app, nil, cons}
 use Rattle.scasp_syntax.specs.Values.{Sub, is_ground, under, all_under}
 use Rattle.scasp_syntax.specs.View.{tm_of}
@@ -24,13 +25,14 @@ use Rattle.scasp_hint.specs.Showing.{fault_of}
 use Rattle.scasp_lines.specs.Contexts.{context}
 use Rattle.scasp_lines.specs.Known.{is_known, are_known, is_con_known}
 use Rattle.scasp_lines.specs.Openings.{equal}
-use Rattle.scasp_lines.specs.SimpleForm.{term_with}
+use Rattle.scasp_unify.specs.SimpleForm.{term_with}
 use Rattle.scasp_lines.proofs.KnownLemmas.{agree-tm, agree-tms, agree-con}
-use Rattle.scasp_lines.proofs.OpeningFits.{tm-term}
+use Rattle.scasp_unify.proofs.SimpleLemmas.{viewed}
 use Rattle.scasp_acceptance.specs.PairLists.{above, above_all, above_terms, above_con, above_cons, raised_from, raising, term_raised, row_raised, con_raised, equal_args, pair_list}
 use Rattle.scasp_acceptance.specs.Told.{Told}
 use Rattle.scasp_acceptance.proofs.HintLemmas.{unmet, all-append}
 use Rattle.scasp_acceptance.proofs.NormalityLemmas.{normal-append}
+use Rattle.scasp_acceptance.proofs.RenamedRows.{renamed-normal}
 
 -- ---- what is below a number that is above it
 
@@ -102,15 +104,18 @@ mutual
 module _ (free by : ℕ) (u w : Sub) (a : (x : ℕ) → u (raised_from free by x) ≡ w x) where
   raised-term : (t : Term) → under u (tm_of (term_raised free by t)) ≡ under w (tm_of t)
   raised-term t =
-      ap (under u) (tm-term (under (raising free by) (tm_of t))) ∙ under-under u (raising free by) (tm_of t)
+      ap (under u) (viewed (under (raising free by) (tm_of t))) ∙ under-under u (raising free by) (tm_of t)
       ∙ under-alike (λ x. u (raised_from free by x)) w a (tm_of t)
 
   raised-args : (ts : Tms) → all_under u (all_under (raising free by) ts) ≡ all_under w ts
   raised-args ts = all_under-all_under u (raising free by) ts ∙ all-alike (λ x. u (raised_from free by x)) w a ts
 
-  raised-sum : (c : ℤ) (ks : List Coeff) → sum_under u c (map (λ (k : Coeff). record { x = raised_from free by k.x; c = k.c }) ks) ≡ sum_under w c ks
-  raised-sum c [] = refl
-  raised-sum c (k ∷ ks) = let p = a k.x in let q = raised-sum c ks in cc
+  raised-sum : (ks : List Coeff) → row_sum (point u) (map (λ (k : Coeff). record { x = raised_from free by k.x; c = k.c }) ks) ≡ row_sum (point w) ks
+  raised-sum [] = refl
+  raised-sum (k ∷ ks) =
+      let value = ap number_of (a k.x) in
+      let rest = raised-sum ks in
+      λ i. (k.c *ℤ (value i).num *ℤ (rest i).1 +ℤ (rest i).0 *ℤ (value i).den, (value i).den *ℤ (rest i).1)
 
   raised-holds : (c : Con) → holds u (con_raised free by c) ≡ holds w c
   raised-holds (con.Eq t s) = let p = raised-term t in let q = raised-term s in cc
@@ -118,7 +123,7 @@ module _ (free by : ℕ) (u w : Sub) (a : (x : ℕ) → u (raised_from free by x
   raised-holds (con.NotShape x f m) = ap (λ z. not (has_shape f m z)) (a x)
   raised-holds (con.Num t) = ap is_number (raised-term t)
   raised-holds (con.NotNum t) = ap (λ z. not (is_number z)) (raised-term t)
-  raised-holds (con.Row l) = ap (λ (z : ℤ × ℤ). compares l.op z.0) (raised-sum l.constant l.coeffs)
+  raised-holds (con.Row l) = ap (λ (z : ℤ × ℤ). compares l.op (z.0 +ℤ l.constant *ℤ z.1)) (raised-sum l.coeffs)
 
   raised-met : (cs : List Con) → list_all (holds w) cs ≡ true → list_all (holds u) (map (con_raised free by) cs) ≡ true
   raised-met [] h = refl
@@ -128,7 +133,7 @@ module _ (free by : ℕ) (u w : Sub) (a : (x : ℕ) → u (raised_from free by x
 
 equal-holds : (u : Sub) (t l : Tm) → under u t ≡ under u l → holds u (equal t l) ≡ true
 equal-holds u t l e =
-    (tm_decided (under u (tm_of (term_with t))) (under u (tm_of (term_with l)))).1 (ap (under u) (tm-term t) ∙ e ∙ ap (under u) (sym (tm-term l)))
+    (tm_decided (under u (tm_of (term_with t))) (under u (tm_of (term_with l)))).1 (ap (under u) (viewed t) ∙ e ∙ ap (under u) (sym (viewed l)))
 
 args-met : (u : Sub) (ts us : Tms) → all_under u ts ≡ all_under u us → list_all (holds u) (equal_args ts us) ≡ true
 args-met u nil us e = refl
@@ -158,40 +163,9 @@ raised-lt free by x y l =
     not-lt : (x n : ℕ) → nat_lt x n ≡ false → x < n → ⊥
     not-lt x n e l = let t = lt-is x n l in cc
 
-abbrev raised_term : ℕ → ℕ → Coeff → Coeff
-raised_term free by k = record { x = raised_from free by k.x; c = k.c }
-
-each-raised : (free by : ℕ) (P Q : Coeff → Type 0) → ((k : Coeff) → P k → Q (raised_term free by k)) → (ks : List Coeff) → Each P ks → Each Q (map (raised_term free by) ks)
-each-raised free by P Q f [] h = tt
-each-raised free by P Q f (k ∷ ks) h = (f k h.0, each-raised free by P Q f ks h.1)
-
-raised-ascends : (free by : ℕ) (ks : List Coeff) → Ascends ks → Ascends (map (raised_term free by) ks)
-raised-ascends free by [] h = tt
-raised-ascends free by (k ∷ ks) h =
-    (each-raised free by (λ j. k.x < j.x) (λ j. raised_from free by k.x < j.x) (λ j l. raised-lt free by k.x j.x l) ks h.0, raised-ascends free by ks h.1)
-
-same-integers : (free by : ℕ) (ks : List Coeff) → map (λ (k : Coeff). k.c) (map (raised_term free by) ks) ≡ map (λ k. k.c) ks
-same-integers free by [] = refl
-same-integers free by (k ∷ ks) = ap (λ (zs : List ℤ). k.c ∷ zs) (same-integers free by ks)
-
-same-lead : (free by : ℕ) (ks : List Coeff) (z : ℤ) → leads_below (map (raised_term free by) ks) z ≡ leads_below ks z
-same-lead free by [] z = refl
-same-lead free by (k ∷ ks) z = ap (λ b. cond (is_zero k.c) b (int_lt k.c (pos 0))) (same-lead free by ks z)
-
-row-normal : (free by : ℕ) (r : Linear) → IsNormal r → IsNormal (row_raised free by r)
-row-normal free by r n =
-    record {
-      ascending = raised-ascends free by r.coeffs n.ascending;
-      nonzero = each-raised free by (λ k. k.c ≢ pos 0) (λ k. k.c ≢ pos 0) (λ k h. h) r.coeffs n.nonzero;
-      constant_range = n.constant_range;
-      range = each-raised free by (λ k. InRange k.c) (λ k. InRange k.c) (λ k h. h) r.coeffs n.range;
-      primitive = subst (λ (zs : List ℤ). common_divisor (r.constant ∷ zs) ≤ 1) (sym (same-integers free by r.coeffs)) n.primitive;
-      sign = ap (λ b. is_symmetric r.op && b) (same-lead free by r.coeffs r.constant) ∙ n.sign;
-    }
-
 raised-normal : (free by : ℕ) (cs : List Con) → RowsNormal cs → RowsNormal (map (con_raised free by) cs)
 raised-normal free by [] h = tt
-raised-normal free by (con.Row r ∷ cs) h = (row-normal free by r h.0, raised-normal free by cs h.1)
+raised-normal free by (con.Row r ∷ cs) h = (renamed-normal (raised_from free by) (raised-lt free by) r h.0, raised-normal free by cs h.1)
 raised-normal free by (con.Eq t u ∷ cs) h = raised-normal free by cs h
 raised-normal free by (con.Neq t u ∷ cs) h = raised-normal free by cs h
 raised-normal free by (con.NotShape x f n ∷ cs) h = raised-normal free by cs h

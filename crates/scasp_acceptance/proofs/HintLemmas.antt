@@ -11,17 +11,20 @@ use Rattle.scasp_hint.specs.AskedRows.{RowsNormal}
 use Rattle.scasp_hint.specs.Showing.{fault_of}
 use Rattle.scasp_hint.proofs.ShownLemmas.{shown-unsat}
 use Rattle.scasp_lines.specs.Contexts.{context}
-use Rattle.scasp_lines.specs.Negations.{negated}
+use Rattle.scasp_unify.specs.Negations.{negated}
 use Rattle.scasp_lines.specs.Opened.{Opened, is_met}
 use Rattle.scasp_lines.specs.Scopes.{excludes_no_parts}
 use Rattle.scasp_lines.proofs.NegationLemmas.{negated-holds}
-use Rattle.scasp_lines.proofs.WaysLemmas.{context-met}
+use Rattle.scasp_lines.proofs.WaysLemmas.{context-exact}
 use Rattle.scasp_acceptance.proofs.NormalityLemmas.{OpenedNormal, context-normal, normal-append, negated-normal}
 
 pub all-append : {X : Type 0} → (p : X → Bool) (xs ys : List X) → list_all p xs ≡ true → list_all p ys ≡ true → list_all p (xs ++ ys) ≡ true
 all-append p [] ys h k = k
 all-append p (x ∷ xs) ys h k =
     let q = and_parts (p x) (list_all p xs) h in and_from (p x) (list_all p (xs ++ ys)) q.0 (all-append p xs ys q.1 k)
+
+pub context-met : (d : List Tm) (given : List Con) (os : List Opened) (v : Sub) → list_all (holds v) given ≡ true → list_all (is_met d v) os ≡ true → list_all (holds v) (context given os) ≡ true
+context-met d given os v g m = ((context-exact d given os v).0 (g, m)).0
 
 pub unmet : (cs : List Con) (h : Hint) → RowsNormal cs → fault_of cs h ≡ None → (v : Sub) → ((x : ℕ) → is_ground (v x) ≡ true) → list_all (holds v) cs ≡ true → ⊥
 unmet cs h n e v g m = shown-unsat cs h n e (record { by = record { of = v; ground = g }; meets = m })

@@ -9,3 +9,5 @@ pub mod NormalityLemmas
 pub mod HintLemmas
 pub mod ApartLemmas
 pub mod ListLemmas
+pub mod RenamedRows
+pub mod DeterminedLemmas

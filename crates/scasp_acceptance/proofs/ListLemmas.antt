@@ -3,7 +3,7 @@ use Rattle.std.proofs.Common.{◌≡◌, ℕ, zero, suc, List, [], ◌∷◌, Op
 use Rattle.std.specs.List.{Contains}
 use Rattle.scasp_list.specs.Each.{Each}
 use Rattle.scasp_syntax.specs.Programs.{numbered}
-use Rattle.scasp_lines.proofs.ListLemmas.{Contains-none, Contains-here, Contains-there, Contains-cases}
+use Rattle.scasp_list.proofs.MemberLemmas.{Contains-none, Contains-here, Contains-there, Contains-cases}
 
 pub Each-member : {A : Type 0} → (P : A → Type 0) (xs : List A) (x : A) → Each P xs → Contains xs x → P x
 Each-member P [] x h i = absurd (Contains-none x i)

@@ -32,14 +32,14 @@ use Rattle.scasp_acceptance.proofs.TestLemmas.{wants-holds, wants-none, both_non
 
 -- ---- rules
 
-all_under-length : (s : Sub) (ts : Tms) → length (items (all_under s ts)) ≡ length (items ts)
+pub all_under-length : (s : Sub) (ts : Tms) → length (items (all_under s ts)) ≡ length (items ts)
 all_under-length s nil = refl
 all_under-length s (cons t ts) = ap suc (all_under-length s ts)
 
-pred-under : (s : Sub) (a : Atom) → pred_of (atom_under s a) ≡ pred_of a
+pub pred-under : (s : Sub) (a : Atom) → pred_of (atom_under s a) ≡ pred_of a
 pred-under s a = ap (λ n. record { minus = a.minus; name = a.name; arity = n }) (all_under-length s a.args)
 
-same-pred : (p : Pred) → same_pred p p ≡ true
+pub same-pred : (p : Pred) → same_pred p p ≡ true
 same-pred p = and_from _ _ (and_from _ _ ((bool_decided p.minus p.minus).1 refl) ((Decides-eqb p.name p.name).1 refl)) ((Decides-eqb p.arity p.arity).1 refl)
 
 -- the predicate of an instance is that of the head

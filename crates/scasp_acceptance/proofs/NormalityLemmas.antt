@@ -21,7 +21,7 @@ use Rattle.scasp_lines.specs.Bodies.{Body, inside_rule, inside_check, open_head}
 use Rattle.scasp_lines.specs.Contexts.{constraints_of, context}
 use Rattle.scasp_lines.specs.Covers.{Cover, with_universal, with_universals, cover_from}
 use Rattle.scasp_lines.specs.Lines.{lines, setting}
-use Rattle.scasp_lines.specs.Negations.{new_parts, negated}
+use Rattle.scasp_unify.specs.Negations.{new_parts, negated}
 use Rattle.scasp_lines.specs.Opened.{Opened}
 use Rattle.scasp_lines.specs.Openings.{Opening, bound_to, with_shape, with_clash, open_variable, open_term, open_terms, unopened}
 use Rattle.scasp_lines.specs.Places.{Place, is_universal}

@@ -27,7 +27,7 @@ use Rattle.scasp_lines.specs.Contexts.{context}
 use Rattle.scasp_lines.specs.Dues.{Due, goal, fact}
 use Rattle.scasp_lines.specs.Known.{are_known, is_con_known}
 use Rattle.scasp_lines.specs.Lines.{free_of, lines}
-use Rattle.scasp_lines.specs.Negations.{negated}
+use Rattle.scasp_unify.specs.Negations.{negated}
 use Rattle.scasp_lines.specs.Places.{Above, Place}
 use Rattle.scasp_lines.specs.Sides.{Shape, shape_of}
 use Rattle.scasp_lines.specs.Walk.{Part, of_node, of_rule, of_check, of_case, Line}

@@ -11,7 +11,7 @@ use Rattle.scasp_syntax.specs.Constraints.{holds}
 use Rattle.scasp_syntax.specs.Values.{Sub}
 use Rattle.scasp_syntax.specs.declared.con.Con.{Con}
 use Rattle.scasp_syntax.specs.declared.con.Con.TheVariants as con
-use Rattle.scasp_unify.specs.Points.{number_of}
+use Rattle.scasp_syntax.specs.RowTruth.{number_of}
 
 -- a sum and each coefficient times its variable's value, in order; what is no number counts as 0
 abbrev pub summed : Sub → List Coeff → Number → Option Number

@@ -19,3 +19,4 @@ pub mod RowExamples
 pub mod ClashExamples
 pub mod AnswerExamples
 pub mod Normality
+pub mod ScopeExamples

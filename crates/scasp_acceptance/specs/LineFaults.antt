@@ -18,7 +18,7 @@ use Rattle.scasp_lines.specs.Bodies.{Body}
 use Rattle.scasp_lines.specs.Contexts.{context}
 use Rattle.scasp_lines.specs.Dues.{Due, goal, fact, nothing}
 use Rattle.scasp_lines.specs.Known.{are_known, is_con_known}
-use Rattle.scasp_lines.specs.Negations.{negated}
+use Rattle.scasp_unify.specs.Negations.{negated}
 use Rattle.scasp_lines.specs.Places.{Place}
 use Rattle.scasp_lines.specs.Sides.{Shape, shape_of}
 use Rattle.scasp_lines.specs.Walk.{Part, of_node, of_rule, of_check, of_case, Line}

@@ -10,7 +10,7 @@ use Rattle.scasp_syntax.specs.declared.con.Con.TheVariants as con
 use Rattle.scasp_syntax.specs.declared.term.Term.{Term}
 use Rattle.scasp_lines.specs.Contexts.{context}
 use Rattle.scasp_lines.specs.Openings.{equal}
-use Rattle.scasp_lines.specs.SimpleForm.{term_with}
+use Rattle.scasp_unify.specs.SimpleForm.{term_with}
 use Rattle.scasp_acceptance.specs.Told.{Told}
 
 -- ---- above each variable

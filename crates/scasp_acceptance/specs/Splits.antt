@@ -6,7 +6,7 @@ use Rattle.scasp_syntax.specs.Values.{Sub, under}
 use Rattle.scasp_syntax.specs.View.{tm_of}
 use Rattle.scasp_syntax.specs.declared.con.Con.{Con}
 use Rattle.scasp_syntax.specs.declared.con.Con.TheVariants as con
-use Rattle.scasp_lines.specs.Parts.{occurs}
+use Rattle.scasp_unify.specs.Parts.{occurs}
 
 -- some variable of these is universal
 abbrev mutual

@@ -1,15 +1,16 @@
 //! What holds of accepted certificates.
-ghost use Rattle.std.specs.Prelude.{◌≡◌, ◌≢◌, ◌↔◌, ◌<◌, ℕ, Bool, false, IsTrue, [], None, List};
+ghost use Rattle.std.specs.Prelude.{◌≡◌, ◌≢◌, ◌↔◌, ◌<◌, ◌∷◌, ℕ, Bool, false, IsTrue, [], None, Some, List};
 ghost use Rattle.std.specs.List.{Contains};
 ghost use Rattle.scasp_hint.specs.AskedRows.{RowsNormal};
 ghost use Rattle.scasp_hint.specs.Showing.{fault_of};
-ghost use Rattle.scasp_syntax.specs.Constraints.{Meets};
-ghost use Rattle.scasp_syntax.specs.Values.{Valuation, all_under};
+ghost use Rattle.scasp_syntax.specs.Constraints.{Meets, holds};
+ghost use Rattle.scasp_syntax.specs.Values.{Sub, Valuation, all_under, under};
 ghost use Rattle.scasp_syntax.specs.declared.con.Con.{Con as ThisCon};
 ghost use Rattle.scasp_syntax.specs.declared.hint.Hint.{Hint as ThisHint};
 ghost use Rattle.scasp_syntax.specs.declared.program.Program.{Program as ThisProgram};
 ghost use Rattle.scasp_cert.specs.Certificate.{Certificate};
 ghost use Rattle.scasp_lines.specs.Contexts.{context};
+ghost use Rattle.scasp_lines.specs.Determined.{determined};
 ghost use Rattle.scasp_lines.specs.Lines.{lines};
 ghost use Rattle.scasp_lines.specs.Walk.{Line};
 ghost use Rattle.scasp_lines.specs.Scopes.{are_lines_scoped};
@@ -43,4 +44,10 @@ pub fn contexts_are_normal()
 /// at an instance of its own line.
 pub fn apart()
     ensures { (free : ℕ) (given : List ThisCon) (a b : Told) (h : ThisHint) → RowsNormal (context given a.opened) → RowsNormal (context [] b.opened) → fault_of (pair_list free given a b) h ≡ None → (v w : Valuation) → ((x : ℕ) → x < free → v.of x ≡ w.of x) → Meets v.of (context given a.opened) → Meets w.of (context [] b.opened) → all_under v.of a.atom.args ≢ all_under w.of b.atom.args }
+{}
+
+/// The constraint that is due for a constraint of a clause, whose variables stand for terms, holds exactly where the
+/// clause's does under the values of these terms.
+pub fn determined_constraints_hold()
+    ensures { (v m : Sub) (c k : ThisCon) → RowsNormal (c ∷ []) → Some k ≡ determined m c → IsTrue (holds v k) ↔ IsTrue (holds (λ x. under v (m x)) c) }
 {}
