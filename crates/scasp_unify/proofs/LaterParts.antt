@@ -1,15 +1,14 @@
 -- Equations may be taken apart first and resolved later: a term against a part of it, at any depth, never comes apart.
-use Rattle.std.proofs.Common.{◌≡◌, ◌⊎◌, inl, inr, ℕ, Bool, true, false, ◌||◌, nat_eq, if◌then◌else◌, List, [], ◌∷◌, ◌++◌, Option, None, Some, refl, sym, ap, subst, ◌∙◌, append_assoc, append-nil}
+use Rattle.std.proofs.Common.{◌≡◌, ◌⊎◌, inl, inr, ℕ, Bool, true, false, nat_eq, if◌then◌else◌, List, [], ◌∷◌, ◌++◌, Option, None, Some, refl, sym, ap, subst, ◌∙◌, append_assoc, append-nil}
 use Rattle.std.specs.Prelude.{⊤}
 use Rattle.std.proofs.lemmas.Bool.{or_cases, eqb-true, true≢false}
 use Rattle.std.proofs.lemmas.Bool.Decides.{Decides-eqb}
 use Rattle.scasp_num.specs.Arithmetic.{◌>>=◌}
-use Rattle.scasp_num.specs.Number.{Number}
 use Rattle.scasp_syntax.specs.Same.{same_number}
 use Rattle.scasp_syntax.specs.Tm.{Tm, Tms, var, num, app, nil, cons}
 use Rattle.scasp_syntax.specs.Values.{Sub, under, all_under}
 use Rattle.scasp_syntax.proofs.SameLemmas.{tm_decided}
-use Rattle.scasp_unify.specs.Parts.{Part, occurs, occurs_among, part_if, both_parts, parts, parts_each, left_side, right_side}
+use Rattle.scasp_unify.specs.Parts.{Part, occurs, occurs_among, both_parts, parts, parts_each, left_side, right_side}
 use Rattle.scasp_unify.specs.Unification.{parts_under}
 use Rattle.scasp_unify.proofs.Members.{or-left, or-right}
 

@@ -2,8 +2,8 @@
 use Rattle.std.proofs.Common.{◌≡◌, ℕ, true, List, [], ◌∷◌, Option, None, Some, is_some, refl, sym, ap, subst, ◌∙◌}
 use Rattle.scasp_num.specs.Arithmetic.{◌>>=◌}
 use Rattle.scasp_list.specs.Each.{Each}
-use Rattle.scasp_syntax.specs.Tm.{Tm, Tms, var, num, app, nil, cons}
-use Rattle.scasp_syntax.specs.Values.{Sub, under, all_under}
+use Rattle.scasp_syntax.specs.Tm.{Tm, var}
+use Rattle.scasp_syntax.specs.Values.{Sub, under}
 use Rattle.scasp_syntax.specs.View.{tm_of}
 use Rattle.scasp_unify.specs.Unification.{then_by, unifier, Absorbs}
 use Rattle.scasp_unify.specs.Resolver.{taken, unifies, extended, resolver_after, resolver, Equal}

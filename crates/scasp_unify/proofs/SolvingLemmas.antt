@@ -1,7 +1,6 @@
 -- Parts solved one by one make what all of them make at once.
-use Rattle.std.proofs.Common.{◌≡◌, ◌≢◌, ◌<◌, get_or, remove, drop, take, ◌⊎◌, inl, inr, ℕ, zero, suc, ◌+◌, ◌≤◌, zero-add, Bool, true, false, nat_eq, if◌then◌else◌, List, [], ◌∷◌, ◌++◌, map, length, Option, None, Some, is_some, refl, sym, ap, subst, ◌∙◌, arith, add_assoc, add-zero, append-nil}
-use Rattle.std.specs.Prelude.{⊤}
-use Rattle.std.proofs.lemmas.Bool.{eqb-true, eqb-false, true≢false}
+use Rattle.std.proofs.Common.{◌≡◌, ◌≢◌, ◌<◌, get_or, remove, drop, take, ℕ, zero, suc, ◌+◌, ◌≤◌, zero-add, Bool, true, false, nat_eq, if◌then◌else◌, List, [], ◌∷◌, ◌++◌, map, length, Option, None, Some, is_some, refl, sym, ap, subst, ◌∙◌, arith, add_assoc, add-zero, append-nil}
+use Rattle.std.proofs.lemmas.Bool.{true≢false}
 use Rattle.std.proofs.lemmas.Bool.Decides.{Decides-eqb}
 use Rattle.std.proofs.lemmas.List.{length-take}
 use Rattle.scasp_list.specs.Each.{Each}
@@ -18,7 +17,7 @@ use Rattle.scasp_unify.specs.Solving.{sub_of, part_of, behind, AddsParts, Solves
 use Rattle.scasp_unify.specs.declared.bindings.Binding.{Binding}
 use Rattle.scasp_unify.specs.declared.parts.Part.{Part as FoundPart}
 use Rattle.scasp_unify.proofs.LaterParts.{both-none, parts-later, under-append}
-use Rattle.scasp_unify.proofs.UnificationLemmas.{Fits, Fair, IfParts, both-fair, parts-fair, equation-fair, single-absent, absorbs-one, solved-general, solved-solves, General, SolvesEach, resolved-twice}
+use Rattle.scasp_unify.proofs.UnificationLemmas.{Fits, Fair, IfParts, both-fair, equation-fair, single-absent, absorbs-one, solved-general, solved-solves, General, SolvesEach, resolved-twice}
 
 -- ---- substitutions
 

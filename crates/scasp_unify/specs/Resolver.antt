@@ -1,5 +1,5 @@
 -- The equations of a list of constraints, unified in the order of the list, and what they make of each variable.
-use Rattle.std.specs.Prelude.{◌≡◌, ℕ, Bool, List, [], ◌∷◌, Option, None, Some, is_some, ⊤}
+use Rattle.std.specs.Prelude.{◌≡◌, Bool, List, [], ◌∷◌, Option, None, Some, is_some, ⊤}
 use Rattle.scasp_num.specs.Arithmetic.{◌>>=◌}
 use Rattle.scasp_syntax.specs.Tm.{var}
 use Rattle.scasp_syntax.specs.Values.{Sub, under}

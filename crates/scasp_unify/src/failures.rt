@@ -97,7 +97,11 @@ fn is_refuted(alloc: Global, constraint: &Con, resolver: &Resolver) -> Result<bo
 
 /// Whether the list fails by its terms: its equations do not unify, or one of its other constraints but the rows is
 /// refuted by what they make of its variables.
-pub fn fails_by_terms(alloc: Global, constraints: &[Con], resolver: &Resolver) -> Result<bool, Memory>
+pub fn fails_by_terms(
+    alloc: Global,
+    constraints: &[Con],
+    resolver: &Resolver,
+) -> Result<bool, Memory>
     requires { ResolvesList resolver.now constraints.now }
     ensures { IfOk result (λ fails. fails ≡ fails_by_terms constraints.now) }
 {

@@ -42,11 +42,7 @@ fn take(alloc: Global, constraint: &Con, bindings: &mut Vec<Binding>) -> Result<
 }
 
 /// Unifies the equations of the list in order; false where one of them does not unify.
-fn take_all(
-    alloc: Global,
-    constraints: &[Con],
-    bindings: &mut Vec<Binding>,
-) -> Result<bool, Memory>
+fn take_all(alloc: Global, constraints: &[Con], bindings: &mut Vec<Binding>) -> Result<bool, Memory>
     requires { bindings.old.items ≡ [] }
     ensures bound { IfOk result (λ is_taken. sub_of bindings.new.items ≡ resolver constraints.now) }
     ensures unifies { IfOk result (λ is_taken. is_taken ≡ unifies constraints.now) }

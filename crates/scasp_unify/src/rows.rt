@@ -23,13 +23,7 @@ fn replaced(alloc: Global, row: Row, x: u64, bindings: &[Binding]) -> Result<Row
 {
     match resolve(alloc, &Term::Var(x), bindings)? {
         Term::Num(value) => row.put(x, &value),
-        Term::Var(y) => {
-            if y == x {
-                Ok(row)
-            } else {
-                row.join(x, y)
-            }
-        }
+        Term::Var(y) => { if y == x { Ok(row) } else { row.join(x, y) } }
         Term::App(_, _) => Ok(row),
     }
 }

@@ -83,11 +83,7 @@ fn bind_first(
 
 /// Solves one part; false where it clashes.
 #[cycle(solve)]
-fn solve_part(
-    alloc: Global,
-    part: &Part,
-    bindings: &mut Vec<Binding>,
-) -> Result<bool, Memory>
+fn solve_part(alloc: Global, part: &Part, bindings: &mut Vec<Binding>) -> Result<bool, Memory>
     requires { Absorbs (sub_of bindings.old.items) (sub_of bindings.old.items) }
     ensures solved { IfOk result (λ is_solved. Solves is_solved (sub_of bindings.old.items) (part_of part.now ∷ []) (sub_of bindings.new.items)) }
     ensures resolved { IfOk result (λ is_solved. Absorbs (sub_of bindings.new.items) (sub_of bindings.new.items)) }

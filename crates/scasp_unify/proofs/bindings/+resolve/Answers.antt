@@ -1,4 +1,4 @@
-use Rattle.std.proofs.Common.{◌∙◌, ◌≡◌, arith, sym, ap}
+use Rattle.std.proofs.Common.{◌∙◌, arith, ap}
 use Rattle.scasp_syntax.specs.Tm.{Tms, weight, weight_s}
 use Rattle.scasp_syntax.specs.Values.{under, all_under}
 use Rattle.scasp_syntax.specs.View.{tm_of}

@@ -1,4 +1,4 @@
-use Rattle.std.proofs.Common.{◌≡◌, suc, ◌+◌, ◌*◌, drop, length, map, take}
+use Rattle.std.proofs.Common.{◌≡◌, ◌+◌, ◌*◌, drop, length, map, take}
 use Rattle.scasp_syntax.specs.Tm.{items, weight, weight_s}
 use Rattle.scasp_syntax.specs.Values.{all_under, under}
 use Rattle.scasp_syntax.specs.View.{tm_of}

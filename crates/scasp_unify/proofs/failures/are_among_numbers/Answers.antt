@@ -1,8 +1,6 @@
-use Rattle.std.proofs.Common.{◌≡◌, ◌∙◌, ◌&&◌, ◌+◌, Bool, List, drop, map, ap, sym}
+use Rattle.std.proofs.Common.{◌∙◌, ◌&&◌, ◌+◌, Bool, drop, map, ap, sym}
 use Rattle.scasp_syntax.specs.View.{tm_of}
-use Rattle.scasp_syntax.specs.declared.con.Con.{Con}
 use Rattle.scasp_unify.specs.Numbers.{is_among_numbers, is_number_term}
-use Rattle.scasp_unify.specs.ResolvedLists.{ResolvesList}
 use Rattle.scasp_unify.specs.Solving.{part_of}
 use Rattle.scasp_unify.proofs.NumberLemmas.{among-next}
 use Rattle.scasp_unify.proofs.failures.are_among_numbers.Goals as goal

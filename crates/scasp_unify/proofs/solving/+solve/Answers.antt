@@ -1,7 +1,6 @@
-use Rattle.std.proofs.Common.{◌≡◌, ◌∙◌, ◌+◌, ◌≤◌, List, [], ◌∷◌, map, drop, take, length, arith, ap, sym, subst}
+use Rattle.std.proofs.Common.{◌∙◌, ◌+◌, ◌≤◌, List, [], ◌∷◌, map, drop, take, length, arith, ap, sym, subst}
 use Rattle.std.specs.Prelude.{MatchOption}
 use Rattle.std.proofs.lemmas.List.{take-take}
-use Rattle.scasp_unify.specs.Parts.{Part}
 use Rattle.scasp_unify.specs.Solving.{Clashes, LeadsTo, Solves, part_of, sub_of}
 use Rattle.scasp_unify.specs.declared.parts.Part.{Part as FoundPart}
 use Rattle.scasp_unify.proofs.SolvingLemmas.{leads-clash, leads-past, next-part, rest-solved, kept-longer}

@@ -1,11 +1,8 @@
-use Rattle.std.proofs.Common.{◌≡◌, ◌∙◌, List, Some, false, map, sym, ap, subst, take, true}
-use Rattle.scasp_syntax.specs.Values.{under}
+use Rattle.std.proofs.Common.{◌∙◌, List, map, ap, subst, take}
 use Rattle.scasp_syntax.specs.View.{tm_of}
-use Rattle.scasp_unify.specs.Parts.{parts}
 use Rattle.scasp_unify.specs.Solving.{Solves, part_of, sub_of}
-use Rattle.scasp_unify.specs.Unification.{unifier}
 use Rattle.scasp_unify.specs.declared.parts.Part.{Part}
-use Rattle.scasp_unify.proofs.SolvingLemmas.{Unified, found-apart, found-parts, sides-apart, sides-clash, sides-unify}
+use Rattle.scasp_unify.proofs.SolvingLemmas.{found-apart, found-parts, sides-apart, sides-clash, sides-unify}
 use Rattle.scasp_unify.proofs.solving.unify.Goals as goal
 
 pub returns-then-not-branch-clause-unified : goal.returns-then-not-branch-clause-unified
