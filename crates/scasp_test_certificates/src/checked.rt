@@ -1,11 +1,11 @@
 //! Certificates made by hand: right ones, and for each reason wrong ones.
 use crate::made::{certificate, nodes, terms};
 use scasp_cert::{Case, Cert, Check, Clash, Node, Nodes};
-use scasp_checker::{CheckErr, Reason, Refusal, Verdict, check};
+use scasp_checker::{CheckErr, Reason, Verdict, check};
 use scasp_graph::MapFault;
 use scasp_name::{Memory, NIL};
 use scasp_samples::{Name, P, Q, R, Rule, S, atom, literal, map_of, program};
-use scasp_syntax::{Con, Hint, Term, Terms};
+use scasp_syntax::{Con, Hint, Program, Term, Terms};
 use std::alloc::Global;
 use std::process::Abort;
 use std::test::Fail;
@@ -260,14 +260,19 @@ fn line(
     })
 }
 
+/// A line below the line `p`.
+fn line_below(alloc: Global, name: Name, rule: u64) -> Result<Node, Memory> {
+    let mut below = Nodes::new(alloc);
+    if name == R {
+        below.push(line(alloc, Q, 2, Listed::Nothing, Nodes::new(alloc))?)?;
+    }
+    line(alloc, name, rule, Listed::Nothing, below)
+}
+
 fn trees(alloc: Global, written: &Written) -> Result<Nodes, Memory> {
     let mut below = Nodes::new(alloc);
     for (name, rule) in written.lines {
-        let mut last = Nodes::new(alloc);
-        if *name == R {
-            last.push(line(alloc, Q, 2, Listed::Nothing, Nodes::new(alloc))?)?;
-        }
-        below.push(line(alloc, *name, *rule, Listed::Nothing, last)?)?;
+        below.push(line_below(alloc, *name, *rule)?)?;
     }
     nodes(alloc, line(alloc, P, written.rule, written.listed, below)?)
 }
@@ -281,10 +286,8 @@ fn with_loop(alloc: Global) -> Result<Nodes, Memory> {
     nodes(alloc, line(alloc, P, 1, Listed::Nothing, below)?)
 }
 
-fn made(alloc: Global, written: &Written) -> Result<Cert, Memory> {
-    let mut cert = certificate(alloc, trees(alloc, written)?);
-    cert.query = written.query;
-    match written.change {
+fn apply(alloc: Global, cert: &mut Cert, change: Change) -> Result<(), Memory> {
+    match change {
         Change::Nothing => {}
         Change::NoTree => cert.trees = Nodes::new(alloc),
         Change::LoopLine => cert.trees = with_loop(alloc)?,
@@ -305,7 +308,24 @@ fn made(alloc: Global, written: &Written) -> Result<Cert, Memory> {
         Change::MapOfNone => cert.map = map_of(alloc, &[(S, 0, true)])?,
         Change::MapTwice => cert.map = map_of(alloc, &[(P, 0, true), (P, 0, true)])?,
     }
+    Ok(())
+}
+
+fn made(alloc: Global, written: &Written) -> Result<Cert, Memory> {
+    let mut cert = certificate(alloc, trees(alloc, written)?);
+    cert.query = written.query;
+    apply(alloc, &mut cert, written.change)?;
     Ok(cert)
+}
+
+/// What the checker says of the certificate.
+fn said(alloc: Global, program: &Program, written: &Written) -> Result<Outcome, Memory> {
+    let cert = made(alloc, written)?;
+    match check(alloc, program, &cert) {
+        Ok(verdict) => Ok(Ok(verdict)),
+        Err(CheckErr::Refused(refusal)) => Ok(Err((refusal.at, refusal.reason))),
+        Err(CheckErr::Memory) => Err(Memory),
+    }
 }
 
 fn test_checks(
@@ -316,12 +336,7 @@ fn test_checks(
 ) -> Result<(), Memory> {
     let program = program(alloc, rules, &[&[(true, P)]])?;
     for (written, outcome) in tried {
-        let cert = made(alloc, written)?;
-        let expected = match *outcome {
-            Ok(verdict) => Ok(verdict),
-            Err((at, reason)) => Err(CheckErr::Refused(Refusal { at, reason })),
-        };
-        assert_eq!(rt; check(alloc, &program, &cert), expected);
+        assert_eq!(rt; said(alloc, &program, written)?, *outcome);
     }
     Ok(())
 }

@@ -5,8 +5,9 @@ use scasp_name::{Memory, NIL, NameId, Names, PAIR};
 use scasp_num::{Op, Rat, RatPair, RatPairs, Row, Step, StepLists};
 use scasp_print::print_cert;
 use scasp_samples::{Name, P, Q, R, S, T, atom, literal, map_of, one, pred};
-use scasp_syntax::{Con, Cons, Hint, Pred, PredMap, Term, Terms};
+use scasp_syntax::{Atom, Con, Cons, Hint, Pred, PredMap, Term, Terms};
 use std::alloc::Global;
+use std::process::Abort;
 use std::test::Fail;
 
 const FACT: &str = "answer 1.1 []
@@ -101,15 +102,18 @@ fn fact(alloc: Global, children: Nodes) -> Result<Cert, Memory> {
     Ok(cert)
 }
 
-fn even_loop(alloc: Global) -> Result<Cert, Memory> {
+fn one_cover(alloc: Global) -> Result<Covers, Memory> {
     let lit = literal(alloc, (true, P))?;
     let children = nodes(alloc, Node::Loop { lit, at: 1 })?;
+    let case = Case::Leaf { item: 1, children };
     let mut covers = Covers::new(alloc);
-    covers.push(Cover {
-        rule: 2,
-        case: Case::Leaf { item: 1, children },
-    })?;
+    covers.push(Cover { rule: 2, case })?;
+    Ok(covers)
+}
+
+fn even_loop(alloc: Global) -> Result<Cert, Memory> {
     let atom = atom(alloc, Q)?;
+    let covers = one_cover(alloc)?;
     let mut cert = fact(alloc, nodes(alloc, Node::Neg { atom, covers })?)?;
     cert.map = map_of(alloc, &[(P, 0, true), (Q, 0, false)])?;
     Ok(cert)
@@ -127,32 +131,49 @@ fn row(alloc: Global, summands: &[(u64, i128)], constant: i128, op: Op) -> Resul
     Ok(Con::Row(row))
 }
 
-fn numbers(alloc: Global) -> Result<Cert, Fail> {
-    let mut cert = fact(alloc, Nodes::new(alloc))?;
+/// The variables and summands of each row, its constant, and how it compares with 0.
+const ROWS: [(&[(u64, i128)], i128, Op); 5] = [
+    (&[(0, 4), (1, 3)], -1, Op::Eq),
+    (&[(0, 5), (1, -1)], -2, Op::Eq),
+    (&[(0, -1)], 3, Op::Lt),
+    (&[(0, 1), (1, -1)], 0, Op::Le),
+    (&[], 1, Op::Ne),
+];
+
+fn put_rows(alloc: Global, cert: &mut Cert) -> Result<(), Fail> {
     for var in 0..2u64 {
         cert.terms.push(Term::Var(var))?;
         cert.given.push(Con::Num(Term::Var(var)))?;
     }
-    let rows: [(&[(u64, i128)], i128, Op); 5] = [
-        (&[(0, 4), (1, 3)], -1, Op::Eq),
-        (&[(0, 5), (1, -1)], -2, Op::Eq),
-        (&[(0, -1)], 3, Op::Lt),
-        (&[(0, 1), (1, -1)], 0, Op::Le),
-        (&[], 1, Op::Ne),
-    ];
-    for (summands, constant, op) in rows {
+    for (summands, constant, op) in ROWS {
         cert.given.push(row(alloc, summands, constant, op)?)?;
     }
+    Ok(())
+}
+
+fn put_sample(cert: &mut Cert) -> Result<(), Fail> {
     cert.sample.push(Term::Num(Rat::new(7, 19)?))?;
     cert.sample.push(Term::Num(Rat::new(-3, 19)?))?;
+    Ok(())
+}
+
+fn numbers(alloc: Global) -> Result<Cert, Fail> {
+    let mut cert = fact(alloc, Nodes::new(alloc))?;
+    put_rows(alloc, &mut cert)?;
+    put_sample(&mut cert)?;
     Ok(cert)
 }
 
-fn many_terms(alloc: Global) -> Result<Terms, Memory> {
+fn push_pairs(alloc: Global, list: &mut Terms) -> Result<(), Memory> {
     let rest = pair(alloc, constant(alloc, Q), Term::Var(1))?;
-    let mut list = terms(alloc, Term::Var(0))?;
     list.push(pair(alloc, constant(alloc, P), rest)?)?;
-    list.push(pair(alloc, constant(alloc, P), Term::App(NIL, Terms::new(alloc)))?)?;
+    let nil = Term::App(NIL, Terms::new(alloc));
+    list.push(pair(alloc, constant(alloc, P), nil)?)
+}
+
+fn many_terms(alloc: Global) -> Result<Terms, Memory> {
+    let mut list = terms(alloc, Term::Var(0))?;
+    push_pairs(alloc, &mut list)?;
     list.push(constant(alloc, R))?;
     list.push(constant(alloc, T))?;
     Ok(list)
@@ -173,29 +194,39 @@ const STEP: Step = Step {
     q: 4,
 };
 
-fn split(alloc: Global) -> Result<Case, Memory> {
+fn void(alloc: Global) -> Result<Case, Memory> {
     let hint = Hint::Rows(one(alloc, STEP)?);
+    Ok(Case::Void { hint })
+}
+
+fn leaf(alloc: Global) -> Result<Case, Memory> {
     let lit = literal(alloc, (false, Q))?;
     let children = nodes(alloc, Node::Seen { lit, at: 5 })?;
+    Ok(Case::Leaf { item: 2, children })
+}
+
+fn split(alloc: Global) -> Result<Case, Memory> {
+    let first = Box::new(alloc, void(alloc)?)?;
+    let second = Box::new(alloc, leaf(alloc)?)?;
     Ok(Case::Split {
         con: Con::Neq(Term::Var(0), constant(alloc, Q)),
-        first: Box::new(alloc, Case::Void { hint })?,
-        second: Box::new(alloc, Case::Leaf { item: 2, children })?,
+        first,
+        second,
     })
 }
 
-fn all_covers(alloc: Global) -> Result<Covers, Memory> {
+fn head(alloc: Global) -> Result<Case, Memory> {
     let lit = literal(alloc, (false, Q))?;
     let children = nodes(alloc, Node::Loop { lit, at: 1 })?;
+    Ok(Case::Head { children })
+}
+
+fn all_covers(alloc: Global) -> Result<Covers, Memory> {
     let mut covers = Covers::new(alloc);
-    covers.push(Cover {
-        rule: 4,
-        case: split(alloc)?,
-    })?;
-    covers.push(Cover {
-        rule: 5,
-        case: Case::Head { children },
-    })?;
+    let case = split(alloc)?;
+    covers.push(Cover { rule: 4, case })?;
+    let case = head(alloc)?;
+    covers.push(Cover { rule: 5, case })?;
     Ok(covers)
 }
 
@@ -212,45 +243,51 @@ fn step_lists(alloc: Global) -> Result<StepLists, Memory> {
     Ok(lists)
 }
 
-fn all_trees(alloc: Global) -> Result<Nodes, Memory> {
-    let test = Node::Test {
-        con: Con::Eq(Term::Var(0), constant(alloc, P)),
-        hint: Hint::Terms,
-    };
-    let mut denied = atom(alloc, Q)?;
-    denied.minus = true;
-    let covers = all_covers(alloc)?;
-    let mut children = nodes(alloc, test)?;
-    children.push(Node::Neg {
-        atom: denied,
-        covers,
-    })?;
-    let mut atom = atom(alloc, P)?;
-    atom.args = terms(alloc, Term::Var(0))?;
-    atom.args.push(constant(alloc, P))?;
-    nodes(
+/// A test, and a line for `-q`.
+fn lines_below(alloc: Global) -> Result<Nodes, Memory> {
+    let mut children = nodes(
         alloc,
-        Node::Pos {
-            atom,
-            rule: 3,
-            terms: terms(alloc, Term::Var(0))?,
-            children,
+        Node::Test {
+            con: Con::Eq(Term::Var(0), constant(alloc, P)),
+            hint: Hint::Terms,
         },
-    )
+    )?;
+    let covers = all_covers(alloc)?;
+    let mut atom = atom(alloc, Q)?;
+    atom.minus = true;
+    children.push(Node::Neg { atom, covers })?;
+    Ok(children)
 }
 
-fn all_forms(alloc: Global) -> Result<Cert, Memory> {
-    let mut cert = certificate(alloc, all_trees(alloc)?);
-    cert.query = 2;
+/// The atom `p(V0,p)`.
+fn binary(alloc: Global) -> Result<Atom, Memory> {
+    let mut atom = atom(alloc, P)?;
+    atom.args.push(Term::Var(0))?;
+    atom.args.push(constant(alloc, P))?;
+    Ok(atom)
+}
+
+fn all_trees(alloc: Global) -> Result<Nodes, Memory> {
+    let children = lines_below(alloc)?;
+    let atom = binary(alloc)?;
+    let node = Node::Pos {
+        atom,
+        rule: 3,
+        terms: terms(alloc, Term::Var(0))?,
+        children,
+    };
+    nodes(alloc, node)
+}
+
+/// Puts what stands beside the trees.
+fn put_forms(alloc: Global, cert: &mut Cert) -> Result<(), Memory> {
     cert.terms = many_terms(alloc)?;
     cert.given = constraints(alloc)?;
     cert.sample.push(constant(alloc, P))?;
     cert.sample.push(Term::App(NIL, Terms::new(alloc)))?;
     let hint = Hint::Same(1, step_lists(alloc)?);
-    cert.checks.push(Check {
-        clause: 6,
-        case: Case::Void { hint },
-    })?;
+    let case = Case::Void { hint };
+    cert.checks.push(Check { clause: 6, case })?;
     cert.clashes.push(Clash {
         first: 1,
         second: 3,
@@ -261,22 +298,29 @@ fn all_forms(alloc: Global) -> Result<Cert, Memory> {
         pred: Pred { minus, ..pred(Q) },
         level: 1,
         plus: false,
-    })?;
+    })
+}
+
+fn all_forms(alloc: Global) -> Result<Cert, Memory> {
+    let mut cert = certificate(alloc, all_trees(alloc)?);
+    cert.query = 2;
+    put_forms(alloc, &mut cert)?;
     Ok(cert)
+}
+
+fn test_block(rt: &impl Abort, alloc: Global, cert: &Cert, block: &str) -> Result<(), Fail> {
+    let names = table(alloc)?;
+    let text = print_cert(alloc, &names, cert, 1)?;
+    assert!(rt; text.as_slice() == block.as_bytes());
+    Ok(())
 }
 
 #[test]
 fn certificates_are_written(rt: HostRuntime) -> Result<(), Fail> {
     let alloc = rt.alloc();
-    let names = table(alloc)?;
-    let mut rows = Vec::new(alloc);
-    rows.push((fact(alloc, Nodes::new(alloc))?, FACT))?;
-    rows.push((even_loop(alloc)?, EVEN_LOOP))?;
-    rows.push((all_forms(alloc)?, ALL_FORMS))?;
-    rows.push((numbers(alloc)?, NUMBERS))?;
-    for (cert, block) in &rows {
-        let text = print_cert(alloc, &names, cert, 1)?;
-        assert!(rt; text.as_slice() == block.as_bytes());
-    }
+    test_block(&rt, alloc, &fact(alloc, Nodes::new(alloc))?, FACT)?;
+    test_block(&rt, alloc, &even_loop(alloc)?, EVEN_LOOP)?;
+    test_block(&rt, alloc, &all_forms(alloc)?, ALL_FORMS)?;
+    test_block(&rt, alloc, &numbers(alloc)?, NUMBERS)?;
     Ok(())
 }

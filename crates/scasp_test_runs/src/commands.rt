@@ -4,7 +4,6 @@ use scasp_io::{MemSink, Memory};
 use scasp_samples::one;
 use scasp_top::{Status, scasp};
 use std::alloc::{AllocError, Global};
-use std::process::Abort;
 use std::test::Fail;
 
 /// The words of a command, the text of the file `p`, the most bytes of one write, the number of the read and of the write that
@@ -149,26 +148,20 @@ fn command(alloc: Global, words: &[&str]) -> Result<Vec<String>, AllocError> {
     Ok(all)
 }
 
-fn test_case(rt: &impl Abort, alloc: Global, case: &Case) -> Result<(), Memory> {
+/// Whether the command prints what it should, and ends so.
+fn prints(alloc: Global, case: &Case) -> Result<bool, Memory> {
     let words = command(alloc, case.words)?;
     let mut files = failing_file(alloc, case.text.as_bytes(), case.failing_read)?;
     let failing = one(alloc, case.failing_write)?;
     let mut out = MemSink::new(alloc, 100_000, case.chunk, failing)?;
     let status = scasp(alloc, &words, &mut files, &mut out);
-    assert_eq!(rt;
-        out.taken.as_slice(),
-        case.printed.as_bytes(),
-        "{}",
-        case.text
-    );
-    assert_eq!(rt; status, case.status, "{}", case.text);
-    Ok(())
+    Ok(status == case.status && out.taken.as_slice() == case.printed.as_bytes())
 }
 
 #[test]
 fn commands_print_and_end(rt: HostRuntime) -> Result<(), Fail> {
-    for case in CASES {
-        test_case(&rt, rt.alloc(), case)?;
+    for (number, case) in CASES.iter().enumerate() {
+        assert!(rt; prints(rt.alloc(), case)?, "at {number}");
     }
     Ok(())
 }
@@ -186,7 +179,7 @@ fn each_write_may_fail(rt: HostRuntime) -> Result<(), Fail> {
             printed,
             ..UNWRITTEN
         };
-        test_case(&rt, rt.alloc(), &case)?;
+        assert!(rt; prints(rt.alloc(), &case)?, "at {write}");
     }
     Ok(())
 }
@@ -200,6 +193,6 @@ fn a_byte_too_many_is_told(rt: HostRuntime) -> Result<(), Fail> {
         status: Status::Limit,
         ..RUN
     };
-    test_case(&rt, rt.alloc(), &case)?;
+    assert!(rt; prints(rt.alloc(), &case)?);
     Ok(())
 }

@@ -7,41 +7,50 @@ use scasp_written::{Event, Written};
 use std::alloc::Global;
 use std::test::Fail;
 
-/// The events of the search for the first query within a budget, each as the calls spent before it and a word.
-fn events(
+/// The word of an event.
+fn word(event: &Event) -> &'static str {
+    match event {
+        Event::Answer(_) => "answer",
+        Event::Ended => "ended",
+        Event::Spent => "spent",
+        Event::Overflow => "overflow",
+    }
+}
+
+/// Whether the first three events of the search for the first query within the budget have these words, each behind so many
+/// calls.
+fn has_events(
     alloc: Global,
     program: &Program,
     budget: u64,
-) -> Result<Vec<(u64, &'static str)>, Memory> {
-    let mut met = Vec::new(alloc);
+    events: &[(u64, &str)],
+) -> Result<bool, Memory> {
     if program.query(1).is_none() {
-        return Ok(met);
+        return Ok(false);
     }
     let mut search = Written::open(alloc, program, 1, budget, 2)?;
-    for _ in 0..3u8 {
-        let word = match search.next()? {
-            Event::Answer(_) => "answer",
-            Event::Ended => "ended",
-            Event::Spent => "spent",
-            Event::Overflow => "overflow",
-        };
-        met.push((search.calls(), word))?;
+    for (calls, want) in events {
+        let event = search.next()?;
+        if word(&event) != *want || search.calls() != *calls {
+            return Ok(false);
+        }
     }
-    Ok(met)
+    Ok(true)
+}
+
+/// The program of the text, where it is in the grammar.
+fn program(alloc: Global, text: &[u8]) -> Result<Program, Fail> {
+    let mut names = Names::new(alloc)?;
+    Ok(read_program(alloc, text, &mut names)?)
 }
 
 /// A budget of two calls just serves, and one call less is spent; a last event comes again.
 #[test]
 fn spends_budgets(rt: HostRuntime) -> Result<(), Fail> {
-    let mut names = Names::new(rt.alloc())?;
-    let program = read_program(rt.alloc(), b"p :- q. q. ?- p.", &mut names)?;
-    let rows = [
-        (2, [(2, "answer"), (2, "ended"), (2, "ended")]),
-        (1, [(1, "spent"), (1, "spent"), (1, "spent")]),
-    ];
-    for (budget, want) in rows {
-        let met = events(rt.alloc(), &program, budget)?;
-        assert_eq!(rt; met.as_slice(), want.as_slice(), "{budget}");
-    }
+    let program = program(rt.alloc(), b"p :- q. q. ?- p.")?;
+    let answered = [(2, "answer"), (2, "ended"), (2, "ended")];
+    assert!(rt; has_events(rt.alloc(), &program, 2, &answered)?);
+    let spent = [(1, "spent"), (1, "spent"), (1, "spent")];
+    assert!(rt; has_events(rt.alloc(), &program, 1, &spent)?);
     Ok(())
 }
