@@ -1,0 +1,16 @@
+pub mod InstanceLemmas
+pub mod CarrierLemmas
+pub mod BodyLemmas
+pub mod SayingLemmas
+pub mod NumberLemmas
+pub mod DisjointLemmas
+pub mod ClauseLemmas
+pub mod FirmLemmas
+pub mod TestedLemmas
+pub mod FoundedLemmas
+pub mod QueryLemmas
+pub mod RoomLemmas
+pub mod CoverLemmas
+pub mod RefutedLemmas
+pub mod GoodLemmas
+pub mod CheckLemmas

@@ -1,0 +1,71 @@
+//! What holds of the lines of accepted certificates at their instances.
+ghost use Rattle.std.specs.Prelude.{◌≡◌, ℕ, Bool, IsTrue, List, [], Some, map, not, Contains};
+ghost use Rattle.std.specs.List.{list_all, list_any};
+ghost use Rattle.scasp_model.specs.Atoms.{among};
+ghost use Rattle.scasp_model.specs.Grounding.{ground_program, instances};
+ghost use Rattle.scasp_model.specs.Residual.{is_known_false, residual};
+ghost use Rattle.scasp_model.specs.declared.program.GroundClause.{GroundClause as ThisGroundClause};
+ghost use Rattle.scasp_sound.specs.Support.{Founded};
+ghost use Rattle.scasp_cert.specs.Certificate.{Certificate};
+ghost use Rattle.scasp_cert.specs.Trees.{Branch, Tree, test_tree, void};
+ghost use Rattle.scasp_syntax.specs.Programs.{numbered};
+ghost use Rattle.scasp_syntax.specs.declared.clause.Clause.{Clause as ThisClause};
+ghost use Rattle.scasp_lines.specs.Bodies.{Body};
+ghost use Rattle.scasp_lines.specs.Dues.{Due, goal};
+ghost use Rattle.scasp_lines.specs.Said.{false_atoms, is_closed_over, true_atoms};
+ghost use Rattle.scasp_lines.specs.Scopes.{excludes_no_parts};
+ghost use Rattle.scasp_lines.specs.Walk.{Line, of_case, of_node};
+ghost use Rattle.scasp_soundness.specs.Carriers.{Carrier};
+ghost use Rattle.scasp_soundness.specs.Good.{Good, holds_by, query_values};
+ghost use Rattle.scasp_soundness.specs.Premises.{IsAt, Premises};
+ghost use Rattle.scasp_acceptance.specs.Accepted.{AcceptsWhere};
+ghost use Rattle.scasp_acceptance.specs.Normality.{AreRowsNormal};
+ghost use Rattle.scasp_syntax.specs.Constraints.{holds};
+ghost use Rattle.scasp_syntax.specs.Values.{Sub};
+ghost use Rattle.scasp_syntax.specs.declared.atom.Atom.{Atom as ThisAtom};
+ghost use Rattle.scasp_syntax.specs.declared.atom.Lit.{Lit as ThisLit};
+ghost use Rattle.scasp_syntax.specs.declared.con.Con.{Con as ThisCon};
+ghost use Rattle.scasp_syntax.specs.declared.hint.Hint.{Hint as ThisHint};
+ghost use Rattle.scasp_syntax.specs.declared.program.Program.{Program as ThisProgram};
+
+/// The constraint on a line holds at the line's instances, and a case that is void has none.
+pub fn hints_hold()
+    ensures test { (b : Bool) (p : ThisProgram) (c : Certificate) (m : Premises b p c) (l : Line) (v : Sub) → IsAt b p c m l v → (due : Due) (k : ThisCon) (h : ThisHint) → l.part ≡ of_node due (test_tree k h) → IsTrue (excludes_no_parts k) → IsTrue (holds v k) }
+    ensures void { (b : Bool) (p : ThisProgram) (c : Certificate) (m : Premises b p c) (l : Line) (v : Sub) → IsAt b p c m l v → (body : Body) (h : ThisHint) → l.part ≡ of_case body (void h) → ⊥ }
+{}
+
+/// What is due on a line is carried by a line of that literal, which has the same instance: by itself, by one above
+/// that it loops to, or by one that has ended.
+pub fn carrier()
+    ensures { (b : Bool) (p : ThisProgram) (c : Certificate) (m : Premises b p c) (x : Line) (v : Sub) → IsAt b p c m x v → (l : ThisLit) (t : Tree) → x.part ≡ of_node (goal l) t → Carrier b p c m x t l v }
+{}
+
+/// No atom is said to be true and false.
+pub fn apart()
+    ensures { (b : Bool) (p : ThisProgram) (c : Certificate) (m : Premises b p c) (a : ThisAtom) → IsTrue (among (true_atoms p c m.free.of m.domain) a) → IsTrue (not (among (false_atoms p c m.free.of m.domain) a)) }
+{}
+
+/// The query holds under the answer's terms.
+pub fn query()
+    ensures { (b : Bool) (p : ThisProgram) (c : Certificate) (m : Premises b p c) → IsTrue (list_all (holds_by (true_atoms p c m.free.of m.domain) (false_atoms p c m.free.of m.domain) (query_values c m.free.of)) m.accepted.query.body) }
+{}
+
+/// What is said to be true over a closed domain is founded in the program over it.
+pub fn founded()
+    ensures { (b : Bool) (p : ThisProgram) (c : Certificate) (m : Premises b p c) → IsTrue (is_closed_over p c m.free.of m.domain) → (a : ThisAtom) → IsTrue (among (true_atoms p c m.free.of m.domain) a) → Founded (ground_program m.domain p) (false_atoms p c m.free.of m.domain) a }
+{}
+
+/// Each rule for what is said to be false has a literal that is known to be false.
+pub fn refuted()
+    ensures { (b : Bool) (p : ThisProgram) (c : Certificate) (m : Premises b p c) (g : ThisGroundClause) (a : ThisAtom) → Contains (ground_program m.domain p) g → g.head ≡ Some a → IsTrue (among (false_atoms p c m.free.of m.domain) a) → IsTrue (list_any (is_known_false (true_atoms p c m.free.of m.domain) (false_atoms p c m.free.of m.domain)) g.body) }
+{}
+
+/// Nothing is left of the instances of a clause that is checked.
+pub fn covered_clauses_are_gone()
+    ensures { (b : Bool) (p : ThisProgram) (c : Certificate) (m : Premises b p c) (k : ℕ) → Contains (map (λ (x : ℕ × Branch). x.0) c.checks) k → (clause : ThisClause) → numbered p.clauses k ≡ Some clause → residual (true_atoms p c m.free.of m.domain) (false_atoms p c m.free.of m.domain) (instances m.domain clause) ≡ [] }
+{}
+
+/// An accepted certificate with rows in normal form keeps its promise.
+pub fn accepted_is_good()
+    ensures { (b : Bool) (p : ThisProgram) (c : Certificate) → AreRowsNormal p c → AcceptsWhere b p c → Good p c }
+{}

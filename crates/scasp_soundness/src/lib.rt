@@ -1,0 +1,4 @@
+//! Why accepted certificates keep their promise.
+#![tactic(auto)]
+
+pub mod laws;
