@@ -4,6 +4,7 @@
 mod certificate;
 mod copies;
 mod count;
+mod flatness;
 mod lists;
 #[cfg(test)]
 mod tests;
@@ -12,4 +13,5 @@ mod tree;
 pub use certificate::{Cert, Check, Checks, Clash, Clashes};
 pub use copies::{copy_case, copy_node, copy_nodes};
 pub use count::lines;
+pub use flatness::flat;
 pub use tree::{Case, Cover, Covers, Node, Nodes};
