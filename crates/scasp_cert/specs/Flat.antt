@@ -1,5 +1,5 @@
 -- Certificates for which there is a closed domain above every domain.
-use Rattle.std.specs.Prelude.{Bool, true, false, ◌||◌, List, [], ◌++◌, length}
+use Rattle.std.specs.Prelude.{ℕ, Bool, true, false, ◌||◌, List, [], ◌++◌, length}
 use Rattle.std.specs.List.{list_all, flat_map}
 use Rattle.scasp_syntax.specs.Tm.{Tm, var, num, app, items}
 use Rattle.scasp_syntax.specs.WellFormed.{is_below}
@@ -34,9 +34,14 @@ abbrev mutual
   listed_in no_branch = []
   listed_in (branch rule b bs) = listed_at b ++ listed_in bs
 
+-- the term has no variable from n on, or is a variable by itself
+abbrev pub is_flat_term : ℕ → Tm → Bool
+is_flat_term n t = is_below n t || is_variable t
+
+abbrev pub are_flat : ℕ → List Tm → Bool
+are_flat n ts = list_all (is_flat_term n) ts
+
 -- The variables from the length of the sample on are universal. A certificate is flat where each listed term has none of them or
 -- is one by itself.
 abbrev pub is_flat : Certificate → Bool
-is_flat c =
-    list_all (λ t. is_below (length (items c.sample)) t || is_variable t)
-    (listed_below (listed c.trees) ++ flat_map (λ k. listed_at k.1) c.checks)
+is_flat c = are_flat (length (items c.sample)) (listed_below (listed c.trees) ++ flat_map (λ k. listed_at k.1) c.checks)

@@ -4,10 +4,12 @@
 mod certificate;
 mod copies;
 mod count;
+mod flatness;
 mod lists;
 mod tree;
 
 pub use certificate::{Cert, Check, Checks, Clash, Clashes};
 pub use copies::{copy_case, copy_node, copy_nodes};
 pub use count::lines;
+pub use flatness::flat;
 pub use tree::{Case, Cover, Covers, Node, Nodes};

@@ -1,6 +1,7 @@
 -- The instances of what opened, as a list and as a relation, agree.
 use Rattle.std.proofs.Common.{Bool, ◌≡◌, ◌↔◌, ◌∙◌, ℕ, zero, suc, true, false, ◌&&◌, ◌||◌, nat_lt, nat_eq, List, [], ◌∷◌, ◌++◌, length, IsTrue, refl, ap, sym, subst, inl, inr}
 use Rattle.std.specs.List.{Contains, list_all, list_any}
+use Rattle.std.proofs.lemmas.List.Folds.{list_all-append}
 use Rattle.std.proofs.lemmas.Bool.{cond_both, true≢false, and_parts, and_from, or_left, or_right, not-true, cond-true, cond-false, cases_Bool}
 use Rattle.scasp_syntax.specs.declared.con.Con.{Con}
 use Rattle.scasp_syntax.specs.Constraints.{Meets, holds}
@@ -223,21 +224,11 @@ constraints-met d v (ranges x) h = refl
 constraints-met d v (shaped x f k n) h = and_from (same_tm (v x) (app f (all_under v (new_parts k n)))) true h refl
 constraints-met d v (assumed c) h = and_from (holds v c) true h refl
 
-all-append : {X : Type 0} → (p : X → Bool) (xs ys : List X) → list_all p xs ≡ true → list_all p ys ≡ true → list_all p (xs ++ ys) ≡ true
-all-append p [] ys a b = b
-all-append p (x ∷ xs) ys a b = let q = and_parts (p x) (list_all p xs) a in and_from (p x) (list_all p (xs ++ ys)) q.0 (all-append p xs ys q.1 b)
-
 context-met : (d : List Tm) (given : List Con) (os : List Opened) (v : Sub) → list_all (holds v) given ≡ true → list_all (is_met d v) os ≡ true → list_all (holds v) (context given os) ≡ true
 context-met d given [] v g m = g
 context-met d given (o ∷ os) v g m =
     let q = and_parts (is_met d v o) (list_all (is_met d v) os) m in
-    all-append (holds v) (context given os) (constraints_of o) (context-met d given os v g q.1) (constraints-met d v o q.0)
-
-all-parts : {X : Type 0} → (p : X → Bool) (xs ys : List X) → list_all p (xs ++ ys) ≡ true → (list_all p xs ≡ true) × (list_all p ys ≡ true)
-all-parts p [] ys h = (refl, h)
-all-parts p (x ∷ xs) ys h =
-    let q = and_parts (p x) (list_all p (xs ++ ys)) h in
-    let r = all-parts p xs ys q.1 in (and_from (p x) (list_all p xs) q.0 r.0, r.1)
+    list_all-append (holds v) (context given os) (constraints_of o) ∙ and_from (list_all (holds v) (context given os)) (list_all (holds v) (constraints_of o)) (context-met d given os v g q.1) (constraints-met d v o q.0)
 
 in-domain : (d : List Tm) (v : Sub) (os : List Opened) → list_all (is_met d v) os ≡ true → AreInDomain d v os
 in-domain d v os m x i = list_all-member (is_met d v) os (ranges x) m i
@@ -251,7 +242,7 @@ met-context : (d : List Tm) (given : List Con) (os : List Opened) (v : Sub) → 
     → (list_all (holds v) given ≡ true) × (list_all (is_met d v) os ≡ true)
 met-context d given [] v h a = (h, refl)
 met-context d given (o ∷ os) v h a =
-    let p = all-parts (holds v) (context given os) (constraints_of o) h in
+    let p = and_parts (list_all (holds v) (context given os)) (list_all (holds v) (constraints_of o)) (sym (list_all-append (holds v) (context given os) (constraints_of o)) ∙ h) in
     let rest = met-context d given os v p.0 (λ x i. a x (Contains-there o os (ranges x) i)) in
     (rest.0, and_from (is_met d v o) (list_all (is_met d v) os) (opened-met d v o os a p.1) rest.1)
 
