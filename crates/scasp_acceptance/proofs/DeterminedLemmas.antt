@@ -50,9 +50,10 @@ module _ (v m : Sub) where
 
   put-one : (by x : ℕ) (t : Tm) (r row : Linear) → ((y : ℕ) → t ≡ var y → y < by) → IsNormal r → Some row ≡ put_value x t r
       → IsNormal row × ((q : ℕ → Number) → ((y : ℕ) → y < by → q y ≡ point v y) → Holds q row ↔ Holds (with_value q x (number_of (under v t))) r)
-  put-one by x (var y) r row l n e =
-      (join_of-IsNormal r row x y n e,
-      λ q same. subst (λ (z : Number). Holds q row ↔ Holds (with_value q x z) r) (same y (l y refl)) (join_of-holds r row x y n.ascending e q))
+  put-one by x (var y) r row l n e = (
+    join_of-IsNormal r row x y n e,
+    λ q same. subst (λ (z : Number). Holds q row ↔ Holds (with_value q x z) r) (same y (l y refl)) (join_of-holds r row x y n.ascending e q),
+  )
   put-one by x (num z) r row l n e = (put_of-IsNormal r row x z n e, λ q same. put_of-holds r row x z n.ascending e q)
   put-one by x (app f ts) r row l n e = cc
 

@@ -59,12 +59,12 @@ both_values :
     (faults two_values
     (answer
     (refutes g 3
-        (split (con.Eq (Var 0) c)
-        (leaf 3
-            (listed
-            (pos_tree a 1 nil (listed (refutes b 2 (leaf_of (loop_tree (is_true a) 5 ∷ [])) ∷ []))
-            ∷ test (con.Eq c c) ∷ refutes b 2 (leaf_of (seen_tree (is_true a) 5 ∷ [])) ∷ [])))
-        (leaf_of (refutes a 1 (leaf_of (pos_tree b 2 nil (listed (loop_tree (is_not a) 16 ∷ [])) ∷ [])) ∷ []))) ∷ []) []))
+    (split (con.Eq (Var 0) c)
+    (leaf 3
+    (listed
+    (pos_tree a 1 nil (listed (refutes b 2 (leaf_of (loop_tree (is_true a) 5 ∷ [])) ∷ []))
+    ∷ test (con.Eq c c) ∷ refutes b 2 (leaf_of (seen_tree (is_true a) 5 ∷ [])) ∷ [])))
+    (leaf_of (refutes a 1 (leaf_of (pos_tree b 2 nil (listed (loop_tree (is_not a) 16 ∷ [])) ∷ [])) ∷ []))) ∷ []) []))
     ≡ refused_at 5 reason.Clash
 unfolding unifier
 both_values = refl
@@ -82,7 +82,7 @@ other_side :
     (faults unused
     (answer
     (refutes g 1
-        (leaf_of
-        (refutes u 2 (split (con.Num (Var 0)) (leaf_of (neg_tree w (covering []) ∷ [])) (leaf_of (seen_tree (is_not w) 8 ∷ []))) ∷ [])) ∷ []) []))
+    (leaf_of
+    (refutes u 2 (split (con.Num (Var 0)) (leaf_of (neg_tree w (covering []) ∷ [])) (leaf_of (seen_tree (is_not w) 8 ∷ []))) ∷ [])) ∷ []) []))
     ≡ refused_at 10 reason.NotInScope
 other_side = refl

@@ -5,4 +5,5 @@ pub mod Lines
 pub mod States
 pub mod Instances
 pub mod Flat
+pub mod Skeleton
 pub mod Examples

@@ -6,10 +6,12 @@ mod copies;
 mod count;
 mod flatness;
 mod lists;
+mod skeletons;
 mod tree;
 
 pub use certificate::{Cert, Check, Checks, Clash, Clashes};
 pub use copies::{copy_case, copy_node, copy_nodes};
 pub use count::lines;
 pub use flatness::flat;
+pub use skeletons::skeleton;
 pub use tree::{Case, Cover, Covers, Node, Nodes};

@@ -50,11 +50,13 @@ use Rattle.scasp_soundness.proofs.SayingLemmas.{domain-ground}
 rule-found : (n : ℕ) (cs : List Clause) (p : Pred) (c : Clause) → Contains cs c → is_rule_of p c ≡ true → (i : ℕ) × (slice_get cs i ≡ Some c) × Contains (rules_from n cs p) (n + i)
 rule-found n [] p c j r = absurd (Contains-none c j)
 rule-found n (k ∷ cs) p c j r = elim (Contains-cases k cs c j) [
-  | inl e ↦
-      (0, ap (λ (z : Clause). Some z) e,
-      cond_both (is_rule_of p k) (n ∷ rules_from (n + 1) cs p) (rules_from (n + 1) cs p) (λ ns. Contains ns (n + 0))
-      (λ _. (let z : n + 0 ≡ n = omega arith in subst (λ (x : ℕ). Contains (n ∷ rules_from (n + 1) cs p) x) (sym z) (Contains-here n (rules_from (n + 1) cs p))))
-      (λ no. (let yes : is_rule_of p k ≡ true = ap (is_rule_of p) e ∙ r in cc)))
+  | inl e ↦ (
+    0,
+    ap (λ (z : Clause). Some z) e,
+    cond_both (is_rule_of p k) (n ∷ rules_from (n + 1) cs p) (rules_from (n + 1) cs p) (λ ns. Contains ns (n + 0))
+        (λ _. (let z : n + 0 ≡ n = omega arith in subst (λ (x : ℕ). Contains (n ∷ rules_from (n + 1) cs p) x) (sym z) (Contains-here n (rules_from (n + 1) cs p))))
+        (λ no. (let yes : is_rule_of p k ≡ true = ap (is_rule_of p) e ∙ r in cc)),
+  )
   | inr i ↦
       (let q = rule-found (n + 1) cs p c i r in
       let z : (n + 1) + q.0 ≡ n + suc q.0 = omega arith in
