@@ -12,7 +12,6 @@ use Rattle.scasp_syntax.specs.Tm.{Tm, var, nil, cons}
 use Rattle.scasp_syntax.specs.declared.atom.Atom.{Atom}
 use Rattle.scasp_syntax.specs.declared.clause.Item.{Item}
 use Rattle.scasp_syntax.specs.declared.clause.Item.TheVariants.{Call, Linear as LinearItem}
-use Rattle.scasp_syntax.specs.declared.con.Con.{Con}
 use Rattle.scasp_syntax.specs.declared.con.Con.TheVariants as con
 use Rattle.scasp_syntax.specs.declared.hint.Hint.TheVariants as hint
 use Rattle.scasp_syntax.specs.declared.program.Program.{Program}
@@ -64,14 +63,14 @@ ranges_apart =
 abbrev three_cases : ℕ → Linear → Linear → Tree → Branch
 three_cases x true_row false_row literal =
     split (con.NotNum (Var x)) (leaf 1 (listed (test (con.NotNum (Var x)) ∷ [])))
-        (split (con.Row false_row) (leaf 2 (listed (test (con.Num (Var x)) ∷ test (con.Row false_row) ∷ [])))
-        (leaf 3 (listed (test (con.Num (Var x)) ∷ test (con.Row true_row) ∷ literal ∷ []))))
+    (split (con.Row false_row) (leaf 2 (listed (test (con.Num (Var x)) ∷ test (con.Row false_row) ∷ [])))
+    (leaf 3 (listed (test (con.Num (Var x)) ∷ test (con.Row true_row) ∷ literal ∷ []))))
 
 abbrev large_fails : Tree
 large_fails =
     neg_tree (p (var 0))
-        (covering
-        ((1, leaf 2 (listed (test (con.Num (Var 0)) ∷ test_tree (con.Row (not_small 0)) (hint.Rows (step (pos 2) 1 (pos 1) 2 ∷ [])) ∷ []))) ∷ []))
+    (covering
+    ((1, leaf 2 (listed (test (con.Num (Var 0)) ∷ test_tree (con.Row (not_small 0)) (hint.Rows (step (pos 2) 1 (pos 1) 2 ∷ [])) ∷ []))) ∷ []))
 
 abbrev small_holds : Tree
 small_holds = pos_tree (p (var 1)) 1 (cons (var 1) nil) (listed (test (con.Num (Var 1)) ∷ test (con.Row (small 1)) ∷ []))
@@ -84,8 +83,8 @@ with_clashes ks =
       given = [];
       sample = nil;
       trees =
-        neg_tree g (covering ((2, three_cases 0 (large 0) (not_large 0) large_fails) ∷ []))
-            ∷ neg_tree h (covering ((3, three_cases 1 (small 1) (not_small 1) small_holds) ∷ [])) ∷ [];
+          neg_tree g (covering ((2, three_cases 0 (large 0) (not_large 0) large_fails) ∷ []))
+          ∷ neg_tree h (covering ((3, three_cases 1 (small 1) (not_small 1) small_holds) ∷ [])) ∷ [];
       checks = [];
       clashes = ks;
       map = [];

@@ -4,12 +4,10 @@ use Rattle.std.proofs.Common.{refl}
 use Rattle.scasp_syntax.specs.Tm.{Tm, var, nil}
 use Rattle.scasp_syntax.specs.declared.atom.Atom.{Atom}
 use Rattle.scasp_syntax.specs.declared.clause.Item.TheVariants.{Call, Equal}
-use Rattle.scasp_syntax.specs.declared.con.Con.{Con}
 use Rattle.scasp_syntax.specs.declared.con.Con.TheVariants as con
 use Rattle.scasp_syntax.specs.declared.program.Program.{Program}
 use Rattle.scasp_syntax.specs.declared.term.Term.{Term}
 use Rattle.scasp_syntax.specs.declared.term.Term.TheVariants.{Var, App}
-use Rattle.scasp_cert.specs.Certificate.{Certificate}
 use Rattle.scasp_cert.specs.Trees.{Tree, Branch, pos_tree, neg_tree, loop_tree, seen_tree, split, leaf, listed, covering}
 use Rattle.scasp_unify.specs.Unification.{unifier}
 use Rattle.scasp_lines.specs.Samples.{atom, one, constant, is_true, is_not, rule, ask, answer}
@@ -59,12 +57,12 @@ both_values :
     (faults two_values
     (answer
     (refutes g 3
-        (split (con.Eq (Var 0) c)
-        (leaf 3
-            (listed
-            (pos_tree a 1 nil (listed (refutes b 2 (leaf_of (loop_tree (is_true a) 5 ∷ [])) ∷ []))
-            ∷ test (con.Eq c c) ∷ refutes b 2 (leaf_of (seen_tree (is_true a) 5 ∷ [])) ∷ [])))
-        (leaf_of (refutes a 1 (leaf_of (pos_tree b 2 nil (listed (loop_tree (is_not a) 16 ∷ [])) ∷ [])) ∷ []))) ∷ []) []))
+    (split (con.Eq (Var 0) c)
+    (leaf 3
+    (listed
+    (pos_tree a 1 nil (listed (refutes b 2 (leaf_of (loop_tree (is_true a) 5 ∷ [])) ∷ []))
+    ∷ test (con.Eq c c) ∷ refutes b 2 (leaf_of (seen_tree (is_true a) 5 ∷ [])) ∷ [])))
+    (leaf_of (refutes a 1 (leaf_of (pos_tree b 2 nil (listed (loop_tree (is_not a) 16 ∷ [])) ∷ [])) ∷ []))) ∷ []) []))
     ≡ refused_at 5 reason.Clash
 unfolding unifier
 both_values = refl
@@ -82,7 +80,7 @@ other_side :
     (faults unused
     (answer
     (refutes g 1
-        (leaf_of
-        (refutes u 2 (split (con.Num (Var 0)) (leaf_of (neg_tree w (covering []) ∷ [])) (leaf_of (seen_tree (is_not w) 8 ∷ []))) ∷ [])) ∷ []) []))
+    (leaf_of
+    (refutes u 2 (split (con.Num (Var 0)) (leaf_of (neg_tree w (covering []) ∷ [])) (leaf_of (seen_tree (is_not w) 8 ∷ []))) ∷ [])) ∷ []) []))
     ≡ refused_at 10 reason.NotInScope
 other_side = refl
