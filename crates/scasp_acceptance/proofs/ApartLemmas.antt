@@ -1,12 +1,8 @@
 -- Two literals that are shown apart have no atom in common.
-use Rattle.std.proofs.Common.{◌≡◌, ◌∙◌, ℕ, suc, ◌+◌, ◌-◌, ◌<◌, ◌≤◌, max, Bool, true, false, cond, ◌&&◌, not, nat_eq, nat_lt, ℤ, ◌+ℤ◌, ◌*ℤ◌, pos, ◌≢◌, List, [], ◌∷◌, ◌++◌, map, None, refl, ap, sym, subst, inl, inr, ◌⊎◌, arith}
-use Rattle.std.specs.Prelude.{int_lt}
+use Rattle.std.proofs.Common.{◌≡◌, ◌∙◌, ℕ, ◌+◌, ◌-◌, ◌<◌, ◌≤◌, max, true, false, cond, ◌&&◌, not, nat_lt, ℤ, ◌+ℤ◌, ◌*ℤ◌, List, [], ◌∷◌, ◌++◌, map, None, refl, ap, sym, inl, inr, arith}
 use Rattle.std.specs.List.{list_all}
 use Rattle.std.proofs.lemmas.Bool.{and_parts, and_from, cases_Bool, cond-true, cond-false, cond_both, ltb-true, ltb-false}
-use Rattle.std.proofs.lemmas.Bool.Decides.{nat_tests}
-use Rattle.scasp_list.specs.Each.{Each}
-use Rattle.scasp_num.specs.Linear.{Ascends, IsNormal, Linear, common_divisor, compares, integers, is_symmetric, is_zero, leads_below}
-use Rattle.scasp_num.specs.Number.{InRange}
+use Rattle.scasp_num.specs.Linear.{compares}
 use Rattle.scasp_num.specs.declared.linear.Coeff.{Coeff}
 use Rattle.scasp_syntax.specs.Constraints.{holds, has_shape, is_number}
 use Rattle.scasp_syntax.specs.RowTruth.{number_of, point}
@@ -20,24 +16,22 @@ use Rattle.scasp_syntax.specs.declared.hint.Hint.{Hint}
 use Rattle.scasp_syntax.specs.declared.term.Term.{Term}
 use Rattle.scasp_syntax.proofs.SameLemmas.{tm_decided}
 use Rattle.scasp_syntax.proofs.ValueLemmas.{under-under, all_under-all_under}
-use Rattle.scasp_hint.specs.AskedRows.{RowsNormal, given_rows}
+use Rattle.scasp_hint.specs.AskedRows.{RowsNormal}
 use Rattle.scasp_hint.specs.Showing.{fault_of}
 use Rattle.scasp_lines.specs.Contexts.{context}
 use Rattle.scasp_lines.specs.Known.{is_known, are_known, is_con_known}
 use Rattle.scasp_lines.specs.Openings.{equal}
 use Rattle.scasp_unify.specs.SimpleForm.{term_with}
-use Rattle.scasp_lines.proofs.KnownLemmas.{agree-tm, agree-tms, agree-con}
+use Rattle.scasp_lines.proofs.KnownLemmas.{agree-tms, agree-con}
 use Rattle.scasp_unify.proofs.SimpleLemmas.{viewed}
-use Rattle.scasp_acceptance.specs.PairLists.{above, above_all, above_terms, above_con, above_cons, raised_from, raising, term_raised, row_raised, con_raised, equal_args, pair_list}
+use Rattle.scasp_acceptance.specs.PairLists.{above, above_all, above_terms, above_con, above_cons, raised_from, raising, term_raised, con_raised, equal_args, pair_list}
 use Rattle.scasp_acceptance.specs.Told.{Told}
 use Rattle.scasp_acceptance.proofs.HintLemmas.{unmet, all-append}
 use Rattle.scasp_acceptance.proofs.NormalityLemmas.{normal-append}
 use Rattle.scasp_acceptance.proofs.RenamedRows.{renamed-normal}
+use Rattle.scasp_acceptance.proofs.TestLemmas.{lt-is}
 
 -- ---- what is below a number that is above it
-
-lt-is : (m n : ℕ) → m < n → nat_lt m n ≡ true
-lt-is m n e = grind (arith, nat_tests)
 
 mutual
   above-known : (t : Tm) (m : ℕ) → above t ≤ m → is_known (λ x. nat_lt x m) t ≡ true

@@ -1,8 +1,8 @@
 -- A case and a check have no fault exactly where they are accepted.
-use Rattle.std.proofs.Common.{◌≡◌, ℕ, ◌+◌, ◌<◌, ◌≤◌, true, nat_lt, nat_le, [], Option, Some, None, length, refl, arith}
+use Rattle.std.proofs.Common.{◌≡◌, ℕ, ◌+◌, true, nat_lt, nat_le, [], Option, Some, None, length, refl}
 use Rattle.std.specs.List.{list_all}
 use Rattle.std.proofs.lemmas.Bool.{and_parts, and_from}
-use Rattle.std.proofs.lemmas.Bool.Decides.{nat_tests, Decides-eqb}
+use Rattle.std.proofs.lemmas.Bool.Decides.{Decides-eqb}
 use Rattle.scasp_syntax.specs.Programs.{numbered}
 use Rattle.scasp_syntax.specs.declared.atom.Atom.{Atom}
 use Rattle.scasp_syntax.specs.declared.con.Con.{Con}
@@ -17,19 +17,7 @@ use Rattle.scasp_acceptance.specs.LineFaults.{split_faults, case_faults, check_f
 use Rattle.scasp_acceptance.specs.Refusals.{of_some}
 use Rattle.scasp_acceptance.specs.Wholes.{Whole, checked_before}
 use Rattle.scasp_acceptance.proofs.NodeLemmas.{node-holds, node-none}
-use Rattle.scasp_acceptance.proofs.TestLemmas.{wants-holds, wants-none, both_none, none_both, fault-none, none-fault, of_some-parts, of_some-from}
-
-lt-from : (m n : ℕ) → nat_lt m n ≡ true → m < n
-lt-from m n e = grind (arith, nat_tests)
-
-lt-is : (m n : ℕ) → m < n → nat_lt m n ≡ true
-lt-is m n e = grind (arith, nat_tests)
-
-le-from : (m n : ℕ) → nat_le m n ≡ true → m ≤ n
-le-from m n e = grind (arith, nat_tests)
-
-le-is : (m n : ℕ) → m ≤ n → nat_le m n ≡ true
-le-is m n e = grind (arith, nat_tests)
+use Rattle.scasp_acceptance.proofs.TestLemmas.{le-from, le-is, lt-from, lt-is, wants-holds, wants-none, both_none, none_both, fault-none, none-fault, of_some-parts, of_some-from}
 
 split-holds : (w : Whole) (at : ℕ) (here : Place) (c : Con) (o : Option Shape) → split_faults w at here c o ≡ [] → Splits w here c o
 split-holds w at here c None e = let p = both_none _ _ e in (wants-holds at _ _ p.0, wants-holds at _ _ p.1)

@@ -1,11 +1,9 @@
 -- The constraint that a clause's constraint determines holds exactly where the clause's does.
-use Rattle.std.proofs.Common.{◌≡◌, ◌∙◌, ◌↔◌, ℕ, zero, suc, ◌+◌, ◌<◌, ◌≤◌, ◌==◌, max, Bool, true, false, not, cond, IsTrue, ℤ, ◌+ℤ◌, ◌*ℤ◌, List, [], ◌∷◌, map, Option, Some, None, refl, ap, sym, subst, inl, inr, arith}
-use Rattle.std.specs.Prelude.{if◌then◌else◌}
-use Rattle.std.proofs.lemmas.Bool.{eqb-true, cases_Bool, cond-true, cond-false, cond_both}
+use Rattle.std.proofs.Common.{◌≡◌, ◌∙◌, ◌↔◌, ℕ, ◌+◌, ◌<◌, ◌≤◌, ◌==◌, Bool, true, false, not, ℤ, ◌+ℤ◌, ◌*ℤ◌, List, [], ◌∷◌, map, Option, Some, None, refl, ap, sym, subst, inl, inr, arith}
+use Rattle.std.proofs.lemmas.Bool.{eqb-true, cases_Bool, cond-true, cond-false}
 use Rattle.std.proofs.lemmas.Bool.Decides.{Decides-eqb}
 use Rattle.scasp_list.specs.Each.{Each}
-use Rattle.scasp_num.specs.Arithmetic.{◌>>=◌}
-use Rattle.scasp_num.specs.Linear.{Linear, IsNormal, Compares, put_of, join_of}
+use Rattle.scasp_num.specs.Linear.{Linear, IsNormal, Compares}
 use Rattle.scasp_num.specs.Number.{Number}
 use Rattle.scasp_num.specs.Values.{Holds, row_sum, with_value}
 use Rattle.scasp_num.specs.declared.linear.Coeff.{Coeff}
@@ -15,7 +13,7 @@ use Rattle.scasp_num.proofs.Valuations.{put_of-holds, join_of-holds}
 use Rattle.scasp_syntax.specs.Constraints.{holds, has_shape, is_number}
 use Rattle.scasp_syntax.specs.RowTruth.{row_holds}
 use Rattle.scasp_syntax.specs.Same.{same_tm}
-use Rattle.scasp_syntax.specs.Tm.{Tm, Tms, var, num, app, nil, cons}
+use Rattle.scasp_syntax.specs.Tm.{Tm, var, num, app, nil, cons}
 use Rattle.scasp_syntax.specs.Values.{Sub, under}
 use Rattle.scasp_syntax.specs.View.{tm_of}
 use Rattle.scasp_syntax.specs.declared.con.Con.{Con}

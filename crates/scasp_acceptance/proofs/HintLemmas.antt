@@ -1,10 +1,10 @@
 -- What a hint shows of a line, at the line's instances.
-use Rattle.std.proofs.Common.{◌≡◌, ◌∙◌, ℕ, Bool, true, false, not, List, [], ◌∷◌, ◌++◌, None, refl, ap, sym, subst, inl, inr, ◌⊎◌}
+use Rattle.std.proofs.Common.{◌≡◌, ◌∙◌, ℕ, Bool, true, not, List, [], ◌∷◌, ◌++◌, None, refl, ap, inl, inr}
 use Rattle.std.specs.List.{list_all}
 use Rattle.std.proofs.lemmas.Bool.{and_parts, and_from, cases_Bool}
-use Rattle.scasp_syntax.specs.Constraints.{holds, Meets, Sat}
+use Rattle.scasp_syntax.specs.Constraints.{holds}
 use Rattle.scasp_syntax.specs.Tm.{Tm}
-use Rattle.scasp_syntax.specs.Values.{Sub, Valuation, is_ground}
+use Rattle.scasp_syntax.specs.Values.{Sub, is_ground}
 use Rattle.scasp_syntax.specs.declared.con.Con.{Con}
 use Rattle.scasp_syntax.specs.declared.hint.Hint.{Hint}
 use Rattle.scasp_hint.specs.AskedRows.{RowsNormal}

@@ -1,5 +1,5 @@
 -- Members of lists.
-use Rattle.std.proofs.Common.{◌≡◌, ℕ, zero, suc, List, [], ◌∷◌, Option, Some, None, slice_get, subst, inl, inr}
+use Rattle.std.proofs.Common.{◌≡◌, ℕ, zero, suc, List, [], ◌∷◌, Some, slice_get, subst, inl, inr}
 use Rattle.std.specs.List.{Contains}
 use Rattle.scasp_list.specs.Each.{Each}
 use Rattle.scasp_syntax.specs.Programs.{numbered}

@@ -1,8 +1,8 @@
 -- A node has no fault exactly where it is accepted.
-use Rattle.std.proofs.Common.{◌≡◌, ℕ, suc, ◌+◌, ◌≤◌, Bool, true, false, ◌&&◌, ◌||◌, not, nat_eq, nat_le, [], Option, Some, None, length, refl, ap, sym, subst, ◌∙◌, arith}
+use Rattle.std.proofs.Common.{◌≡◌, ℕ, suc, ◌+◌, Bool, true, false, ◌&&◌, ◌||◌, not, nat_eq, nat_le, [], Option, Some, None, length, refl, ap, sym, subst, ◌∙◌}
 use Rattle.std.specs.List.{list_all}
 use Rattle.std.proofs.lemmas.Bool.{and_parts, and_from, not-true}
-use Rattle.std.proofs.lemmas.Bool.Decides.{nat_tests, Decides-eqb}
+use Rattle.std.proofs.lemmas.Bool.Decides.{Decides-eqb}
 use Rattle.scasp_syntax.specs.Flat.{flat_body}
 use Rattle.scasp_syntax.specs.Instances.{atom_under, head_under}
 use Rattle.scasp_syntax.specs.Programs.{numbered, pred_of, is_rule_of}
@@ -28,7 +28,7 @@ use Rattle.scasp_acceptance.specs.LineFaults.{is_kind, is_instance, items_of, li
 use Rattle.scasp_acceptance.specs.Refusals.{of_some}
 use Rattle.scasp_acceptance.specs.Targets.{is_tree_of, is_around, is_shown_by, is_target}
 use Rattle.scasp_acceptance.specs.Wholes.{Whole, scope}
-use Rattle.scasp_acceptance.proofs.TestLemmas.{wants-holds, wants-none, both_none, none_both, fault-none, none-fault, of_some-parts, of_some-from, bool_decided, numbers_decided, due_decided, fact_decided}
+use Rattle.scasp_acceptance.proofs.TestLemmas.{le-from, le-is, wants-holds, wants-none, both_none, none_both, fault-none, none-fault, of_some-parts, of_some-from, bool_decided, numbers_decided, due_decided, fact_decided}
 
 -- ---- rules
 
@@ -123,12 +123,6 @@ of-tree lit (neg_tree a covers) h = and_from _ _ (not-false lit.positive h.0) ((
 of-tree lit (loop_tree l to) h = elim h [ ]
 of-tree lit (seen_tree l to) h = elim h [ ]
 of-tree lit (test_tree c hint) h = elim h [ ]
-
-le-from : (m n : ℕ) → nat_le m n ≡ true → m ≤ n
-le-from m n e = grind (arith, nat_tests)
-
-le-is : (m n : ℕ) → m ≤ n → nat_le m n ≡ true
-le-is m n e = grind (arith, nat_tests)
 
 module _ (w : Whole) (at : ℕ) (here : Place) (lit : Lit) (to : ℕ) where
   shown-by : (allowed : lit.positive ≡ true → w.positives ≡ true) (l : Line) → numbered w.lines to ≡ Some l → (part : Part) → l.part ≡ part

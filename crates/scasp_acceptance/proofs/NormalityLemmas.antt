@@ -1,9 +1,9 @@
 -- The rows of each line's context are in normal form.
-use Rattle.std.proofs.Common.{◌≡◌, ◌∙◌, ℕ, zero, suc, ◌+◌, Bool, true, false, ◌&&◌, not, nat_eq, List, [], ◌∷◌, ◌++◌, append_assoc, length, Option, Some, None, refl, ap, sym, subst}
+use Rattle.std.proofs.Common.{◌≡◌, ℕ, zero, suc, Bool, ◌&&◌, nat_eq, List, [], ◌∷◌, ◌++◌, length, Option, Some, None, refl, ap, sym, subst}
 use Rattle.std.specs.List.{Contains}
 use Rattle.std.proofs.lemmas.Bool.{cond_both}
 use Rattle.scasp_list.specs.Each.{Each}
-use Rattle.scasp_list.proofs.EachLemmas.{Each-append, Each-left, Each-right}
+use Rattle.scasp_list.proofs.EachLemmas.{Each-append}
 use Rattle.scasp_num.specs.Linear.{IsNormal, Linear}
 use Rattle.scasp_num.proofs.NormalForms.{negation-IsNormal}
 use Rattle.scasp_syntax.specs.Programs.{numbered}
@@ -15,9 +15,8 @@ use Rattle.scasp_syntax.specs.declared.con.Con.{Con}
 use Rattle.scasp_syntax.specs.declared.con.Con.TheVariants as con
 use Rattle.scasp_syntax.specs.declared.program.Program.{Program}
 use Rattle.scasp_cert.specs.Certificate.{Certificate}
-use Rattle.scasp_cert.specs.Trees.{Tree, Trees, Branch, Branches, pos_tree, neg_tree, split, leaf, head}
 use Rattle.scasp_hint.specs.AskedRows.{RowsNormal, given_rows}
-use Rattle.scasp_lines.specs.Bodies.{Body, inside_rule, inside_check, open_head}
+use Rattle.scasp_lines.specs.Bodies.{inside_rule, inside_check, open_head}
 use Rattle.scasp_lines.specs.Contexts.{constraints_of, context}
 use Rattle.scasp_lines.specs.Covers.{Cover, with_universal, with_universals, cover_from}
 use Rattle.scasp_lines.specs.Lines.{lines, setting}
@@ -25,7 +24,7 @@ use Rattle.scasp_unify.specs.Negations.{new_parts, negated}
 use Rattle.scasp_lines.specs.Opened.{Opened}
 use Rattle.scasp_lines.specs.Openings.{Opening, bound_to, with_shape, with_clash, open_variable, open_term, open_terms, unopened}
 use Rattle.scasp_lines.specs.Places.{Place, is_universal}
-use Rattle.scasp_lines.specs.Sides.{Shape, shape_of, sides_by, sides}
+use Rattle.scasp_lines.specs.Sides.{Shape, shape_of, sides_by}
 use Rattle.scasp_lines.specs.Walk.{Part, of_node, of_rule, of_check, of_case, Line, Setting}
 use Rattle.scasp_lines.proofs.EverywhereLemmas.{everywhere}
 use Rattle.scasp_lines.proofs.Passages.{Claim, HoldsFor, Passes}

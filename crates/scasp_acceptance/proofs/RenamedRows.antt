@@ -1,5 +1,5 @@
 -- A row whose variables are renamed in their order stays in normal form.
-use Rattle.std.proofs.Common.{◌≡◌, ◌≢◌, ◌∙◌, ℕ, ◌<◌, ◌≤◌, Bool, ◌&&◌, cond, ℤ, pos, List, [], ◌∷◌, map, refl, ap, sym, subst}
+use Rattle.std.proofs.Common.{◌≡◌, ◌≢◌, ◌∙◌, ℕ, ◌<◌, ◌≤◌, ◌&&◌, cond, ℤ, pos, List, [], ◌∷◌, map, refl, ap, sym, subst}
 use Rattle.std.specs.Prelude.{int_lt}
 use Rattle.scasp_list.specs.Each.{Each}
 use Rattle.scasp_num.specs.Linear.{Ascends, IsNormal, Linear, common_divisor, is_symmetric, is_zero, leads_below}

@@ -1,9 +1,9 @@
 -- Tests decide what they stand for, and a test that fails is a refusal.
-use Rattle.std.proofs.Common.{◌≡◌, ℕ, Bool, true, false, ◌&&◌, nat_eq, List, [], ◌∷◌, ◌++◌, Option, Some, None, refl, ap, sym, subst}
+use Rattle.std.proofs.Common.{◌≡◌, ℕ, ◌<◌, ◌≤◌, arith, nat_lt, nat_le, Bool, true, false, ◌&&◌, nat_eq, List, [], ◌∷◌, ◌++◌, Option, Some, None, refl, ap, sym, subst}
 use Rattle.std.specs.Bool.{Decides}
 use Rattle.std.specs.List.{flat_map}
 use Rattle.std.proofs.lemmas.Bool.{and_parts, and_from}
-use Rattle.std.proofs.lemmas.Bool.Decides.{Decides-eqb}
+use Rattle.std.proofs.lemmas.Bool.Decides.{nat_tests, Decides-eqb}
 use Rattle.scasp_list.specs.Each.{Each}
 use Rattle.scasp_num.proofs.SameRows.{row-decided}
 use Rattle.scasp_hint.specs.declared.fault.HintFault.{HintFault}
@@ -21,6 +21,20 @@ use Rattle.scasp_acceptance.specs.Refusals.{wants, of_some, fault_at}
 use Rattle.scasp_acceptance.specs.SameConstraint.{same_con, same_term}
 use Rattle.scasp_acceptance.specs.declared.refusal.Refusal.{Refusal}
 use Rattle.scasp_acceptance.specs.declared.refusal.Reason.{Reason}
+
+-- ---- numbers
+
+pub lt-from : (m n : ℕ) → nat_lt m n ≡ true → m < n
+lt-from m n e = grind (arith, nat_tests)
+
+pub lt-is : (m n : ℕ) → m < n → nat_lt m n ≡ true
+lt-is m n e = grind (arith, nat_tests)
+
+pub le-from : (m n : ℕ) → nat_le m n ≡ true → m ≤ n
+le-from m n e = grind (arith, nat_tests)
+
+pub le-is : (m n : ℕ) → m ≤ n → nat_le m n ≡ true
+le-is m n e = grind (arith, nat_tests)
 
 -- ---- refusals
 

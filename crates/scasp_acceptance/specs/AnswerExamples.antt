@@ -1,5 +1,5 @@
 -- Worked cases of answers with free variables. p(X,Y) :- X #< Y. ?- p(X,Y).
-use Rattle.std.specs.Prelude.{◌≡◌, true, ℤ, pos, negsuc, List, [], ◌∷◌, None}
+use Rattle.std.specs.Prelude.{◌≡◌, true, pos, negsuc, [], ◌∷◌, None}
 use Rattle.std.proofs.Common.{refl}
 use Rattle.scasp_num.specs.Arithmetic.{is_reduced, IsReduced-from_test, lowest, sum_of, product_of}
 use Rattle.scasp_num.specs.Gcd.{gcd, gcd_within}
@@ -10,7 +10,6 @@ use Rattle.scasp_num.specs.declared.linear.Op.TheVariants as op
 use Rattle.scasp_rows.specs.Steps.{row_sum}
 use Rattle.scasp_syntax.specs.Tm.{Tms, var, num, nil, cons}
 use Rattle.scasp_syntax.specs.declared.clause.Item.TheVariants.{Call, Linear as LinearItem}
-use Rattle.scasp_syntax.specs.declared.con.Con.{Con}
 use Rattle.scasp_syntax.specs.declared.con.Con.TheVariants as con
 use Rattle.scasp_syntax.specs.declared.program.Program.{Program}
 use Rattle.scasp_syntax.specs.declared.term.Term.TheVariants.{Var}

@@ -12,7 +12,6 @@ use Rattle.scasp_syntax.specs.Tm.{Tm, var, nil, cons}
 use Rattle.scasp_syntax.specs.declared.atom.Atom.{Atom}
 use Rattle.scasp_syntax.specs.declared.clause.Item.{Item}
 use Rattle.scasp_syntax.specs.declared.clause.Item.TheVariants.{Call, Linear as LinearItem}
-use Rattle.scasp_syntax.specs.declared.con.Con.{Con}
 use Rattle.scasp_syntax.specs.declared.con.Con.TheVariants as con
 use Rattle.scasp_syntax.specs.declared.hint.Hint.TheVariants as hint
 use Rattle.scasp_syntax.specs.declared.program.Program.{Program}

@@ -1,4 +1,3 @@
-use Rattle.std.proofs.Common.{◌≡◌, ℕ, nat_lt, true}
 use Rattle.std.proofs.lemmas.Bool.{ltb-true}
 use Rattle.scasp_acceptance.proofs.ApartLemmas.{shown-apart}
 use Rattle.scasp_acceptance.proofs.laws.apart.Goals as goal
