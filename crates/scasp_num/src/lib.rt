@@ -11,8 +11,6 @@ mod normal;
 pub mod rational;
 mod substitution;
 mod sums;
-#[cfg(test)]
-mod tests;
 
 pub use hints::{Step, StepLists, Steps};
 pub use linear::{Coeff, Coeffs, Op, RatPair, RatPairs, Row, RowErr, Rows};

@@ -1,5 +1,5 @@
 -- The rows that a sample keeps: of each variable, those that have it when it is eliminated.
-use Rattle.std.specs.Prelude.{ℕ, not, filter, List, [], ◌∷◌, Result, Ok, Err}
+use Rattle.std.specs.Prelude.{ℕ, not, filter, List, [], ◌∷◌, Result, Ok}
 use Rattle.scasp_num.specs.declared.linear.RatPair.{RatPair}
 use Rattle.scasp_num.specs.Linear.{is_zero}
 use Rattle.scasp_rows.specs.declared.backward.Aside.{Aside}

@@ -13,8 +13,6 @@ mod rows;
 mod samples;
 mod state;
 mod steps;
-#[cfg(test)]
-mod tests;
 mod verdict;
 
 pub use samples::{Point, RowLists, are_disequations, sample};

@@ -1,4 +1,4 @@
-use Rattle.std.proofs.Common.{◌≡◌, [], ◌∷◌, Result, Err, List, sym, ap, subst, ◌∙◌}
+use Rattle.std.proofs.Common.{◌≡◌, [], Result, Err, List, sym, ap, subst, ◌∙◌}
 use Rattle.scasp_num.specs.declared.linear.RatPair.{RatPair}
 use Rattle.scasp_rows.specs.declared.backward.Aside.{Aside}
 use Rattle.scasp_rows.specs.declared.state.Halt.{Halt}

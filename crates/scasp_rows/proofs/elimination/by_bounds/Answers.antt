@@ -1,5 +1,4 @@
-use Rattle.std.proofs.Common.{◌≡◌, List, Result, Err, sym, subst, ◌∙◌}
-use Rattle.scasp_rows.specs.declared.outlook.Outlook.TheVariants as outlook
+use Rattle.std.proofs.Common.{◌≡◌, Result, Err, sym, subst, ◌∙◌}
 use Rattle.scasp_rows.specs.declared.state.Sign.TheVariants as sign
 use Rattle.scasp_rows.specs.declared.state.Halt.{Halt}
 use Rattle.scasp_rows.specs.declared.state.State.{State}

@@ -1,4 +1,3 @@
-use Rattle.std.proofs.Common.{[]}
 use Rattle.scasp_rows.proofs.Pairing.{false-ends}
 use Rattle.scasp_rows.proofs.elimination.falsified.Goals as goal
 

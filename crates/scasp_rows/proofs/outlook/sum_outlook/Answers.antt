@@ -1,4 +1,4 @@
-use Rattle.std.proofs.Common.{◌≡◌, false, true, Some, sym, ◌∙◌}
+use Rattle.std.proofs.Common.{sym, ◌∙◌}
 use Rattle.std.proofs.lemmas.Int.{to_z-of_z}
 use Rattle.scasp_rows.specs.Steps.{row_sum}
 use Rattle.scasp_rows.proofs.Pairing.{outlook-none, outlook-open}

@@ -1,4 +1,4 @@
-use Rattle.std.proofs.Common.{◌≡◌, false, true, is_some, refl, sym, ◌∙◌}
+use Rattle.std.proofs.Common.{false, true, is_some, refl, sym, ◌∙◌}
 use Rattle.std.specs.List.{list_all}
 use Rattle.std.proofs.lemmas.Int.{to_z-of_z}
 use Rattle.scasp_num.specs.Arithmetic.{in_range}

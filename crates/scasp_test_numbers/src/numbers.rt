@@ -1,6 +1,6 @@
 //! Rows whose expected values were computed with Python's `fractions`.
-use crate::rational::{Overflow, Rat, gcd};
-use crate::{Op, RatPair, RatPairs, Row, RowErr, Rows, Step, StepLists, Steps};
+use scasp_num::rational::gcd;
+use scasp_num::{Op, Overflow, Rat, RatPair, RatPairs, Row, RowErr, Rows, Step, StepLists, Steps};
 use std::alloc::Global;
 use std::cmp::Ordering;
 use std::test::Fail;

@@ -1,9 +1,9 @@
 //! Calls whose expected values were computed with Python's whole numbers and `fractions`.
-use crate::{
+use scasp_num::{Op, Rat, RatPair, RatPairs, Row, Rows, Steps};
+use scasp_rows::{
     LinErr, Point, RowLists, StepErr, Verdict, are_disequations, eliminate,
     is_free_of_disequations, sample, step,
 };
-use scasp_num::{Op, Rat, RatPair, RatPairs, Row, Rows, Steps};
 use std::alloc::Global;
 use std::test::Fail;
 

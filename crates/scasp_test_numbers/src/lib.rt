@@ -1,0 +1,7 @@
+//! Tests of rational numbers, rows, eliminations and samples.
+#![tactic(auto)]
+
+#[cfg(test)]
+mod numbers;
+#[cfg(test)]
+mod rows;
