@@ -1,10 +1,9 @@
 -- Bodies and flat bodies: the tests of the one hold exactly where those of the other do, and their literals are the same.
-use Rattle.std.proofs.Common.{◌≡◌, ◌∙◌, ℕ, Bool, true, false, ◌&&◌, not, nat_eq, cond, List, [], ◌∷◌, ◌++◌, map, filter, refl, ap, sym, subst, inl, inr, ◌⊎◌}
+use Rattle.std.proofs.Common.{◌≡◌, ◌∙◌, ℕ, Bool, true, not, nat_eq, List, [], ◌∷◌, ◌++◌, map, filter, refl, ap, sym, subst, inl, inr, ◌⊎◌}
 use Rattle.std.specs.List.{Contains, list_all, list_any, flat_map}
-use Rattle.std.proofs.lemmas.Bool.{and_parts, and_from, cases_Bool, or_cases, cond-true, cond-false}
+use Rattle.std.proofs.lemmas.Bool.{and_parts, and_from, cases_Bool}
 use Rattle.std.proofs.lemmas.Bool.Decides.{Decides-eqb}
 use Rattle.std.proofs.lemmas.List.Elements.{Contains-append_left, Contains-append_right, Contains-append_cases}
-use Rattle.std.proofs.lemmas.List.Folds.{list_all-append}
 use Rattle.scasp_syntax.specs.Constraints.{holds, is_number}
 use Rattle.scasp_syntax.specs.Flat.{flat_after, number_test, unseen}
 use Rattle.scasp_syntax.specs.Instances.{atom_under}

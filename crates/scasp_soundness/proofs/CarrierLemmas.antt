@@ -1,25 +1,23 @@
 -- What is due on a line is carried by a line of the literal, which has the same instance.
-use Rattle.std.proofs.Common.{◌≡◌, ◌∙◌, ◌⊎◌, ℕ, suc, ◌+◌, ◌<◌, ◌≤◌, Bool, true, false, ◌||◌, not, nat_eq, cond, List, [], ◌∷◌, ◌++◌, append-nil, Option, Some, None, refl, ap, sym, subst, inl, inr, arith}
+use Rattle.std.proofs.Common.{◌≡◌, ◌∙◌, ◌⊎◌, ℕ, suc, ◌<◌, ◌≤◌, Bool, true, false, ◌||◌, not, nat_eq, List, [], ◌∷◌, ◌++◌, append-nil, Some, refl, ap, sym, subst, inl, inr, arith}
 use Rattle.std.specs.List.{Contains, list_all, list_any}
 use Rattle.std.proofs.lemmas.Bool.{and_parts, cases_Bool, or_cases, cond-true, cond-false}
 use Rattle.std.proofs.lemmas.Bool.Decides.{Decides-eqb}
 use Rattle.scasp_syntax.specs.Instances.{atom_under}
 use Rattle.scasp_syntax.specs.Programs.{numbered}
-use Rattle.scasp_syntax.specs.Values.{Sub, under, all_under}
-use Rattle.scasp_syntax.specs.Tm.{Tm, Tms}
+use Rattle.scasp_syntax.specs.Values.{Sub, under}
+use Rattle.scasp_syntax.specs.Tm.{Tms}
 use Rattle.scasp_syntax.specs.declared.atom.Atom.{Atom}
 use Rattle.scasp_syntax.specs.declared.atom.Lit.{Lit}
-use Rattle.scasp_syntax.specs.declared.con.Con.{Con}
 use Rattle.scasp_syntax.specs.declared.program.Program.{Program}
 use Rattle.scasp_syntax.proofs.ValueLemmas.{all_under-all_under}
 use Rattle.scasp_cert.specs.Certificate.{Certificate}
-use Rattle.scasp_cert.specs.Lines.{lines_of}
 use Rattle.scasp_cert.specs.Trees.{Tree, pos_tree, neg_tree, loop_tree, seen_tree, test_tree}
 use Rattle.scasp_lines.specs.Dues.{Due, goal, fact, nothing}
 use Rattle.scasp_lines.specs.Lines.{lines}
 use Rattle.scasp_lines.specs.Opened.{Opened}
 use Rattle.scasp_lines.specs.Places.{Above, Around}
-use Rattle.scasp_lines.specs.Surroundings.{Extends, IsReplaced, IsNodeOf, IsLiteral, IsCase, IsAbove, AreAbove, IsAround, AreAround, OpenedAt, IfPlain, OpensInnermost}
+use Rattle.scasp_lines.specs.Surroundings.{Extends, IsNodeOf, IsLiteral, IsAbove, AreAbove, IsAround, AreAround, OpenedAt, IfPlain, OpensInnermost}
 use Rattle.scasp_lines.specs.Walk.{Part, of_node, of_rule, of_check, of_case, Line}
 use Rattle.scasp_lines.proofs.WalkLemmas.{line-found}
 use Rattle.scasp_acceptance.proofs.ApartLemmas.{all-alike}
@@ -28,8 +26,7 @@ use Rattle.scasp_acceptance.specs.Ancestors.{entry_at, is_negated_before}
 use Rattle.scasp_acceptance.specs.Firm.{is_firm}
 use Rattle.scasp_acceptance.specs.Targets.{is_around}
 use Rattle.scasp_acceptance.specs.Wholes.{whole_of}
-use Rattle.scasp_list.proofs.MemberLemmas.{list_any-member}
-use Rattle.scasp_soundness.specs.Carriers.{negations, How, itself, looped, seen, Carrier}
+use Rattle.scasp_soundness.specs.Carriers.{negations, itself, looped, seen, Carrier}
 use Rattle.scasp_soundness.specs.Premises.{Premises, IsAt}
 use Rattle.scasp_soundness.proofs.InstanceLemmas.{part-holds, node-surrounded, replaced, at-before}
 use Rattle.scasp_acceptance.proofs.ListLemmas.{numbered-contains}

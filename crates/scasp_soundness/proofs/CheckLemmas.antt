@@ -1,6 +1,6 @@
 -- Nothing is left of a clause that is checked.
-use Rattle.std.proofs.Common.{◌≡◌, ◌∙◌, ℕ, suc, ◌+◌, ◌<◌, ◌≤◌, Bool, true, false, ◌||◌, cond, List, [], ◌∷◌, ◌++◌, length, map, Option, Some, None, refl, ap, sym, subst, inl, inr, arith}
-use Rattle.std.specs.List.{Contains, list_all, list_any, flat_map, filter}
+use Rattle.std.proofs.Common.{◌≡◌, ◌∙◌, ℕ, suc, ◌+◌, ◌<◌, ◌≤◌, Bool, true, ◌||◌, List, [], ◌∷◌, ◌++◌, map, Option, Some, refl, ap, sym, subst, inl, inr, arith}
+use Rattle.std.specs.List.{Contains, list_all, list_any, filter}
 use Rattle.std.proofs.lemmas.Bool.{and_parts, cond-true, or_left, or_right}
 use Rattle.std.proofs.lemmas.List.Elements.{Contains-append_left, Contains-append_right}
 use Rattle.scasp_list.proofs.MemberLemmas.{Contains-none, Contains-here, Contains-there, Contains-cases, Contains-from_map, Contains-from_filter, list_any-from}
@@ -9,11 +9,10 @@ use Rattle.scasp_syntax.specs.Flat.{flat_body}
 use Rattle.scasp_syntax.specs.Instances.{atom_under, head_under}
 use Rattle.scasp_syntax.specs.Programs.{numbered}
 use Rattle.scasp_syntax.specs.Same.{same_tm}
-use Rattle.scasp_syntax.specs.Tm.{Tm, nil}
+use Rattle.scasp_syntax.specs.Tm.{nil}
 use Rattle.scasp_syntax.specs.Values.{Sub, giving, under}
-use Rattle.scasp_syntax.specs.WellFormed.{is_head_below, is_clause_well_formed}
+use Rattle.scasp_syntax.specs.WellFormed.{is_head_below}
 use Rattle.scasp_syntax.specs.declared.atom.Atom.{Atom}
-use Rattle.scasp_syntax.specs.declared.atom.Lit.{Lit}
 use Rattle.scasp_syntax.specs.declared.clause.Clause.{Clause}
 use Rattle.scasp_syntax.specs.declared.clause.FlatItem.TheVariants as flat
 use Rattle.scasp_syntax.specs.declared.con.Con.{Con}
@@ -28,9 +27,9 @@ use Rattle.scasp_cert.specs.Trees.{Branch, Trees, split, void, leaf, head, liste
 use Rattle.scasp_lines.specs.Bodies.{Body, Inside, inside, inside_check}
 use Rattle.scasp_lines.specs.Covers.{covering}
 use Rattle.scasp_lines.specs.Descent.{is_end}
-use Rattle.scasp_lines.specs.Dues.{query_dues, values_here}
+use Rattle.scasp_lines.specs.Dues.{values_here}
 use Rattle.scasp_lines.specs.Lines.{free_of, lines, setting, query_walk}
-use Rattle.scasp_lines.specs.Opened.{Opened, IsInstance, is_met, knows}
+use Rattle.scasp_lines.specs.Opened.{Opened, IsInstance, is_met}
 use Rattle.scasp_lines.specs.OpeningLaws.{OpeningFits, OpeningSays}
 use Rattle.scasp_lines.specs.Openings.{unopened}
 use Rattle.scasp_lines.specs.Places.{Place, start}
@@ -46,7 +45,7 @@ use Rattle.scasp_acceptance.proofs.ListLemmas.{numbered-contains}
 use Rattle.scasp_soundness.specs.Premises.{Premises, IsAt}
 use Rattle.scasp_soundness.proofs.BodyLemmas.{lit_under, call-from_flat, flat-holds, literal-in}
 use Rattle.scasp_soundness.proofs.ClauseLemmas.{atom-same}
-use Rattle.scasp_soundness.proofs.CoverLemmas.{Chosen, choices-from, Reached, down, free-known, lines-scoped}
+use Rattle.scasp_soundness.proofs.CoverLemmas.{choices-from, Reached, down, free-known, lines-scoped}
 use Rattle.scasp_soundness.proofs.FoundedLemmas.{atom-under-atom}
 use Rattle.scasp_soundness.proofs.InstanceLemmas.{part-holds, void-never}
 use Rattle.scasp_soundness.proofs.RefutedLemmas.{agree, leaf-false, well}

@@ -1,16 +1,15 @@
 -- The instances of a clause depend on the values of its own variables alone.
-use Rattle.std.proofs.Common.{◌≡◌, ◌∙◌, ℕ, zero, suc, ◌<◌, Bool, true, false, ◌&&◌, not, nat_eq, nat_lt, List, [], ◌∷◌, ◌++◌, length, map, Option, Some, None, refl, ap, sym, subst, arith}
+use Rattle.std.proofs.Common.{◌≡◌, ◌∙◌, ℕ, zero, suc, ◌<◌, Bool, true, nat_eq, nat_lt, List, [], ◌∷◌, ◌++◌, length, map, Option, Some, None, refl, ap, sym, subst, arith}
 use Rattle.std.specs.List.{Contains, list_all, list_any, flat_map, filter}
 use Rattle.std.proofs.lemmas.Bool.{and_parts, and_from}
 use Rattle.std.proofs.lemmas.Bool.Decides.{Decides-eqb}
 use Rattle.scasp_list.proofs.MemberLemmas.{Contains-here, Contains-map, Contains-flat_map, Contains-filter, list_any-member, list_all-member}
-use Rattle.scasp_num.specs.Linear.{Linear}
 use Rattle.scasp_num.specs.declared.linear.Coeff.{Coeff}
-use Rattle.scasp_syntax.specs.Constraints.{holds, is_number}
+use Rattle.scasp_syntax.specs.Constraints.{is_number}
 use Rattle.scasp_syntax.specs.Instances.{atom_under, head_under}
 use Rattle.scasp_syntax.specs.RowTruth.{row_holds}
 use Rattle.scasp_syntax.specs.Same.{same_tm}
-use Rattle.scasp_syntax.specs.Tm.{Tm, Tms, var, num, app, nil, cons, items}
+use Rattle.scasp_syntax.specs.Tm.{Tm, Tms, var, num, app, nil, cons}
 use Rattle.scasp_syntax.specs.Values.{Sub, under, all_under, giving}
 use Rattle.scasp_syntax.specs.View.{tm_of}
 use Rattle.scasp_syntax.specs.WellFormed.{is_below, are_below, is_item_below, is_head_below, is_clause_well_formed, lists_variables, ascends}
@@ -24,7 +23,6 @@ use Rattle.scasp_syntax.specs.declared.program.Program.{Program}
 use Rattle.scasp_syntax.proofs.SameLemmas.{tm_decided}
 use Rattle.scasp_lines.proofs.KnownLemmas.{agree-con}
 use Rattle.scasp_model.specs.Grounding.{choices, ground_program, instance_of, instances, is_test_true, literal_under}
-use Rattle.scasp_model.specs.declared.program.GroundClause.{GroundClause}
 
 -- the term is one of the domain
 abbrev pub within : List Tm → Tm → Bool
@@ -48,6 +46,16 @@ giving-map v [] x l = absurd (omega (arith, l))
 giving-map v (t ∷ ts) zero l = refl
 giving-map v (t ∷ ts) (suc x) l = giving-map v ts x (omega (arith, l))
 
+-- the coefficients of a row whose variables are listed and below n
+pub coeffs-below : (n : ℕ) (vars : List ℕ) (ks : List Coeff) → list_all (λ x. nat_lt x n) vars ≡ true → list_all (λ (k : Coeff). list_any (nat_eq k.x) vars) ks ≡ true
+    → list_all (λ (k : Coeff). nat_lt k.x n) ks ≡ true
+coeffs-below n vars [] h i = refl
+coeffs-below n vars (k ∷ ks) h i =
+    let p = and_parts (list_any (nat_eq k.x) vars) (list_all (λ (j : Coeff). list_any (nat_eq j.x) vars) ks) i in
+    let q = list_any-member (nat_eq k.x) vars p.0 in
+    let e = (Decides-eqb k.x q.0).0 q.2 in
+    and_from (nat_lt k.x n) _ (ap (λ x. nat_lt x n) e ∙ list_all-member (λ x. nat_lt x n) vars q.0 h q.1) (coeffs-below n vars ks h p.1)
+
 module _ (n : ℕ) (r s : Sub) (same : (x : ℕ) → nat_lt x n ≡ true → r x ≡ s x) where
   mutual
     below-same : (t : Tm) → is_below n t ≡ true → under r t ≡ under s t
@@ -70,15 +78,6 @@ module _ (n : ℕ) (r s : Sub) (same : (x : ℕ) → nat_lt x n ≡ true → r x
       let p = and_parts (nat_lt x n) (list_all (λ x. nat_lt x n) xs) h in
       let a = same x p.0 in let b = numbers-same xs p.1 in cc
 
-  coeffs-below : (vars : List ℕ) (ks : List Coeff) → list_all (λ x. nat_lt x n) vars ≡ true → list_all (λ (k : Coeff). list_any (nat_eq k.x) vars) ks ≡ true
-      → list_all (λ (k : Coeff). nat_lt k.x n) ks ≡ true
-  coeffs-below vars [] h i = refl
-  coeffs-below vars (k ∷ ks) h i =
-      let p = and_parts (list_any (nat_eq k.x) vars) (list_all (λ (j : Coeff). list_any (nat_eq j.x) vars) ks) i in
-      let q = list_any-member (nat_eq k.x) vars p.0 in
-      let e = (Decides-eqb k.x q.0).0 q.2 in
-      and_from (nat_lt k.x n) _ (ap (λ x. nat_lt x n) e ∙ list_all-member (λ x. nat_lt x n) vars q.0 h q.1) (coeffs-below vars ks h p.1)
-
   test-same : (i : Item) → is_item_below n i ≡ true → is_test_true r i ≡ is_test_true s i
   test-same (item.Call l) h = refl
   test-same (item.Equal t u) h =
@@ -91,7 +90,7 @@ module _ (n : ℕ) (r s : Sub) (same : (x : ℕ) → nat_lt x n ≡ true → r x
       let p = and_parts (lists_variables l) (list_all (λ x. nat_lt x n) l.vars) h in
       let q = and_parts (ascends l.vars) (list_all (λ k. list_any (nat_eq k.x) l.vars) l.row.coeffs) p.0 in
       let a = numbers-same l.vars p.1 in
-      let b : row_holds r l.row ≡ row_holds s l.row = agree-con (λ x. nat_lt x n) r s same (con.Row l.row) (coeffs-below l.vars l.row.coeffs p.1 q.1) in cc
+      let b : row_holds r l.row ≡ row_holds s l.row = agree-con (λ x. nat_lt x n) r s same (con.Row l.row) (coeffs-below n l.vars l.row.coeffs p.1 q.1) in cc
 
   pub tests-same : (body : List Item) → list_all (is_item_below n) body ≡ true → list_all (is_test_true r) body ≡ list_all (is_test_true s) body
   tests-same [] h = refl

@@ -1,14 +1,13 @@
 -- A rule for an atom that is said to be false has a case that its instance reaches.
-use Rattle.std.proofs.Common.{◌≡◌, ◌∙◌, ℕ, zero, suc, ◌+◌, ◌<◌, ◌≤◌, Bool, true, false, ◌&&◌, not, nat_eq, nat_lt, cond, List, [], ◌∷◌, length, map, slice_get, Option, Some, None, refl, ap, sym, subst, inl, inr, arith}
-use Rattle.std.specs.List.{Contains, list_all, list_any, flat_map, filter}
-use Rattle.std.proofs.lemmas.Bool.{and_parts, cond_both, or_right}
+use Rattle.std.proofs.Common.{◌≡◌, ◌∙◌, ℕ, zero, suc, ◌+◌, ◌<◌, ◌≤◌, Bool, true, false, nat_lt, List, [], ◌∷◌, length, map, slice_get, Option, Some, refl, ap, sym, subst, inl, inr, arith}
+use Rattle.std.specs.List.{Contains, list_all, list_any, filter}
+use Rattle.std.proofs.lemmas.Bool.{cond_both, or_right}
 use Rattle.scasp_list.proofs.MemberLemmas.{Contains-none, Contains-here, Contains-there, Contains-cases, Contains-single, Contains-from_map, Contains-from_flat_map, Contains-from_filter, list_all-member, list_any-from}
 use Rattle.scasp_syntax.specs.Flat.{flat_body}
-use Rattle.scasp_syntax.specs.Instances.{atom_under, head_under}
 use Rattle.scasp_syntax.specs.Programs.{numbered, pred_of, is_rule_of, rules_from}
 use Rattle.scasp_syntax.specs.Same.{same_pred, same_tm}
-use Rattle.scasp_syntax.specs.Tm.{Tm, Tms, items}
-use Rattle.scasp_syntax.specs.Values.{Sub, giving, under, all_under, is_ground}
+use Rattle.scasp_syntax.specs.Tm.{Tm, items}
+use Rattle.scasp_syntax.specs.Values.{Sub, giving, under, all_under}
 use Rattle.scasp_syntax.specs.declared.atom.Atom.{Atom}
 use Rattle.scasp_syntax.specs.declared.atom.Pred.{Pred}
 use Rattle.scasp_syntax.specs.declared.clause.Clause.{Clause}
@@ -17,18 +16,17 @@ use Rattle.scasp_syntax.proofs.SameLemmas.{tm_decided}
 use Rattle.scasp_model.specs.Grounding.{choices, ground_program, instance_of, instances, is_test_true}
 use Rattle.scasp_model.specs.declared.program.GroundClause.{GroundClause}
 use Rattle.scasp_cert.specs.Certificate.{Certificate}
-use Rattle.scasp_cert.specs.Trees.{Tree, Branch, Branches, neg_tree}
-use Rattle.scasp_lines.specs.Below.{HasRule, HasCase, rule_numbers}
+use Rattle.scasp_cert.specs.Trees.{Branch, Branches, neg_tree}
 use Rattle.scasp_lines.specs.Bodies.{Body, Inside, inside, inside_rule, open_head}
-use Rattle.scasp_lines.specs.Covers.{covering, value_of}
-use Rattle.scasp_lines.specs.Descent.{Ends, SameBody, is_end}
+use Rattle.scasp_lines.specs.Covers.{covering}
+use Rattle.scasp_lines.specs.Descent.{Ends, is_end}
 use Rattle.scasp_lines.specs.Dues.{Due}
-use Rattle.scasp_lines.specs.Known.{is_known, are_known}
-use Rattle.scasp_lines.specs.Lines.{free_of, lines, setting, walk_of}
-use Rattle.scasp_lines.specs.Opened.{Opened, IsInstance, is_met, knows, sets}
-use Rattle.scasp_lines.specs.OpeningLaws.{CoverIsMet, OpeningFits, OpeningSays}
-use Rattle.scasp_lines.specs.Openings.{Opening, unopened, open_terms}
-use Rattle.scasp_lines.specs.Places.{Place, below_literal}
+use Rattle.scasp_lines.specs.Known.{are_known}
+use Rattle.scasp_lines.specs.Lines.{free_of, lines, setting}
+use Rattle.scasp_lines.specs.Opened.{Opened, is_met, knows, sets}
+use Rattle.scasp_lines.specs.OpeningLaws.{OpeningFits, OpeningSays}
+use Rattle.scasp_lines.specs.Openings.{unopened, open_terms}
+use Rattle.scasp_lines.specs.Places.{Place}
 use Rattle.scasp_lines.specs.Rooms.{room_of_clause, room_of_part}
 use Rattle.scasp_lines.specs.Scopes.{PlaceFits, BodyFits, PartFits, are_lines_scoped, is_line_scoped, is_part_scoped}
 use Rattle.scasp_lines.specs.Walk.{Part, of_node, of_rule, of_case, Line}
@@ -38,7 +36,7 @@ use Rattle.scasp_lines.proofs.FitLemmas.{lines-fit}
 use Rattle.scasp_lines.proofs.KnownLemmas.{agree-tm}
 use Rattle.scasp_lines.proofs.SubWalkLemmas.{certificate-whole}
 use Rattle.scasp_lines.proofs.UniversalLemmas.{covering-met}
-use Rattle.scasp_acceptance.proofs.NodeLemmas.{pred-under, same-pred}
+use Rattle.scasp_acceptance.proofs.NodeLemmas.{same-pred}
 use Rattle.scasp_acceptance.proofs.ScopeLemmas.{scoped}
 use Rattle.scasp_soundness.specs.Premises.{Premises, IsAt}
 use Rattle.scasp_soundness.proofs.InstanceLemmas.{part-holds}

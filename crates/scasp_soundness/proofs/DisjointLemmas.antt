@@ -1,7 +1,7 @@
 -- No atom is said to be true and false.
 use Rattle.std.proofs.Common.{◌≡◌, ◌∙◌, ℕ, Bool, true, false, ◌&&◌, not, nat_eq, nat_lt, cond, List, [], ◌∷◌, ◌++◌, map, filter, None, refl, ap, sym, subst, inl, inr, ◌⊎◌}
-use Rattle.std.specs.List.{Contains, list_all, flat_map}
-use Rattle.std.proofs.lemmas.Bool.{and_parts, and_from, cases_Bool, cond_both}
+use Rattle.std.specs.List.{Contains, list_all}
+use Rattle.std.proofs.lemmas.Bool.{and_parts, and_from, cases_Bool}
 use Rattle.std.proofs.lemmas.Bool.Decides.{Decides-eqb}
 use Rattle.std.proofs.lemmas.List.Elements.{Contains-append_left, Contains-append_right}
 use Rattle.scasp_list.proofs.MemberLemmas.{Contains-none, Contains-here, Contains-cases, Contains-map, Contains-flat_map, Contains-filter}
@@ -9,13 +9,11 @@ use Rattle.scasp_syntax.specs.Constraints.{holds}
 use Rattle.scasp_syntax.specs.Instances.{atom_under}
 use Rattle.scasp_syntax.specs.Programs.{pred_of}
 use Rattle.scasp_syntax.specs.Same.{same_bool, same_pred}
-use Rattle.scasp_syntax.specs.Tm.{Tm, Tms}
 use Rattle.scasp_syntax.specs.Values.{Sub, is_ground, all_under}
 use Rattle.scasp_syntax.specs.declared.atom.Atom.{Atom}
 use Rattle.scasp_syntax.specs.declared.atom.Pred.{Pred}
 use Rattle.scasp_syntax.specs.declared.hint.Hint.{Hint}
 use Rattle.scasp_syntax.specs.declared.hint.Hint.TheVariants as hints
-use Rattle.scasp_syntax.specs.declared.con.Con.{Con}
 use Rattle.scasp_syntax.specs.declared.program.Program.{Program}
 use Rattle.scasp_model.specs.Atoms.{among}
 use Rattle.scasp_cert.specs.Certificate.{Certificate}
@@ -25,12 +23,12 @@ use Rattle.scasp_hint.specs.Showing.{fault_of}
 use Rattle.scasp_lines.specs.Contexts.{context}
 use Rattle.scasp_lines.specs.Lines.{free_of, lines}
 use Rattle.scasp_lines.specs.Opened.{Opened}
-use Rattle.scasp_lines.specs.Said.{atoms_of, true_atoms, false_atoms}
+use Rattle.scasp_lines.specs.Said.{true_atoms, false_atoms}
 use Rattle.scasp_lines.specs.Surroundings.{IsNodeOf}
-use Rattle.scasp_lines.specs.Walk.{Part, of_node, Line}
-use Rattle.scasp_acceptance.specs.Accepted.{AreApart, ClashShows}
+use Rattle.scasp_lines.specs.Walk.{Part, Line}
+use Rattle.scasp_acceptance.specs.Accepted.{AreApart}
 use Rattle.scasp_acceptance.specs.PairLists.{pair_list}
-use Rattle.scasp_acceptance.specs.Pairs.{is_pair, all_pairs, clash_list}
+use Rattle.scasp_acceptance.specs.Pairs.{is_pair, all_pairs}
 use Rattle.scasp_acceptance.specs.Told.{Told, told, told_by_node, told_by_part, told_at, all_told}
 use Rattle.scasp_acceptance.proofs.ApartLemmas.{shown-apart}
 use Rattle.scasp_acceptance.proofs.HintLemmas.{context-met}
@@ -39,7 +37,7 @@ use Rattle.scasp_acceptance.proofs.NodeLemmas.{pred-under, same-pred}
 use Rattle.scasp_acceptance.proofs.NormalityLemmas.{context-normal, opened-normal}
 use Rattle.scasp_soundness.specs.Premises.{Premises, IsAt}
 use Rattle.scasp_soundness.proofs.InstanceLemmas.{normal-at, given-holds}
-use Rattle.scasp_soundness.proofs.SayingLemmas.{SaidAt, saying, said-by_line}
+use Rattle.scasp_soundness.proofs.SayingLemmas.{said-by_line}
 
 -- ---- pairs
 

@@ -1,14 +1,13 @@
 -- What positive lines say is founded.
-use Rattle.std.proofs.Common.{◌≡◌, ◌∙◌, ℕ, zero, suc, ◌+◌, ◌<◌, ◌≤◌, Bool, true, false, ◌&&◌, not, nat_lt, cond, List, [], ◌∷◌, map, length, Option, Some, None, refl, ap, sym, subst, inl, inr, ◌⊎◌, arith}
-use Rattle.std.specs.List.{Contains, list_all, list_any, flat_map, filter}
+use Rattle.std.proofs.Common.{◌≡◌, ◌∙◌, ℕ, suc, ◌+◌, ◌<◌, ◌≤◌, Bool, true, false, not, nat_lt, cond, List, [], ◌∷◌, map, length, Some, refl, ap, sym, subst, inl, inr, ◌⊎◌, arith}
+use Rattle.std.specs.List.{Contains, list_all, filter}
 use Rattle.std.proofs.lemmas.Bool.{and_parts, cases_Bool, ltb-true, ltb-false, not-true}
 use Rattle.scasp_list.specs.Each.{Each}
 use Rattle.scasp_list.proofs.MemberLemmas.{Contains-from_map, Contains-from_filter, list_all-from, list_all-member}
 use Rattle.scasp_syntax.specs.Constraints.{holds}
 use Rattle.scasp_syntax.specs.Flat.{flat_body}
 use Rattle.scasp_syntax.specs.Instances.{atom_under, head_under}
-use Rattle.scasp_syntax.specs.Programs.{numbered}
-use Rattle.scasp_syntax.specs.Same.{same_atom, same_bool, same_tm}
+use Rattle.scasp_syntax.specs.Same.{same_bool}
 use Rattle.scasp_syntax.specs.Tm.{Tm, Tms, items}
 use Rattle.scasp_syntax.specs.Values.{Sub, under, giving}
 use Rattle.scasp_syntax.specs.WellFormed.{is_clause_well_formed, is_head_below, is_item_below, is_query_well_formed}
@@ -17,28 +16,23 @@ use Rattle.scasp_syntax.specs.declared.atom.Lit.{Lit}
 use Rattle.scasp_syntax.specs.declared.clause.Clause.{Clause}
 use Rattle.scasp_syntax.specs.declared.clause.FlatItem.{FlatItem}
 use Rattle.scasp_syntax.specs.declared.clause.FlatItem.TheVariants as flat
-use Rattle.scasp_syntax.specs.declared.clause.Item.{Item}
-use Rattle.scasp_syntax.specs.declared.clause.Item.TheVariants as item
-use Rattle.scasp_syntax.specs.declared.con.Con.{Con}
 use Rattle.scasp_syntax.specs.declared.program.Program.{Program}
-use Rattle.scasp_syntax.proofs.SameLemmas.{atom_decided}
 use Rattle.scasp_syntax.proofs.ValueLemmas.{under-under, all_under-all_under}
 use Rattle.scasp_model.specs.Atoms.{among}
-use Rattle.scasp_model.specs.Grounding.{ground_program, instance_of, is_test_true, literal_under}
+use Rattle.scasp_model.specs.Grounding.{ground_program, instance_of, is_test_true}
 use Rattle.scasp_model.specs.Programs.{positive_atoms}
 use Rattle.scasp_model.specs.declared.program.GroundClause.{GroundClause}
 use Rattle.scasp_sound.specs.Carried.{CarriedBelow, CarriedByRule}
-use Rattle.scasp_sound.specs.Support.{Founded, IsRuleFor, LowerInPair, negated_atoms}
+use Rattle.scasp_sound.specs.Support.{Founded, LowerInPair, negated_atoms}
 use Rattle.scasp_sound.proofs.CarriedLemmas.{founded-carried}
 use Rattle.scasp_cert.specs.Certificate.{Certificate}
 use Rattle.scasp_cert.specs.Lines.{all_lines, lines_of}
 use Rattle.scasp_cert.specs.Trees.{Tree, Trees, pos_tree, neg_tree, loop_tree, seen_tree, test_tree}
-use Rattle.scasp_hint.specs.AskedRows.{RowsNormal}
-use Rattle.scasp_lines.specs.Dues.{Due, goal, fact, due_of, values_here}
+use Rattle.scasp_lines.specs.Dues.{Due, due_of, values_here}
 use Rattle.scasp_lines.specs.Lines.{free_of, lines, setting, walk_of}
 use Rattle.scasp_lines.specs.Numbering.{lines_of_part}
 use Rattle.scasp_lines.specs.Opened.{Opened, IsInstance}
-use Rattle.scasp_lines.specs.Places.{Above, Place, below_literal}
+use Rattle.scasp_lines.specs.Places.{Place}
 use Rattle.scasp_lines.specs.Said.{atoms_of, false_atoms, true_atoms, is_closed_over}
 use Rattle.scasp_lines.specs.Surroundings.{IsNodeOf}
 use Rattle.scasp_lines.specs.Walk.{Part, of_node, of_rule, of_check, of_case, Line}
@@ -49,15 +43,15 @@ use Rattle.scasp_acceptance.proofs.ApartLemmas.{under-alike}
 use Rattle.scasp_acceptance.specs.Wholes.{whole_of}
 use Rattle.scasp_acceptance.specs.Normality.{ItemNormal}
 use Rattle.scasp_acceptance.proofs.ListLemmas.{Each-member, numbered-contains}
-use Rattle.scasp_soundness.specs.Carriers.{negations, How, itself, looped, seen, Carrier}
+use Rattle.scasp_soundness.specs.Carriers.{negations, How, itself, looped, seen}
 use Rattle.scasp_soundness.specs.Premises.{Premises, IsAt}
 use Rattle.scasp_soundness.proofs.BodyLemmas.{call-in_flat, literal-from, atom-of, tests-true}
 use Rattle.scasp_soundness.proofs.CarrierLemmas.{carrier, one-line}
 use Rattle.scasp_soundness.proofs.ClauseLemmas.{giving-map, instance-same, instance-listed, tests-same}
-use Rattle.scasp_soundness.proofs.FirmLemmas.{FirmNode, item-node}
+use Rattle.scasp_soundness.proofs.FirmLemmas.{item-node}
 use Rattle.scasp_soundness.proofs.InstanceLemmas.{part-holds, replaced}
 use Rattle.scasp_soundness.proofs.NumberLemmas.{line-within, node-within, node-ended}
-use Rattle.scasp_soundness.proofs.SayingLemmas.{SaidAt, saying, due-said, said-by_line, terms-within}
+use Rattle.scasp_soundness.proofs.SayingLemmas.{saying, due-said, said-by_line, terms-within}
 use Rattle.scasp_soundness.proofs.TestedLemmas.{fact-true, flat-basic}
 
 -- ---- ranks

@@ -1,5 +1,5 @@
 -- An accepted certificate keeps its promise.
-use Rattle.std.proofs.Common.{◌≡◌, Bool, true, List}
+use Rattle.std.proofs.Common.{◌≡◌, Bool, true}
 use Rattle.scasp_syntax.specs.declared.program.Program.{Program}
 use Rattle.scasp_model.specs.Grounding.{ground_program}
 use Rattle.scasp_cert.specs.Certificate.{Certificate}

@@ -1,33 +1,29 @@
 -- What holds of a line of an accepted certificate at its instances.
-use Rattle.std.proofs.Common.{◌≡◌, ◌∙◌, ℕ, Bool, true, nat_lt, List, [], ◌∷◌, ◌++◌, None, Some, refl, ap, sym, subst}
+use Rattle.std.proofs.Common.{◌≡◌, ◌∙◌, ℕ, Bool, true, nat_lt, List, [], ◌∷◌, refl, subst}
 use Rattle.std.specs.List.{Contains, list_all}
 use Rattle.std.proofs.lemmas.Bool.{and_parts, and_from}
-use Rattle.scasp_list.specs.Each.{Each}
 use Rattle.scasp_syntax.specs.Constraints.{holds}
-use Rattle.scasp_syntax.specs.Instances.{atom_under}
-use Rattle.scasp_syntax.specs.Tm.{Tm}
-use Rattle.scasp_syntax.specs.Values.{Sub, is_ground, under}
-use Rattle.scasp_syntax.specs.declared.atom.Atom.{Atom}
+use Rattle.scasp_syntax.specs.Values.{Sub, under}
 use Rattle.scasp_syntax.specs.declared.con.Con.{Con}
 use Rattle.scasp_syntax.specs.declared.hint.Hint.{Hint}
 use Rattle.scasp_syntax.specs.declared.program.Program.{Program}
 use Rattle.scasp_cert.specs.Certificate.{Certificate}
-use Rattle.scasp_cert.specs.Trees.{Tree, test_tree, Branch, void}
+use Rattle.scasp_cert.specs.Trees.{Tree, test_tree, void}
 use Rattle.scasp_lines.specs.Bodies.{Body}
-use Rattle.scasp_lines.specs.Dues.{Due, fact}
+use Rattle.scasp_lines.specs.Dues.{Due}
 use Rattle.scasp_lines.specs.Known.{is_con_known}
 use Rattle.scasp_lines.specs.Lines.{free_of, lines}
-use Rattle.scasp_lines.specs.Opened.{Opened, IsInstance, is_met}
+use Rattle.scasp_lines.specs.Opened.{Opened, IsInstance}
 use Rattle.scasp_lines.specs.Places.{Place}
 use Rattle.scasp_lines.specs.Said.{are_lines_known}
-use Rattle.scasp_lines.specs.Scopes.{are_lines_scoped, excludes_no_parts}
+use Rattle.scasp_lines.specs.Scopes.{excludes_no_parts}
 use Rattle.scasp_lines.specs.Surroundings.{Extends, Surrounded, NodeSurrounded, PartSurrounded}
 use Rattle.scasp_lines.specs.Walk.{Part, of_node, of_rule, of_check, of_case, Line}
 use Rattle.scasp_lines.proofs.FitLemmas.{lines-known}
 use Rattle.scasp_lines.proofs.KnownLemmas.{agree-con}
 use Rattle.scasp_lines.proofs.SurroundedLemmas.{lines-surrounded}
 use Rattle.scasp_lines.proofs.WaysLemmas.{instance-before}
-use Rattle.scasp_acceptance.specs.Accepted.{LineHolds, PartHolds, NodeHolds, CaseHolds, Tests}
+use Rattle.scasp_acceptance.specs.Accepted.{LineHolds, PartHolds}
 use Rattle.scasp_acceptance.specs.Faults.{is_free}
 use Rattle.scasp_acceptance.specs.Normality.{LineNormal, on_part}
 use Rattle.scasp_acceptance.specs.Wholes.{whole_of}

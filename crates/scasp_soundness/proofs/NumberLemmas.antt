@@ -1,14 +1,14 @@
 -- Where lines begin and end.
-use Rattle.std.proofs.Common.{◌≡◌, ◌∙◌, ℕ, zero, suc, ◌+◌, ◌<◌, ◌≤◌, Bool, true, false, List, [], ◌∷◌, ◌++◌, length, refl, ap, sym, subst, inl, inr, arith}
+use Rattle.std.proofs.Common.{◌≡◌, ◌∙◌, ℕ, zero, suc, ◌+◌, ◌<◌, ◌≤◌, List, [], ◌∷◌, length, refl, ap, sym, inl, inr, arith}
 use Rattle.std.specs.List.{Contains}
 use Rattle.scasp_list.proofs.MemberLemmas.{Contains-none, Contains-here, Contains-there, Contains-cases}
 use Rattle.scasp_syntax.specs.declared.program.Program.{Program}
 use Rattle.scasp_cert.specs.Certificate.{Certificate}
 use Rattle.scasp_cert.specs.Lines.{all_lines, lines_of, lines_below, lines_in}
-use Rattle.scasp_cert.specs.Trees.{Tree, Branch, pos_tree, neg_tree, loop_tree, seen_tree, test_tree, split, void, leaf, head}
+use Rattle.scasp_cert.specs.Trees.{Tree, pos_tree, neg_tree, loop_tree, seen_tree, test_tree}
 use Rattle.scasp_lines.specs.Lines.{lines, setting, walk_of}
 use Rattle.scasp_lines.specs.Numbering.{Counts, lines_of_part}
-use Rattle.scasp_lines.specs.Walk.{Part, of_node, of_rule, of_check, of_case, Line, Setting}
+use Rattle.scasp_lines.specs.Walk.{Line, Setting}
 use Rattle.scasp_lines.proofs.SubWalkLemmas.{certificate-whole, line-whole}
 use Rattle.scasp_lines.proofs.WalkLemmas.{certificate-runs, line-runs}
 

@@ -1,10 +1,9 @@
 -- The query holds under the answer's terms.
-use Rattle.std.proofs.Common.{◌≡◌, ◌∙◌, ℕ, Bool, true, false, ◌&&◌, cond, List, [], ◌∷◌, Some, refl, ap, sym, subst}
+use Rattle.std.proofs.Common.{◌≡◌, Bool, true, false, cond, List, [], refl, ap, sym, subst}
 use Rattle.std.specs.List.{Contains, list_all}
 use Rattle.std.proofs.lemmas.Bool.{and_from}
 use Rattle.scasp_list.specs.Each.{Each}
 use Rattle.scasp_list.proofs.MemberLemmas.{list_all-from, list_all-member}
-use Rattle.scasp_syntax.specs.Constraints.{holds}
 use Rattle.scasp_syntax.specs.Flat.{flat_body}
 use Rattle.scasp_syntax.specs.Instances.{atom_under}
 use Rattle.scasp_syntax.specs.Same.{same_bool}
@@ -28,7 +27,6 @@ use Rattle.scasp_lines.specs.Lines.{free_of, lines, setting}
 use Rattle.scasp_lines.specs.Opened.{Opened, IsInstance}
 use Rattle.scasp_lines.specs.Places.{Place, start}
 use Rattle.scasp_lines.specs.Said.{atoms_of, false_atoms, true_atoms}
-use Rattle.scasp_lines.specs.Walk.{Line}
 use Rattle.scasp_lines.proofs.BelowLemmas.{has-query}
 use Rattle.scasp_acceptance.specs.Normality.{ItemNormal}
 use Rattle.scasp_acceptance.proofs.ListLemmas.{Each-member, numbered-contains}

@@ -1,11 +1,10 @@
 -- Each rule for an atom that is said to be false has a literal that is known to be false.
-use Rattle.std.proofs.Common.{◌≡◌, ◌∙◌, ℕ, zero, suc, ◌<◌, ◌≤◌, Bool, true, false, ◌&&◌, not, nat_eq, nat_lt, cond, List, [], ◌∷◌, ◌++◌, length, map, slice_get, Option, Some, None, refl, ap, sym, subst, inl, inr, arith}
-use Rattle.std.specs.List.{Contains, list_all, list_any, flat_map}
+use Rattle.std.proofs.Common.{◌≡◌, ◌∙◌, ℕ, zero, suc, ◌<◌, ◌≤◌, Bool, true, false, ◌&&◌, not, nat_eq, nat_lt, cond, List, [], ◌∷◌, ◌++◌, length, map, Option, Some, None, refl, ap, sym, subst, inl, inr, arith}
+use Rattle.std.specs.List.{Contains, list_all, list_any}
 use Rattle.std.proofs.lemmas.Bool.{and_parts, and_from, ltb-true}
-use Rattle.std.proofs.lemmas.Bool.Decides.{Decides-eqb}
 use Rattle.std.proofs.lemmas.List.Elements.{Contains-append_cases}
 use Rattle.scasp_list.specs.Each.{Each}
-use Rattle.scasp_list.proofs.MemberLemmas.{Contains-none, Contains-cases, Contains-from_map, Contains-from_filter, list_all-member, list_any-from, list_any-member}
+use Rattle.scasp_list.proofs.MemberLemmas.{Contains-none, Contains-cases, Contains-from_map, Contains-from_filter, list_all-member, list_any-from}
 use Rattle.scasp_num.specs.declared.linear.Coeff.{Coeff}
 use Rattle.scasp_syntax.specs.Constraints.{holds}
 use Rattle.scasp_syntax.specs.Flat.{flat_after, flat_body, number_test, unseen}
@@ -13,7 +12,7 @@ use Rattle.scasp_syntax.specs.Instances.{atom_under, head_under}
 use Rattle.scasp_syntax.specs.Programs.{numbered, pred_of}
 use Rattle.scasp_syntax.specs.Same.{same_bool}
 use Rattle.scasp_syntax.specs.Tm.{Tm, Tms, var, num, app, nil, cons}
-use Rattle.scasp_syntax.specs.Values.{Sub, giving, under, all_under}
+use Rattle.scasp_syntax.specs.Values.{Sub, giving, under}
 use Rattle.scasp_syntax.specs.View.{tm_of}
 use Rattle.scasp_syntax.specs.WellFormed.{is_below, are_below, is_item_below, is_head_below, is_clause_well_formed, is_query_well_formed, lists_variables, ascends}
 use Rattle.scasp_syntax.specs.declared.atom.Atom.{Atom}
@@ -34,19 +33,18 @@ use Rattle.scasp_model.specs.Residual.{is_known_false}
 use Rattle.scasp_model.specs.declared.program.GroundClause.{GroundClause}
 use Rattle.scasp_cert.specs.Certificate.{Certificate}
 use Rattle.scasp_cert.specs.Trees.{Tree, Trees, Branch, Branches, pos_tree, neg_tree, loop_tree, seen_tree, test_tree, split, void, leaf, head}
-use Rattle.scasp_hint.specs.AskedRows.{RowsNormal}
 use Rattle.scasp_unify.specs.Negations.{negated}
 use Rattle.scasp_lines.specs.Bodies.{Body}
 use Rattle.scasp_lines.specs.Descent.{is_end}
-use Rattle.scasp_lines.specs.Dues.{Due, due_of, values_here}
+use Rattle.scasp_lines.specs.Dues.{due_of, values_here}
 use Rattle.scasp_lines.specs.Known.{is_known, are_known, is_con_known}
-use Rattle.scasp_lines.specs.Lines.{free_of, lines, setting}
+use Rattle.scasp_lines.specs.Lines.{free_of, setting}
 use Rattle.scasp_lines.specs.Opened.{Opened, IsInstance}
 use Rattle.scasp_lines.specs.Places.{Place}
 use Rattle.scasp_lines.specs.Said.{atoms_of, false_atoms, true_atoms}
 use Rattle.scasp_lines.specs.Scopes.{excludes_no_parts}
 use Rattle.scasp_lines.specs.Surroundings.{IsNodeOf}
-use Rattle.scasp_lines.specs.Walk.{Part, of_node, of_case, Line}
+use Rattle.scasp_lines.specs.Walk.{of_node, of_case, Line}
 use Rattle.scasp_lines.proofs.BelowLemmas.{has-below}
 use Rattle.scasp_lines.proofs.KnownLemmas.{agree-con}
 use Rattle.scasp_lines.proofs.NegationLemmas.{negated-holds}
@@ -59,11 +57,11 @@ use Rattle.scasp_acceptance.proofs.NodeLemmas.{pred-under}
 use Rattle.scasp_acceptance.proofs.NormalityLemmas.{negated-normal}
 use Rattle.scasp_soundness.specs.Premises.{Premises, IsAt}
 use Rattle.scasp_soundness.proofs.BodyLemmas.{lit_under, call-from_flat, flat-holds, literal-in}
-use Rattle.scasp_soundness.proofs.ClauseLemmas.{atom-same}
-use Rattle.scasp_soundness.proofs.CoverLemmas.{Grounded, grounded, Reached, reached}
+use Rattle.scasp_soundness.proofs.ClauseLemmas.{atom-same, coeffs-below}
+use Rattle.scasp_soundness.proofs.CoverLemmas.{grounded, Reached, reached}
 use Rattle.scasp_soundness.proofs.FoundedLemmas.{atom-under-atom}
 use Rattle.scasp_soundness.proofs.InstanceLemmas.{part-holds, replaced, void-never}
-use Rattle.scasp_soundness.proofs.SayingLemmas.{SaidAt, saying, due-said, said-by_line}
+use Rattle.scasp_soundness.proofs.SayingLemmas.{saying, due-said, said-by_line}
 use Rattle.scasp_soundness.proofs.TestedLemmas.{fact-true, flat-basic}
 
 -- ---- the tests of a flat body have the clause's variables
@@ -81,15 +79,6 @@ mutual
 
 both-known : (n : ℕ) (t u : Tm) → (is_below n t && is_below n u) ≡ true → (is_known (λ x. nat_lt x n) t && is_known (λ x. nat_lt x n) u) ≡ true
 both-known n t u h = let p = and_parts (is_below n t) (is_below n u) h in and_from _ _ (below-known n t p.0) (below-known n u p.1)
-
-coeffs-known : (n : ℕ) (vars : List ℕ) (ks : List Coeff) → list_all (λ x. nat_lt x n) vars ≡ true → list_all (λ (k : Coeff). list_any (nat_eq k.x) vars) ks ≡ true
-    → list_all (λ (k : Coeff). nat_lt k.x n) ks ≡ true
-coeffs-known n vars [] h i = refl
-coeffs-known n vars (k ∷ ks) h i =
-    let p = and_parts (list_any (nat_eq k.x) vars) (list_all (λ (j : Coeff). list_any (nat_eq j.x) vars) ks) i in
-    let q = list_any-member (nat_eq k.x) vars p.0 in
-    let e = (Decides-eqb k.x q.0).0 q.2 in
-    and_from (nat_lt k.x n) _ (ap (λ x. nat_lt x n) e ∙ list_all-member (λ x. nat_lt x n) vars q.0 h q.1) (coeffs-known n vars ks h p.1)
 
 flat-known : (n : ℕ) (seen : List ℕ) (body : List Item) → list_all (is_item_below n) body ≡ true → (c : Con) → Contains (flat_after seen body) (flat.Test c)
     → is_con_known (λ x. nat_lt x n) c ≡ true
@@ -121,7 +110,7 @@ flat-known n seen (item.Linear l ∷ body) h c i =
           let same : con.Num (Var k.0) ≡ c = cc in
           subst (λ (z : Con). is_con_known (λ x. nat_lt x n) z ≡ true) same (list_all-member (λ x. nat_lt x n) l.vars k.0 q.1 f.0))
       | inr j ↦ elim (Contains-cases (flat.Test (con.Row l.row)) (flat_after (seen ++ l.vars) body) (flat.Test c) j) [
-        | inl e ↦ (let same : con.Row l.row ≡ c = cc in subst (λ (z : Con). is_con_known (λ x. nat_lt x n) z ≡ true) same (coeffs-known n l.vars l.row.coeffs q.1 r.1))
+        | inl e ↦ (let same : con.Row l.row ≡ c = cc in subst (λ (z : Con). is_con_known (λ x. nat_lt x n) z ≡ true) same (coeffs-below n l.vars l.row.coeffs q.1 r.1))
         | inr k ↦ flat-known n (seen ++ l.vars) body p.1 c k
       ]
     ]

@@ -1,5 +1,5 @@
 -- At each line there is room for the universal variables that begin there.
-use Rattle.std.proofs.Common.{◌≡◌, ℕ, suc, ◌+◌, ◌≤◌, true, false, List, [], ◌∷◌, ◌++◌, subst, inl, inr, arith}
+use Rattle.std.proofs.Common.{ℕ, suc, ◌+◌, ◌≤◌, true, false, List, [], ◌∷◌, ◌++◌, subst, inl, inr, arith}
 use Rattle.std.specs.List.{Contains}
 use Rattle.std.proofs.lemmas.List.Elements.{Contains-append_cases}
 use Rattle.scasp_list.proofs.MemberLemmas.{Contains-none, Contains-cases}
@@ -15,7 +15,7 @@ use Rattle.scasp_lines.specs.Lines.{lines, setting}
 use Rattle.scasp_lines.specs.Places.{Place, below_literal, within_case, start}
 use Rattle.scasp_lines.specs.Rooms.{room_of_clause, room_of_con, room_of, room_below, room_at, room_in, room_under, room_of_part}
 use Rattle.scasp_lines.specs.Sides.{Sides, sides}
-use Rattle.scasp_lines.specs.Walk.{Part, of_node, of_rule, of_check, of_case, Line, Setting, Walked, line, node_walk, nodes_walk, branch_walk, covers_walk, checks_walk}
+use Rattle.scasp_lines.specs.Walk.{of_rule, of_check, Line, Setting, Walked, line, node_walk, nodes_walk, branch_walk, covers_walk, checks_walk}
 use Rattle.scasp_lines.proofs.CounterLemmas.{rule-rises, check-rises, sides-rise, node-rises, nodes-rise, branch-rises}
 
 module _ (s : Setting) (top : ℕ) where

@@ -1,6 +1,6 @@
 -- What lines say at their instances is among the true and the false atoms, and each of these is said so.
 use Rattle.std.proofs.Common.{◌≡◌, ◌∙◌, ℕ, Bool, true, false, ◌&&◌, not, List, [], ◌∷◌, map, refl, ap, sym, subst}
-use Rattle.std.specs.List.{Contains, list_all, list_any, flat_map}
+use Rattle.std.specs.List.{Contains, list_all, list_any}
 use Rattle.std.proofs.lemmas.Bool.{and_parts}
 use Rattle.scasp_syntax.specs.Instances.{atom_under}
 use Rattle.scasp_syntax.specs.Same.{same_atom, same_tm}
@@ -19,13 +19,12 @@ use Rattle.scasp_list.proofs.MemberLemmas.{Contains-none, Contains-here, Contain
 use Rattle.scasp_lines.specs.Dues.{Due, goal}
 use Rattle.scasp_lines.specs.Lines.{free_of, lines}
 use Rattle.scasp_lines.specs.Opened.{knows, well}
-use Rattle.scasp_lines.specs.Said.{said, said_by_line, said_by_lines, said_by_node, said_by_part, atoms_of, true_atoms, false_atoms, is_closed_over, is_line_known, is_part_known, SaysAt}
+use Rattle.scasp_lines.specs.Said.{said, said_by_line, said_by_node, said_by_part, atoms_of, is_closed_over, is_line_known, is_part_known}
 use Rattle.scasp_lines.specs.Surroundings.{IsNodeOf}
 use Rattle.scasp_lines.specs.Walk.{Part, of_node, of_rule, of_check, of_case, Line}
 use Rattle.scasp_lines.specs.Ways.{ways}
 use Rattle.scasp_lines.proofs.SaidLemmas.{atoms-from, said-atom, closed-terms}
 use Rattle.scasp_lines.proofs.WaysLemmas.{way-is_instance, ways-ground}
-use Rattle.scasp_soundness.specs.Carriers.{Carrier}
 use Rattle.scasp_soundness.specs.Premises.{Premises, IsAt}
 use Rattle.scasp_soundness.proofs.CarrierLemmas.{carrier}
 use Rattle.scasp_soundness.proofs.InstanceLemmas.{known}

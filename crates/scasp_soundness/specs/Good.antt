@@ -1,9 +1,8 @@
 -- What a certificate promises, by what its lines say.
 use Rattle.std.specs.Prelude.{◌≡◌, Bool, ◌&&◌, not, IsTrue, List, Some}
-use Rattle.std.specs.List.{list_all, list_any}
+use Rattle.std.specs.List.{list_all}
 use Rattle.scasp_syntax.specs.Constraints.{Meets}
 use Rattle.scasp_syntax.specs.Programs.{numbered}
-use Rattle.scasp_syntax.specs.Same.{same_tm}
 use Rattle.scasp_syntax.specs.Tm.{Tm, items}
 use Rattle.scasp_syntax.specs.Values.{Sub, Valuation, under, giving}
 use Rattle.scasp_syntax.specs.declared.atom.Atom.{Atom}
