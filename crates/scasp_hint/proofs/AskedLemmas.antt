@@ -16,7 +16,6 @@ use Rattle.scasp_num.proofs.Exact.{bind-some}
 use Rattle.scasp_num.proofs.SameRows.{row-same}
 use Rattle.scasp_num.proofs.Valuations.{negation-holds}
 use Rattle.scasp_rows.specs.Points.{MeetsAll, NoDisequation, is_false}
-use Rattle.scasp_rows.proofs.Sums.{normal_form-op}
 use Rattle.scasp_list.proofs.EachLemmas.{Each-append}
 use Rattle.scasp_rows.proofs.Reaching.{false-holds}
 use Rattle.scasp_syntax.specs.Tm.{Tm, var, num, app}
@@ -42,6 +41,10 @@ use Rattle.scasp_hint.specs.declared.asked.Asked.{Asked}
 use Rattle.scasp_hint.specs.declared.asked.Asked.TheVariants.{ByTerms, Overflows, Asks}
 
 -- ---- a resolved row compares as the given one
+
+normal_form-op : (r : Linear) → (normal_form r).op ≡ r.op
+unfolding normal_form
+normal_form-op r = refl
 
 put-op : (r row : Linear) (x : ℕ) (q : Number) → Some row ≡ put_of r x q → row.op ≡ r.op
 unfolding put_of

@@ -21,7 +21,7 @@ use Rattle.scasp_rows.specs.Points.{RationalPoint, MeetsAll, NoDisequation, is_c
 use Rattle.scasp_rows.specs.Samples.{MeetsSome}
 use Rattle.scasp_rows.specs.Elimination.{elimination}
 use Rattle.scasp_list.proofs.EachLemmas.{Each-left, Each-right, Each-append}
-use Rattle.scasp_rows.proofs.Sums.{normal_of-IsNormal, normal_of-op}
+use Rattle.scasp_num.proofs.Kept.{normal_of-IsNormal, normal_of-op}
 use Rattle.scasp_rows.proofs.Reaching.{false-holds, false_reached}
 use Rattle.scasp_rows.proofs.Soundness.{unsat_reached}
 use Rattle.scasp_rows.proofs.Completeness.{sat_met}
@@ -32,7 +32,7 @@ use Rattle.scasp_unify.specs.Parts.{Part, parts, occurs}
 use Rattle.scasp_unify.specs.Unification.{term_vars, Absorbs}
 use Rattle.scasp_unify.specs.Resolver.{resolver}
 use Rattle.scasp_unify.specs.Numbers.{number_var, is_number_term, is_among_numbers}
-use Rattle.scasp_unify.specs.Points.{zero_number}
+use Rattle.scasp_num.specs.Number.{zero_number}
 use Rattle.scasp_unify.specs.ResolvedRows.{resolved_row}
 use Rattle.scasp_syntax.specs.declared.con.Con.{Con}
 use Rattle.scasp_syntax.specs.declared.con.Con.TheVariants as con

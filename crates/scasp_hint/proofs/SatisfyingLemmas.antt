@@ -16,7 +16,8 @@ use Rattle.scasp_syntax.specs.Constraints.{Sat}
 use Rattle.scasp_unify.specs.Resolver.{unifies, resolver}
 use Rattle.scasp_unify.specs.TermFailures.{fails_by_terms, is_refuted}
 use Rattle.scasp_unify.specs.Sorted.{Sorted}
-use Rattle.scasp_unify.specs.Points.{point, through}
+use Rattle.scasp_syntax.specs.RowTruth.{point}
+use Rattle.scasp_unify.specs.Points.{through}
 use Rattle.scasp_syntax.specs.declared.con.Con.{Con}
 use Rattle.scasp_unify.proofs.Members.{not-false}
 use Rattle.scasp_unify.proofs.ValuationLemmas.{sorted-met, meets-point}

@@ -14,7 +14,8 @@ use Rattle.scasp_rows.specs.Points.{RationalPoint}
 use Rattle.scasp_rows.proofs.Completeness.{fraction}
 use Rattle.scasp_syntax.specs.Tm.{Tm, var, num, app}
 use Rattle.scasp_unify.specs.Parts.{occurs}
-use Rattle.scasp_unify.specs.Points.{zero_number, read_as}
+use Rattle.scasp_num.specs.Number.{zero_number}
+use Rattle.scasp_unify.specs.Points.{read_as}
 use Rattle.scasp_hint.specs.ExactRows.{difference}
 use Rattle.scasp_hint.specs.Sides.{below, above, one, minus_one}
 use Rattle.scasp_hint.proofs.ExactLemmas.{two-sum, one-sum}

@@ -14,7 +14,7 @@ use Rattle.scasp_syntax.specs.View.{tm_of}
 use Rattle.scasp_unify.specs.Parts.{Part, parts}
 use Rattle.scasp_unify.specs.Resolver.{resolver}
 use Rattle.scasp_unify.specs.Numbers.{is_among_numbers}
-use Rattle.scasp_unify.specs.Points.{zero_number}
+use Rattle.scasp_num.specs.Number.{zero_number}
 use Rattle.scasp_unify.specs.ResolvedRows.{resolved_row}
 use Rattle.scasp_syntax.specs.declared.con.Con.{Con}
 use Rattle.scasp_syntax.specs.declared.con.Con.TheVariants as con

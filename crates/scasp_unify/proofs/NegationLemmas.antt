@@ -11,9 +11,11 @@ use Rattle.scasp_syntax.specs.Tm.{Tm, Tms, var, num, app, nil, cons, items}
 use Rattle.scasp_syntax.specs.Values.{Sub, Valuation, under, all_under, is_ground, are_ground}
 use Rattle.scasp_syntax.specs.View.{tm_of}
 use Rattle.scasp_syntax.specs.Constraints.{holds, is_number, has_shape, Meets, Sat, Entails}
-use Rattle.scasp_syntax.specs.RowTruth.{sum_under, fraction_of}
+use Rattle.scasp_syntax.specs.RowTruth.{row_holds}
 use Rattle.scasp_syntax.specs.WellFormed.{is_below, are_below}
-use Rattle.scasp_unify.specs.Points.{point}
+use Rattle.scasp_syntax.specs.RowTruth.{number_of, point}
+use Rattle.scasp_num.specs.Values.{row_sum}
+use Rattle.scasp_num.specs.Linear.{compares}
 use Rattle.scasp_unify.specs.Negations.{new_parts, negated, is_con_below}
 use Rattle.scasp_syntax.specs.declared.con.Con.{Con}
 use Rattle.scasp_syntax.specs.declared.con.Con.TheVariants as con
@@ -82,13 +84,13 @@ mutual
       let a = under-below k w v t h p.0 in
       let b = all-under-below k w v ts h p.1 in cc
 
-sum-below : (k : ℕ) (w v : Sub) (c : ℤ) (ks : List Coeff) → ((y : ℕ) → y < k → w y ≡ v y) → list_all (λ j. nat_lt j.x k) ks ≡ true → sum_under w c ks ≡ sum_under v c ks
-sum-below k w v c [] h e = refl
-sum-below k w v c (j ∷ js) h e =
+sum-below : (k : ℕ) (w v : Sub) (ks : List Coeff) → ((y : ℕ) → y < k → w y ≡ v y) → list_all (λ j. nat_lt j.x k) ks ≡ true → row_sum (point w) ks ≡ row_sum (point v) ks
+sum-below k w v [] h e = refl
+sum-below k w v (j ∷ js) h e =
     let p = and_parts (nat_lt j.x k) (list_all (λ j. nat_lt j.x k) js) e in
-    let value = h j.x (ltb-true j.x k p.0) in
-    let rest = sum-below k w v c js h p.1 in
-    λ i. (((j.c *ℤ (fraction_of (value i)).0) *ℤ (rest i).1) +ℤ ((rest i).0 *ℤ (fraction_of (value i)).1), (fraction_of (value i)).1 *ℤ (rest i).1)
+    let value = ap number_of (h j.x (ltb-true j.x k p.0)) in
+    let rest = sum-below k w v js h p.1 in
+    λ i. (j.c *ℤ (value i).num *ℤ (rest i).1 +ℤ (rest i).0 *ℤ (value i).den, (value i).den *ℤ (rest i).1)
 
 holds-below : (k : ℕ) (w v : Sub) (c : Con) → ((y : ℕ) → y < k → w y ≡ v y) → is_con_below k c ≡ true → holds v c ≡ true → holds w c ≡ true
 holds-below k w v (con.Eq t u) h e f =
@@ -100,7 +102,7 @@ holds-below k w v (con.Neq t u) h e f =
 holds-below k w v (con.NotShape x g n) h e f = rw (h x (ltb-true x k e)) f
 holds-below k w v (con.Num t) h e f = rw (under-below k w v (tm_of t) h e) f
 holds-below k w v (con.NotNum t) h e f = rw (under-below k w v (tm_of t) h e) f
-holds-below k w v (con.Row r) h e f = rw (sum-below k w v r.constant r.coeffs h e) f
+holds-below k w v (con.Row r) h e f = ap (λ (z : ℤ × ℤ). compares r.op (z.0 +ℤ r.constant *ℤ z.1)) (sum-below k w v r.coeffs h e) ∙ f
 
 all-below : (k : ℕ) (w v : Sub) (cs : List Con) → ((y : ℕ) → y < k → w y ≡ v y) → list_all (is_con_below k) cs ≡ true → list_all (holds v) cs ≡ true → list_all (holds w) cs ≡ true
 all-below k w v [] h e f = refl

@@ -9,19 +9,20 @@ use Rattle.scasp_num.specs.Linear.{Linear, Compares, negation}
 use Rattle.scasp_list.specs.Each.{Each}
 use Rattle.scasp_num.proofs.Valuations.{negation-holds}
 use Rattle.scasp_num.specs.Values.{row_sum, Holds}
-use Rattle.scasp_num.proofs.Comparing.{compares-true, compares-is}
+use Rattle.scasp_num.proofs.Comparing.{holds-decided}
 use Rattle.scasp_num.proofs.Integers.{*ℤ_assoc, +ℤ-*ℤ, *ℤ_right_comm}
 use Rattle.scasp_syntax.specs.Tm.{Tm, var, num, app}
 use Rattle.scasp_syntax.specs.Values.{Sub, under}
 use Rattle.scasp_syntax.specs.View.{tm_of}
 use Rattle.scasp_syntax.specs.Constraints.{is_number}
-use Rattle.scasp_syntax.specs.RowTruth.{fraction_of, sum_under, row_holds}
+use Rattle.scasp_syntax.specs.RowTruth.{row_holds}
 use Rattle.scasp_unify.specs.Unification.{then_by}
 use Rattle.scasp_unify.specs.Resolver.{unifies, resolver}
 use Rattle.scasp_unify.specs.Numbers.{counts, is_num_of, number_var}
 use Rattle.scasp_unify.specs.TermFailures.{is_refuted, fails_by_terms, is_compound}
 use Rattle.scasp_unify.specs.Sorted.{In}
-use Rattle.scasp_unify.specs.Points.{number_of, point, read_as, through}
+use Rattle.scasp_syntax.specs.RowTruth.{number_of, point}
+use Rattle.scasp_unify.specs.Points.{read_as, through}
 use Rattle.scasp_syntax.specs.declared.con.Con.{Con}
 use Rattle.scasp_syntax.specs.declared.con.Con.TheVariants as con
 use Rattle.scasp_syntax.proofs.SameLemmas.{tm_decided}
@@ -29,33 +30,12 @@ use Rattle.scasp_unify.proofs.Members.{any-out, none-in, not-false}
 
 -- ---- a row's truth under a valuation is that at its point
 
-fraction-of : (t : Tm) → ((fraction_of t).0 ≡ (number_of t).num) × ((fraction_of t).1 ≡ (number_of t).den)
-fraction-of (var x) = (refl, refl)
-fraction-of (num q) = (refl, refl)
-fraction-of (app f ts) = (refl, refl)
-
-sums-agree : (v : Sub) (c : ℤ) (ks : List Coeff) → ((sum_under v c ks).0 ≡ (row_sum (point v) ks).0 +ℤ c *ℤ (row_sum (point v) ks).1) × ((sum_under v c ks).1 ≡ (row_sum (point v) ks).1)
-sums-agree v c [] = (omega (arith, ints), refl)
-sums-agree v c (k ∷ ks) = by (sum_under v c ks).0 (sum_under v c ks).1 (fraction_of (v k.x)).0 (fraction_of (v k.x)).1 (sums-agree v c ks) (fraction-of (v k.x))
-  where
-    by : (s e n d : ℤ) → (s ≡ (row_sum (point v) ks).0 +ℤ c *ℤ (row_sum (point v) ks).1) × (e ≡ (row_sum (point v) ks).1) → (n ≡ (point v k.x).num) × (d ≡ (point v k.x).den)
-        → (((k.c *ℤ n) *ℤ e +ℤ s *ℤ d) ≡ (row_sum (point v) (k ∷ ks)).0 +ℤ c *ℤ (row_sum (point v) (k ∷ ks)).1) × ((d *ℤ e) ≡ (row_sum (point v) (k ∷ ks)).1)
-    by s e n d (a, b) (f, g) =
-        let q = point v k.x in
-        let r = row_sum (point v) ks in
-        let first : (k.c *ℤ n) *ℤ e ≡ (k.c *ℤ q.num) *ℤ r.1 = rw (f, b) refl in
-        let split : s *ℤ d ≡ r.0 *ℤ q.den +ℤ (c *ℤ r.1) *ℤ q.den = rw (a, g) (+ℤ-*ℤ r.0 (c *ℤ r.1) q.den) in
-        let moved : (c *ℤ r.1) *ℤ q.den ≡ c *ℤ (q.den *ℤ r.1) = *ℤ_right_comm c r.1 q.den ∙ *ℤ_assoc c q.den r.1 in
-        (omega (arith, ints, first, split, moved), (λ i. g i *ℤ b i))
-
 pub bridge : (v : Sub) (r : Linear) → IsTrue (row_holds v r) ↔ Holds (point v) r
-bridge v r =
-    let sum = (sums-agree v r.constant r.coeffs).0 in
-    (λ h. subst (Compares r.op) sum (compares-is r.op (sum_under v r.constant r.coeffs).0 h), λ h. compares-true r.op (sum_under v r.constant r.coeffs).0 (subst (Compares r.op) (sym sum) h))
+bridge v r = holds-decided (point v) r
 
 -- ---- a row's truth depends on its variables alone
 
-sums-same : (p q : ℕ → Number) (ks : List Coeff) → Each (λ k. p k.x ≡ q k.x) ks → row_sum p ks ≡ row_sum q ks
+pub sums-same : (p q : ℕ → Number) (ks : List Coeff) → Each (λ k. p k.x ≡ q k.x) ks → row_sum p ks ≡ row_sum q ks
 sums-same p q [] h = refl
 sums-same p q (k ∷ ks) h = λ i. (k.c *ℤ (h.0 i).num *ℤ (sums-same p q ks h.1 i).1 +ℤ (sums-same p q ks h.1 i).0 *ℤ (h.0 i).den, (h.0 i).den *ℤ (sums-same p q ks h.1 i).1)
 

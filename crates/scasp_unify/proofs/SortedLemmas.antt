@@ -15,7 +15,7 @@ use Rattle.scasp_unify.specs.Unification.{unifier}
 use Rattle.scasp_unify.specs.Numbers.{counts, is_num_of, number_var}
 use Rattle.scasp_unify.specs.TermFailures.{is_refuted, fails_by_terms}
 use Rattle.scasp_unify.specs.Sorted.{In, Sorted, apart, typed, partly, is_typed, is_typed_con}
-use Rattle.scasp_unify.specs.Points.{point}
+use Rattle.scasp_syntax.specs.RowTruth.{point}
 use Rattle.scasp_unify.specs.PointMeets.{PointMeets}
 use Rattle.scasp_syntax.specs.declared.con.Con.{Con}
 use Rattle.scasp_syntax.specs.declared.con.Con.TheVariants as con

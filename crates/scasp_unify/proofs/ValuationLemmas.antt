@@ -17,7 +17,8 @@ use Rattle.scasp_unify.specs.Numbers.{counts, is_num_of, number_var, is_number_t
 use Rattle.scasp_unify.specs.TermFailures.{is_refuted, fails_by_terms}
 use Rattle.scasp_unify.specs.Sorted.{In, Sorted, apart, typed, partly, is_typed, is_typed_con}
 use Rattle.scasp_unify.proofs.Choices.{is_named_below, are_named_below, Named, Apart, IfParts-apart, TermsHold, Choice}
-use Rattle.scasp_unify.specs.Points.{number_of, point, read_as, through}
+use Rattle.scasp_syntax.specs.RowTruth.{number_of, point}
+use Rattle.scasp_unify.specs.Points.{read_as, through}
 use Rattle.scasp_unify.specs.PointMeets.{PartsDiffer, PointMeets}
 use Rattle.scasp_syntax.specs.declared.con.Con.{Con}
 use Rattle.scasp_syntax.specs.declared.con.Con.TheVariants as con

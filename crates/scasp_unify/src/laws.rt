@@ -16,7 +16,8 @@ ghost use Rattle.scasp_syntax.specs.declared.term.Term.TheVariants.{Var as TermV
 ghost use Rattle.scasp_unify.specs.Negations.{is_con_below, negated};
 ghost use Rattle.scasp_unify.specs.Numbers.{counts};
 ghost use Rattle.scasp_unify.specs.PointMeets.{PointMeets};
-ghost use Rattle.scasp_unify.specs.Points.{point, through};
+ghost use Rattle.scasp_syntax.specs.RowTruth.{point};
+ghost use Rattle.scasp_unify.specs.Points.{through};
 ghost use Rattle.scasp_unify.specs.ResolvedRows.{resolved_row};
 ghost use Rattle.scasp_unify.specs.Unification.{Absorbs, unifier};
 ghost use Rattle.scasp_unify.specs.Resolver.{Equal, resolver, unifies};
