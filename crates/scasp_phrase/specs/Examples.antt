@@ -3,15 +3,17 @@ use Rattle.std.specs.Prelude.{◌≡◌, ℕ, List, [], ◌∷◌, codes, Option
 use Rattle.std.proofs.Common.{refl}
 use Rattle.scasp_num.specs.Gcd.{gcd, gcd_within}
 use Rattle.scasp_num.specs.Arithmetic.{number, lowest, quotient_of, product_of}
-use Rattle.scasp_syntax.specs.Tm.{num}
+use Rattle.scasp_syntax.specs.Tm.{Tm, var, num, app, nil, cons}
 use Rattle.scasp_lexis.specs.Numbers.{literal_value}
 use Rattle.scasp_lexis.specs.Tokens.{tokens_of}
 use Rattle.scasp_phrase.specs.declared.fault.Fault.{Fault}
+use Rattle.scasp_phrase.specs.declared.fault.Count.TheVariants as count
 use Rattle.scasp_phrase.specs.declared.fault.Kind.TheVariants as kind
 use Rattle.scasp_phrase.specs.Faults.{fault_at}
 use Rattle.scasp_phrase.specs.Steps.{State, start}
 use Rattle.scasp_phrase.specs.Names.{variable_at}
 use Rattle.scasp_phrase.specs.Constants.{constant}
+use Rattle.scasp_phrase.specs.Terms.{term}
 
 abbrev reader_of : List ℕ → State
 reader_of text = start (tokens_of text) []
@@ -57,3 +59,28 @@ a_known_variable = refl
 
 an_anonymous_variable : value_of (variable_at 7 (codes "_") (clause_with (codes "_" ∷ codes "Y" ∷ []))) ≡ Some 2
 an_anonymous_variable = refl
+
+-- ---- terms
+
+abbrev a_term : ℕ → List ℕ → Result (Tm × State) Fault
+a_term room text = term room (reader_of text)
+
+a_list : value_of (a_term 2 (codes "f([X,Y|Z],X).")) ≡ Some (app 0 (cons (app 1 (cons (var 0) (cons (app 1 (cons (var 1) (cons (var 2) nil))) nil))) (cons (var 0) nil)))
+unfolding tokens_of term
+a_list = refl
+
+a_bracket_too_many : fault_of (a_term 2 (codes "f(g(h(a)))")) ≡ Some (fault_at 5 (kind.Limit count.Depth))
+unfolding tokens_of term
+a_bracket_too_many = refl
+
+no_argument : fault_of (a_term 2 (codes "f()")) ≡ Some (fault_at 2 kind.Expected)
+unfolding tokens_of term
+no_argument = refl
+
+two_bars : fault_of (a_term 2 (codes "[a|b|c]")) ≡ Some (fault_at 4 kind.Expected)
+unfolding tokens_of term
+two_bars = refl
+
+a_bar_in_a_bracket : fault_of (a_term 2 (codes "[f(a|b)]")) ≡ Some (fault_at 4 kind.Unsupported)
+unfolding tokens_of term
+a_bar_in_a_bracket = refl

@@ -3,4 +3,5 @@ pub mod SameSign
 pub mod Steps
 pub mod Names
 pub mod Constants
+pub mod Terms
 pub mod Examples

@@ -4,6 +4,7 @@ ghost use Rattle.scasp_phrase.specs.declared.fault.Stop.TheVariants as stops;
 ghost use Rattle.scasp_phrase.specs.Faults.{is_limit, first_of_two};
 
 use scasp_list::Memory;
+use std::alloc::AllocFailed;
 use thiserror::Error;
 
 /// What has a limit.
@@ -85,6 +86,14 @@ impl From<Memory> for Stop {
     ghost from_gives = { λ _ stop. stop ≡ stops.Memory };
 
     fn from(_error: Memory) -> Stop {
+        Stop::Memory
+    }
+}
+
+impl<T: Drop> From<AllocFailed<T>> for Stop {
+    ghost from_gives = { λ _ stop. stop ≡ stops.Memory };
+
+    fn from(_error: AllocFailed<T>) -> Stop {
         Stop::Memory
     }
 }
