@@ -12,9 +12,10 @@ use Rattle.scasp_list.proofs.EachLemmas.{Each-append}
 use Rattle.scasp_syntax.specs.declared.con.Con.{Con}
 use Rattle.scasp_hint.specs.Sides.{differs}
 use Rattle.scasp_hint.specs.AskedRows.{RowsNormal, asked}
-use Rattle.scasp_hint.specs.Showing.{StepInRange, HintInRange}
+use Rattle.scasp_hint.specs.Showing.{HintInRange}
+use Rattle.scasp_rows.specs.Steps.{StepInRange}
 use Rattle.scasp_hint.specs.Finding.{Forced, possible, unknown, forced, with_list, side_asked, sides_asked, Found, nothing, unknown_list, hint, found_by, found_at, first_forced, found_rows, found_asked, found}
-use Rattle.scasp_hint.proofs.StepRanges.{steps-ranged}
+use Rattle.scasp_rows.proofs.StepRanges.{steps-ranged}
 use Rattle.scasp_hint.proofs.AskedLemmas.{Says, asked-says, absorbs}
 use Rattle.scasp_hint.proofs.ForcedLemmas.{Strict, SidesFine, all-fine}
 use Rattle.scasp_hint.proofs.FoundLemmas.{asked-plain}

@@ -1,15 +1,12 @@
 pub mod AskedLemmas
-pub mod BetweenLemmas
 pub mod Entailment
 pub mod ExactLemmas
 pub mod ForcedLemmas
 pub mod FoundLemmas
 pub mod HintRanges
-pub mod PlainLemmas
 pub mod RowItems
 pub mod RunLemmas
 pub mod SatisfyingLemmas
 pub mod ShownLemmas
 pub mod SidesLemmas
-pub mod StepRanges
 pub mod StrictPoints

@@ -21,11 +21,11 @@ use Rattle.scasp_unify.specs.Points.{through}
 use Rattle.scasp_syntax.specs.declared.con.Con.{Con}
 use Rattle.scasp_unify.proofs.Members.{not-false}
 use Rattle.scasp_unify.proofs.ValuationLemmas.{sorted-met, meets-point}
-use Rattle.scasp_hint.specs.PlainRows.{is_met}
+use Rattle.scasp_rows.specs.PlainRows.{is_met}
 use Rattle.scasp_hint.specs.ExactRows.{exact_rows, differing}
 use Rattle.scasp_hint.specs.Sides.{below, above}
 use Rattle.scasp_hint.specs.Satisfying.{is_side_met, is_apart, sat, HasPoint}
-use Rattle.scasp_hint.proofs.PlainLemmas.{rows-decided}
+use Rattle.scasp_rows.proofs.PlainLemmas.{rows-decided}
 use Rattle.scasp_hint.proofs.ExactLemmas.{list-from, list-to, rows-plain, differing-only}
 
 -- ---- the sides of a disequation

@@ -14,7 +14,7 @@ use Rattle.scasp_unify.specs.Unification.{unifier}
 use Rattle.scasp_syntax.specs.declared.con.Con.{Con}
 use Rattle.scasp_syntax.specs.declared.con.Con.TheVariants as con
 use Rattle.scasp_syntax.specs.declared.term.Term.TheVariants.{Var}
-use Rattle.scasp_hint.specs.PlainRows.{is_met}
+use Rattle.scasp_rows.specs.PlainRows.{is_met}
 use Rattle.scasp_hint.specs.Satisfying.{sat}
 use Rattle.scasp_hint.specs.Showing.{fault_of}
 use Rattle.scasp_hint.specs.Finding.{found, hint, nothing}

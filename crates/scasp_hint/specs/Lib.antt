@@ -2,7 +2,6 @@ pub mod AskedRows
 pub mod ExactRows
 pub mod Examples
 pub mod Finding
-pub mod PlainRows
 pub mod Satisfying
 pub mod Showing
 pub mod Sides

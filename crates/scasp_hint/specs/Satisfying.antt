@@ -7,7 +7,7 @@ use Rattle.scasp_list.specs.Each.{Each}
 use Rattle.scasp_unify.specs.TermFailures.{fails_by_terms}
 use Rattle.scasp_unify.specs.PointMeets.{PointMeets}
 use Rattle.scasp_syntax.specs.declared.con.Con.{Con}
-use Rattle.scasp_hint.specs.PlainRows.{is_met}
+use Rattle.scasp_rows.specs.PlainRows.{is_met}
 use Rattle.scasp_hint.specs.ExactRows.{exact_rows, differing}
 use Rattle.scasp_hint.specs.Sides.{below, above}
 

@@ -5,7 +5,7 @@ use Rattle.scasp_num.specs.Number.{InRange}
 use Rattle.scasp_list.specs.Each.{Each}
 use Rattle.scasp_num.specs.Linear.{Linear}
 use Rattle.scasp_rows.specs.Points.{is_false}
-use Rattle.scasp_rows.specs.Steps.{row_sum, may_step, row_numbered}
+use Rattle.scasp_rows.specs.Steps.{StepInRange, row_sum, may_step, row_numbered}
 use Rattle.scasp_unify.specs.Resolver.{resolver}
 use Rattle.scasp_syntax.specs.declared.con.Con.{Con}
 use Rattle.scasp_hint.specs.Sides.{differs}
@@ -20,9 +20,6 @@ use Rattle.scasp_syntax.specs.declared.hint.Hint.{Hint}
 use Rattle.scasp_syntax.specs.declared.hint.Hint.TheVariants as hints
 
 -- the multipliers lie from -M to M
-abbrev pub StepInRange : Step → Type 0
-StepInRange s = InRange s.a × InRange s.b
-
 abbrev pub HintInRange : Hint → Type 0
 HintInRange hints.Terms = ⊤
 HintInRange (hints.Rows steps) = Each StepInRange steps

@@ -1,12 +1,9 @@
 //! What holds of hints, and of the lists of constraints that they show to have no valuation.
-ghost use Rattle.std.specs.Prelude.{◌≡◌, ◌≢◌, ◌↔◌, ◌⊎◌, ℕ, true, false, List, ◌++◌, ◌∷◌, [], None, Err};
+ghost use Rattle.std.specs.Prelude.{◌≡◌, ◌≢◌, ◌↔◌, ◌⊎◌, ℕ, true, false, List, ◌++◌, ◌∷◌, [], None};
 ghost use Rattle.std.specs.List.{list_all};
 ghost use Rattle.scasp_list.specs.Each.{Each};
-ghost use Rattle.scasp_num.specs.Linear.{IsNormal, Linear, negation};
+ghost use Rattle.scasp_num.specs.Linear.{Linear, negation};
 ghost use Rattle.scasp_num.specs.declared.hints.Step.{Step as ThisStep};
-ghost use Rattle.scasp_rows.specs.Elimination.{elimination};
-ghost use Rattle.scasp_rows.specs.Points.{IsMet, NoDisequation};
-ghost use Rattle.scasp_rows.specs.declared.state.Halt.TheVariants as halts;
 ghost use Rattle.scasp_syntax.specs.Constraints.{Entails, Sat};
 ghost use Rattle.scasp_syntax.specs.declared.con.Con.{Con as ThisCon};
 ghost use Rattle.scasp_syntax.specs.declared.con.Con.TheVariants as con;
@@ -18,14 +15,8 @@ ghost use Rattle.scasp_unify.specs.Numbers.{counts};
 ghost use Rattle.scasp_unify.specs.Sorted.{In, Sorted};
 ghost use Rattle.scasp_hint.specs.AskedRows.{RowsNormal};
 ghost use Rattle.scasp_hint.specs.Finding.{found, hint, nothing, overflows_in, unknown_list};
-ghost use Rattle.scasp_hint.specs.PlainRows.{is_met};
 ghost use Rattle.scasp_hint.specs.Satisfying.{HasPoint, sat};
-ghost use Rattle.scasp_hint.specs.Showing.{HintInRange, StepInRange, fault_of};
-
-/// The elimination without bounds decides whether some rational point meets all the rows.
-pub fn rows_are_decided()
-    ensures { (rows : List Linear) → NoDisequation rows → is_met rows ≡ true ↔ IsMet rows }
-{}
+ghost use Rattle.scasp_hint.specs.Showing.{HintInRange, fault_of};
 
 /// A list passes the test exactly where it does not fail by terms and some rational point meets what it says of
 /// numbers. A sorted list passes it exactly where it has a valuation, and each list with a valuation passes it.
@@ -62,10 +53,9 @@ pub fn negations_are_tested()
     ensures { (cs : List ThisCon) (c : ThisCon) (k : ℕ) → list_all (is_con_below k) cs ≡ true → is_con_below k c ≡ true → Sorted (cs ++ negated k c ∷ []) → Entails cs c ↔ (sat (cs ++ negated k c ∷ []) ≡ false) }
 {}
 
-/// The multipliers of the steps that an elimination ends with lie from -M to M, and so do those of a hint that is found.
+/// The multipliers of a hint that is found lie from -M to M.
 pub fn multipliers_are_in_range()
-    ensures steps { (all : List Linear) (steps : List ThisStep) → Each IsNormal all → elimination all ≡ Err (halts.Unsat steps) → Each StepInRange steps }
-    ensures hints { (cs : List ThisCon) (h : ThisHint) → RowsNormal cs → found cs ≡ hint h → HintInRange h }
+    ensures { (cs : List ThisCon) (h : ThisHint) → RowsNormal cs → found cs ≡ hint h → HintInRange h }
 {}
 
 /// A row, and its negation, leave a list sorted where a part of it counts each of the row's variables as a number, or
