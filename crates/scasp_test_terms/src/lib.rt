@@ -10,8 +10,14 @@ mod lists;
 #[cfg(test)]
 mod names;
 #[cfg(test)]
+mod phrases;
+#[cfg(test)]
 mod programs;
 #[cfg(test)]
 mod reader;
 #[cfg(test)]
 mod terms;
+#[cfg(test)]
+mod trials;
+#[cfg(test)]
+mod unified;
