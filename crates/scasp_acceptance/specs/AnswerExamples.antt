@@ -1,5 +1,5 @@
 -- Worked cases of answers with free variables. p(X,Y) :- X #< Y. ?- p(X,Y).
-use Rattle.std.specs.Prelude.{◌≡◌, true, pos, negsuc, [], ◌∷◌, None}
+use Rattle.std.specs.Prelude.{◌≡◌, List, true, pos, negsuc, [], ◌∷◌, None}
 use Rattle.std.proofs.Common.{refl}
 use Rattle.scasp_num.specs.Arithmetic.{is_reduced, IsReduced-from_test, lowest, sum_of, product_of}
 use Rattle.scasp_num.specs.Gcd.{gcd, gcd_within}
@@ -8,6 +8,9 @@ use Rattle.scasp_num.specs.Number.{Number}
 use Rattle.scasp_num.specs.Sums.{normal_of}
 use Rattle.scasp_num.specs.declared.linear.Op.TheVariants as op
 use Rattle.scasp_rows.specs.Steps.{row_sum}
+use Rattle.scasp_syntax.specs.WellFormed.{are_well_formed}
+use Rattle.scasp_syntax.specs.declared.clause.Clause.{Clause}
+use Rattle.scasp_syntax.specs.declared.clause.Query.{Query}
 use Rattle.scasp_syntax.specs.Tm.{Tms, var, num, nil, cons}
 use Rattle.scasp_syntax.specs.declared.clause.Item.TheVariants.{Call, Linear as LinearItem}
 use Rattle.scasp_syntax.specs.declared.con.Con.TheVariants as con
@@ -32,10 +35,19 @@ less = record { coeffs = record { x = 0; c = pos 1 } ∷ record { x = 1; c = neg
 abbrev turned : Linear
 turned = record { coeffs = record { x = 0; c = negsuc 0 } ∷ record { x = 1; c = pos 1 } ∷ []; constant = pos 0; op = op.Lt }
 
+abbrev ordered_clauses : List Clause
+ordered_clauses =
+    rule 2 (atom 2 two) (LinearItem (record { vars = 0 ∷ 1 ∷ []; row = less }) ∷ []) ∷ []
+
+abbrev ordered_queries : List Query
+ordered_queries = record { body = Call (is_true (atom 2 two)) ∷ []; names = None ∷ None ∷ [] } ∷ []
+
+ordered_is_fine : are_well_formed ordered_clauses ordered_queries ≡ true
+unfolding gcd gcd_within
+ordered_is_fine = refl
+
 abbrev ordered : Program
-ordered =
-    program (rule 2 (atom 2 two) (LinearItem (record { vars = 0 ∷ 1 ∷ []; row = less }) ∷ []) ∷ [])
-    (record { body = Call (is_true (atom 2 two)) ∷ []; names = None ∷ None ∷ [] } ∷ []) refl
+ordered = program ordered_clauses ordered_queries ordered_is_fine
 
 -- the answer V1, V0: each variable of the rule stands for the other number of the answer, and the row is theirs
 abbrev crossed : Linear → Linear → Tms → Certificate

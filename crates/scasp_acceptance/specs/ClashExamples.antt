@@ -1,5 +1,5 @@
 -- A worked case of two literals that a clash line shows apart. p(X) :- 2*X #< 1. g :- Y #> 2, p(Y). h :- 2*Z #< 1, not p(Z). ?- not g, not h.
-use Rattle.std.specs.Prelude.{◌≡◌, ℕ, pos, negsuc, List, [], ◌∷◌}
+use Rattle.std.specs.Prelude.{◌≡◌, true, ℕ, pos, negsuc, List, [], ◌∷◌}
 use Rattle.std.proofs.Common.{refl}
 use Rattle.scasp_num.specs.Arithmetic.{lowest, sum_of}
 use Rattle.scasp_num.specs.Gcd.{gcd, gcd_within}
@@ -8,6 +8,9 @@ use Rattle.scasp_num.specs.Sums.{normal_of}
 use Rattle.scasp_num.specs.declared.hints.Step.{Step}
 use Rattle.scasp_num.specs.declared.linear.Op.TheVariants as op
 use Rattle.scasp_rows.specs.Steps.{row_sum}
+use Rattle.scasp_syntax.specs.WellFormed.{are_well_formed}
+use Rattle.scasp_syntax.specs.declared.clause.Clause.{Clause}
+use Rattle.scasp_syntax.specs.declared.clause.Query.{Query}
 use Rattle.scasp_syntax.specs.Tm.{Tm, var, nil, cons}
 use Rattle.scasp_syntax.specs.declared.atom.Atom.{Atom}
 use Rattle.scasp_syntax.specs.declared.clause.Item.{Item}
@@ -52,12 +55,20 @@ large x = row x (negsuc 0) (pos 2) op.Lt
 abbrev not_large : ℕ → Linear
 not_large x = row x (pos 1) (negsuc 1) op.Le
 
+abbrev ranges_apart_clauses : List Clause
+ranges_apart_clauses =
+    rule 1 (p (var 0)) (linear (small 0) ∷ [])
+    ∷ rule 1 g (linear (large 0) ∷ Call (is_true (p (var 0))) ∷ []) ∷ rule 1 h (linear (small 0) ∷ Call (is_not (p (var 0))) ∷ []) ∷ []
+
+abbrev ranges_apart_queries : List Query
+ranges_apart_queries = ask_all (is_not g ∷ is_not h ∷ []) ∷ []
+
+ranges_apart_is_fine : are_well_formed ranges_apart_clauses ranges_apart_queries ≡ true
+unfolding gcd gcd_within
+ranges_apart_is_fine = refl
+
 abbrev ranges_apart : Program
-ranges_apart =
-    program
-    (rule 1 (p (var 0)) (linear (small 0) ∷ [])
-    ∷ rule 1 g (linear (large 0) ∷ Call (is_true (p (var 0))) ∷ []) ∷ rule 1 h (linear (small 0) ∷ Call (is_not (p (var 0))) ∷ []) ∷ [])
-    (ask_all (is_not g ∷ is_not h ∷ []) ∷ []) refl
+ranges_apart = program ranges_apart_clauses ranges_apart_queries ranges_apart_is_fine
 
 -- a rule with a number, a row and a literal: the variable is no number, the row is false, or the literal
 abbrev three_cases : ℕ → Linear → Linear → Tree → Branch

@@ -1,5 +1,5 @@
 -- Worked cases of rows and hints.
-use Rattle.std.specs.Prelude.{◌≡◌, pos, negsuc, List, [], ◌∷◌, None}
+use Rattle.std.specs.Prelude.{◌≡◌, true, pos, negsuc, List, [], ◌∷◌, None}
 use Rattle.std.proofs.Common.{refl}
 use Rattle.scasp_num.specs.Arithmetic.{lowest, sum_of}
 use Rattle.scasp_num.specs.Gcd.{gcd, gcd_within}
@@ -8,6 +8,9 @@ use Rattle.scasp_num.specs.Sums.{normal_of}
 use Rattle.scasp_num.specs.declared.hints.Step.{Step}
 use Rattle.scasp_num.specs.declared.linear.Op.TheVariants as op
 use Rattle.scasp_rows.specs.Steps.{row_sum}
+use Rattle.scasp_syntax.specs.WellFormed.{are_well_formed}
+use Rattle.scasp_syntax.specs.declared.clause.Clause.{Clause}
+use Rattle.scasp_syntax.specs.declared.clause.Query.{Query}
 use Rattle.scasp_syntax.specs.Tm.{nil}
 use Rattle.scasp_syntax.specs.declared.atom.Atom.{Atom}
 use Rattle.scasp_syntax.specs.declared.clause.Item.TheVariants.{Call, Linear as LinearItem}
@@ -46,12 +49,20 @@ abbrev at_most : Linear
 at_most = row 0 (pos 2) (negsuc 2) op.Le
 
 -- q. :- 2*X #> 3, 2*X #< 3. ?- q.
+abbrev denial_clauses : List Clause
+denial_clauses =
+    rule 0 q []
+    ∷ record { head = None; body = LinearItem (record { vars = 0 ∷ []; row = above }) ∷ LinearItem (record { vars = 0 ∷ []; row = below }) ∷ []; vars = 1 } ∷ []
+
+abbrev denial_queries : List Query
+denial_queries = ask (Call (is_true q)) ∷ []
+
+denial_is_fine : are_well_formed denial_clauses denial_queries ≡ true
+unfolding gcd gcd_within
+denial_is_fine = refl
+
 abbrev denial : Program
-denial =
-    program
-    (rule 0 q []
-    ∷ record { head = None; body = LinearItem (record { vars = 0 ∷ []; row = above }) ∷ LinearItem (record { vars = 0 ∷ []; row = below }) ∷ []; vars = 1 } ∷ [])
-    (ask (Call (is_true q)) ∷ []) refl
+denial = program denial_clauses denial_queries denial_is_fine
 
 -- the whole, where these steps show its last line
 abbrev whole : List Step → Certificate
