@@ -1,8 +1,9 @@
 -- The instances of a clause depend on the values of its own variables alone.
-use Rattle.std.proofs.Common.{◌≡◌, ◌∙◌, ℕ, zero, suc, ◌<◌, Bool, true, nat_eq, nat_lt, List, [], ◌∷◌, ◌++◌, length, map, Option, Some, None, refl, ap, sym, subst, arith}
+use Rattle.std.proofs.Common.{◌&&◌, ◌≡◌, ◌∙◌, ℕ, zero, suc, ◌<◌, Bool, true, nat_eq, nat_lt, List, [], ◌∷◌, ◌++◌, length, map, Option, Some, None, refl, ap, sym, subst, arith}
 use Rattle.std.specs.List.{Contains, list_all, list_any, flat_map, filter}
 use Rattle.std.proofs.lemmas.Bool.{and_parts, and_from}
 use Rattle.std.proofs.lemmas.Bool.Decides.{Decides-eqb}
+use Rattle.scasp_num.specs.Linear.{is_normal}
 use Rattle.scasp_list.proofs.MemberLemmas.{Contains-here, Contains-map, Contains-flat_map, Contains-filter, list_any-member, list_all-member}
 use Rattle.scasp_num.specs.declared.linear.Coeff.{Coeff}
 use Rattle.scasp_syntax.specs.Constraints.{is_number}
@@ -87,7 +88,7 @@ module _ (n : ℕ) (r s : Sub) (same : (x : ℕ) → nat_lt x n ≡ true → r x
       let p = and_parts (is_below n (tm_of t)) (is_below n (tm_of u)) h in
       let a = below-same (tm_of t) p.0 in let b = below-same (tm_of u) p.1 in cc
   test-same (item.Linear l) h =
-      let p = and_parts (lists_variables l) (list_all (λ x. nat_lt x n) l.vars) h in
+      let p = and_parts (lists_variables l) (list_all (λ x. nat_lt x n) l.vars) (and_parts (lists_variables l && list_all (λ x. nat_lt x n) l.vars) (is_normal l.row) h).0 in
       let q = and_parts (ascends l.vars) (list_all (λ k. list_any (nat_eq k.x) l.vars) l.row.coeffs) p.0 in
       let a = numbers-same l.vars p.1 in
       let b : row_holds r l.row ≡ row_holds s l.row = agree-con (λ x. nat_lt x n) r s same (con.Row l.row) (coeffs-below n l.vars l.row.coeffs p.1 q.1) in cc

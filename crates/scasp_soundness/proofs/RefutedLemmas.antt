@@ -3,6 +3,7 @@ use Rattle.std.proofs.Common.{◌≡◌, ◌∙◌, ℕ, zero, suc, ◌<◌, ◌
 use Rattle.std.specs.List.{Contains, list_all, list_any}
 use Rattle.std.proofs.lemmas.Bool.{and_parts, and_from, ltb-true}
 use Rattle.std.proofs.lemmas.List.Elements.{Contains-append_cases}
+use Rattle.scasp_num.specs.Linear.{is_normal}
 use Rattle.scasp_list.specs.Each.{Each}
 use Rattle.scasp_list.proofs.MemberLemmas.{Contains-none, Contains-cases, Contains-from_map, Contains-from_filter, list_all-member, list_any-from}
 use Rattle.scasp_num.specs.declared.linear.Coeff.{Coeff}
@@ -100,7 +101,7 @@ flat-known n seen (item.Differ t u ∷ body) h c i =
     ]
 flat-known n seen (item.Linear l ∷ body) h c i =
     let p = and_parts (is_item_below n (item.Linear l)) (list_all (is_item_below n) body) h in
-    let q = and_parts (lists_variables l) (list_all (λ x. nat_lt x n) l.vars) p.0 in
+    let q = and_parts (lists_variables l) (list_all (λ x. nat_lt x n) l.vars) (and_parts (lists_variables l && list_all (λ x. nat_lt x n) l.vars) (is_normal l.row) p.0).0 in
     let r = and_parts (ascends l.vars) (list_all (λ (k : Coeff). list_any (nat_eq k.x) l.vars) l.row.coeffs) q.0 in
     elim (Contains-append_cases (map number_test (unseen seen l.vars)) (flat.Test (con.Row l.row) ∷ flat_after (seen ++ l.vars) body) (flat.Test c) i) [
       | inl j ↦
