@@ -5,7 +5,7 @@ ghost use Rattle.scasp_cert.specs.View.{tree_of, trees_of, branch_of, cover_of, 
 
 use crate::tree::{Case, Cover, Covers, Node, Nodes};
 use scasp_name::Memory;
-use scasp_syntax::{Duplicate, copy_terms};
+use scasp_syntax::{DeepCopy, copy_terms};
 use std::alloc::Global;
 
 /// A copy of a node with all that stands below it.
@@ -20,26 +20,26 @@ pub fn copy_node(alloc: Global, node: &Node) -> Result<Node, Memory>
             terms,
             children,
         } => Ok(Node::Pos {
-            atom: atom.duplicate(alloc)?,
+            atom: atom.copy(alloc)?,
             rule: *rule,
             terms: copy_terms(alloc, terms)?,
             children: copy_nodes(alloc, children)?,
         }),
         Node::Neg { atom, covers } => Ok(Node::Neg {
-            atom: atom.duplicate(alloc)?,
+            atom: atom.copy(alloc)?,
             covers: copy_covers(alloc, covers)?,
         }),
         Node::Loop { lit, at } => Ok(Node::Loop {
-            lit: lit.duplicate(alloc)?,
+            lit: lit.copy(alloc)?,
             at: *at,
         }),
         Node::Seen { lit, at } => Ok(Node::Seen {
-            lit: lit.duplicate(alloc)?,
+            lit: lit.copy(alloc)?,
             at: *at,
         }),
         Node::Test { con, hint } => Ok(Node::Test {
-            con: con.duplicate(alloc)?,
-            hint: hint.duplicate(alloc)?,
+            con: con.copy(alloc)?,
+            hint: hint.copy(alloc)?,
         }),
     }
 }
@@ -77,12 +77,12 @@ pub fn copy_case(alloc: Global, case: &Case) -> Result<Case, Memory>
 {
     match case {
         Case::Split { con, first, second } => Ok(Case::Split {
-            con: con.duplicate(alloc)?,
+            con: con.copy(alloc)?,
             first: Box::new(alloc, copy_case(alloc, first)?)?,
             second: Box::new(alloc, copy_case(alloc, second)?)?,
         }),
         Case::Void { hint } => Ok(Case::Void {
-            hint: hint.duplicate(alloc)?,
+            hint: hint.copy(alloc)?,
         }),
         Case::Leaf { item, children } => Ok(Case::Leaf {
             item: *item,

@@ -8,7 +8,7 @@ ghost use Rattle.scasp_cert.specs.View.{branch_of, covers_of, tree_of, trees_of}
 use crate::certificate::{Cert, Check, Checks, Clashes};
 use crate::tree::{Case, Cover, Covers, Node, Nodes};
 use scasp_name::Memory;
-use scasp_syntax::{Duplicate, Hint, copy_terms};
+use scasp_syntax::{DeepCopy, Hint, copy_terms};
 use std::alloc::Global;
 
 /// A copy of the certificate in which each hint is `Terms` and no clash line is left.
@@ -18,12 +18,12 @@ pub fn skeleton(alloc: Global, cert: &Cert) -> Result<Cert, Memory>
     Ok(Cert {
         query: cert.query,
         terms: copy_terms(alloc, &cert.terms)?,
-        given: cert.given.duplicate(alloc)?,
+        given: cert.given.copy(alloc)?,
         sample: copy_terms(alloc, &cert.sample)?,
         trees: bare_nodes(alloc, &cert.trees)?,
         checks: bare_checks(alloc, &cert.checks)?,
         clashes: Clashes::new(alloc),
-        map: cert.map.duplicate(alloc)?,
+        map: cert.map.copy(alloc)?,
     })
 }
 
@@ -51,25 +51,25 @@ fn bare_node(alloc: Global, node: &Node) -> Result<Node, Memory>
             terms,
             children,
         } => Ok(Node::Pos {
-            atom: atom.duplicate(alloc)?,
+            atom: atom.copy(alloc)?,
             rule: *rule,
             terms: copy_terms(alloc, terms)?,
             children: bare_nodes(alloc, children)?,
         }),
         Node::Neg { atom, covers } => Ok(Node::Neg {
-            atom: atom.duplicate(alloc)?,
+            atom: atom.copy(alloc)?,
             covers: bare_covers(alloc, covers)?,
         }),
         Node::Loop { lit, at } => Ok(Node::Loop {
-            lit: lit.duplicate(alloc)?,
+            lit: lit.copy(alloc)?,
             at: *at,
         }),
         Node::Seen { lit, at } => Ok(Node::Seen {
-            lit: lit.duplicate(alloc)?,
+            lit: lit.copy(alloc)?,
             at: *at,
         }),
         Node::Test { con, .. } => Ok(Node::Test {
-            con: con.duplicate(alloc)?,
+            con: con.copy(alloc)?,
             hint: Hint::Terms,
         }),
     }
@@ -106,7 +106,7 @@ fn bare_case(alloc: Global, case: &Case) -> Result<Case, Memory>
 {
     match case {
         Case::Split { con, first, second } => Ok(Case::Split {
-            con: con.duplicate(alloc)?,
+            con: con.copy(alloc)?,
             first: Box::new(alloc, bare_case(alloc, first)?)?,
             second: Box::new(alloc, bare_case(alloc, second)?)?,
         }),

@@ -186,10 +186,12 @@ fn accept_node(
         } => accept_pos(
             alloc, children, program, line, values, due, atom, *rule, terms,
         ),
-        _ => Err(CheckErr::Refused(Refusal {
-            at: line,
-            reason: Reason::WrongNode,
-        })),
+        Node::Neg { .. } | Node::Loop { .. } | Node::Seen { .. } | Node::Test { .. } => {
+            Err(CheckErr::Refused(Refusal {
+                at: line,
+                reason: Reason::WrongNode,
+            }))
+        }
     }
 }
 

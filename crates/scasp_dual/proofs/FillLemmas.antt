@@ -15,7 +15,7 @@ use Rattle.scasp_graph.specs.Numbering.{place_in}
 use Rattle.scasp_graph.proofs.GraphLemmas.{same_or_not}
 use Rattle.scasp_graph.proofs.NumberingLemmas.{among, among-first, are_distinct, distinct-first, no_pred, pred_at, place-below, place-at}
 use Rattle.scasp_graph.proofs.PredLemmas.{pred_is, pred_same}
-use Rattle.scasp_dual.specs.Filling.{HasPlace, empty_plan, plan_at, longer, with_rule}
+use Rattle.scasp_dual.specs.Inside.Filling.{HasPlace, empty_plan, plan_at, longer, with_rule}
 use Rattle.scasp_dual.specs.Plans.{rule_plan, rule_plans_from, plan_of, plans}
 use Rattle.scasp_dual.specs.declared.plans.Plan.{Plan}
 

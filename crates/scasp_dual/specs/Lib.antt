@@ -1,3 +1,3 @@
 pub mod Examples
-pub mod Filling
+pub mod Inside
 pub mod Plans

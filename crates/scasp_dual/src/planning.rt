@@ -1,7 +1,7 @@
 //! The rules of each predicate with their flat bodies, in order.
 ghost use Rattle.std.specs.Prelude.{◌≡◌, length, map, IfOk, OnOk};
 ghost use Rattle.scasp_syntax.specs.Programs.{predicates};
-ghost use Rattle.scasp_dual.specs.Filling.{HasPlace, empty_plan, with_rule};
+ghost use Rattle.scasp_dual.specs.Inside.Filling.{HasPlace, empty_plan, with_rule};
 ghost use Rattle.scasp_dual.specs.Plans.{plans};
 
 use crate::plans::{Plan, Plans, RulePlan};

@@ -13,11 +13,12 @@ use Rattle.scasp_syntax.specs.declared.clause.Clause.{Clause}
 use Rattle.scasp_syntax.specs.declared.clause.Query.{Query}
 use Rattle.scasp_syntax.specs.declared.predicate_map.PredMap.{PredMap}
 use Rattle.scasp_syntax.specs.declared.program.Program.{Program}
-use Rattle.scasp_graph.specs.Components.{turned, member_at, root_of, AreComponents}
-use Rattle.scasp_graph.specs.Graphs.{edge_at, EdgeIn, EndsBelow}
-use Rattle.scasp_graph.specs.Levels.{root_from, root_to, AreLevels, is_fitting, AreOdd}
+use Rattle.scasp_graph.specs.Inside.Components.{turned, member_at, root_of, AreComponents}
+use Rattle.scasp_graph.specs.Inside.Graphs.{edge_at, EdgeIn, EndsBelow}
+use Rattle.scasp_graph.specs.Inside.Levels.{root_from, root_to, AreLevels, is_fitting, AreOdd}
 use Rattle.scasp_graph.specs.Map.{entry_of}
-use Rattle.scasp_graph.specs.Numbering.{place_in, numbered_edge, root_in, entry_at, entries_from, is_odd_body, odd_from}
+use Rattle.scasp_graph.specs.Numbering.{place_in}
+use Rattle.scasp_graph.specs.Inside.Places.{numbered_edge, root_in, entry_at, entries_from, is_odd_body, odd_from}
 use Rattle.scasp_graph.specs.OddRules.{IsOddRule, AreOddRules}
 use Rattle.scasp_graph.specs.RightMap.{level_of, plus_of, comes_before, IsFirst, IsBelow, IsRightMap}
 use Rattle.scasp_graph.specs.Walks.{Walk, Reaches, stays, goes, Dependency, dependencies, Depends}

@@ -6,9 +6,9 @@ use Rattle.std.proofs.lemmas.Bool.Decides.{Decides-eqb}
 use Rattle.std.proofs.lemmas.List.{length-replicate, get_or-replicate, get_or_past}
 use Rattle.std.proofs.lemmas.List.Sums.{sum_by-cons}
 use Rattle.std.proofs.lemmas.Option.{slice_get-map, slice_get_within, slice_get-get_or, get_or_from_slice_get}
-use Rattle.scasp_graph.specs.Components.{turned, member_at, root_of, AreComponents}
-use Rattle.scasp_graph.specs.Graphs.{edge_at, EdgeIn, EdgeTo, Marks, mark_of, is_marked, odd_of, marked_count, AreBelow, AreClear, IsListed, IsReach, EndsBelow}
-use Rattle.scasp_graph.specs.Partitions.{rank_of, IsMember, AreKnown, IsSource, placed, ArePlaced}
+use Rattle.scasp_graph.specs.Inside.Components.{turned, member_at, root_of, AreComponents}
+use Rattle.scasp_graph.specs.Inside.Graphs.{edge_at, EdgeIn, EdgeTo, Marks, mark_of, is_marked, odd_of, marked_count, AreBelow, AreClear, IsListed, IsReach, EndsBelow}
+use Rattle.scasp_graph.specs.Inside.Partitions.{rank_of, IsMember, AreKnown, IsSource, placed, ArePlaced}
 use Rattle.scasp_syntax.specs.Same.{same_bool}
 use Rattle.scasp_graph.specs.Walks.{Walk, Reaches, stays, goes}
 use Rattle.scasp_graph.specs.declared.components.Member.{Member}

@@ -8,7 +8,8 @@ use Rattle.scasp_syntax.specs.WellFormed.{ascends}
 use Rattle.scasp_syntax.specs.declared.atom.Pred.{Pred}
 use Rattle.scasp_syntax.specs.declared.clause.Clause.{Clause}
 use Rattle.scasp_graph.specs.Map.{entry_of}
-use Rattle.scasp_graph.specs.Numbering.{place_in, entry_at, entries_from, is_odd_body, odd_from}
+use Rattle.scasp_graph.specs.Numbering.{place_in}
+use Rattle.scasp_graph.specs.Inside.Places.{entry_at, entries_from, is_odd_body, odd_from}
 use Rattle.scasp_graph.specs.RightMap.{pred_in}
 use Rattle.scasp_graph.specs.declared.components.Member.{Member}
 use Rattle.scasp_graph.proofs.NumberingLemmas.{among}

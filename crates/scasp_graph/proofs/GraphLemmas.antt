@@ -5,7 +5,7 @@ use Rattle.std.proofs.lemmas.Bool.{cases_Bool}
 use Rattle.std.proofs.lemmas.Bool.Decides.{Decides-eqb}
 use Rattle.std.proofs.lemmas.List.{get_or_append_left, length-set}
 use Rattle.std.proofs.Math.Seq.{get_or-append_seam}
-use Rattle.scasp_graph.specs.Graphs.{edge_at, IsLastFrom, EndsBelow, IsGraph}
+use Rattle.scasp_graph.specs.Inside.Graphs.{edge_at, IsLastFrom, EndsBelow, IsGraph}
 use Rattle.scasp_graph.specs.declared.graph.Edge.{Edge}
 use Rattle.scasp_graph.specs.declared.graph.Graph.{Graph}
 

@@ -5,9 +5,9 @@ use Rattle.std.proofs.lemmas.Bool.{true≢false, false≢true}
 use Rattle.std.proofs.lemmas.List.{length-set, length-replicate, get_or-replicate, get_or_default, get_or_past}
 use Rattle.std.proofs.lemmas.List.Sums.{sum_by-set, sum_by-le}
 use Rattle.scasp_syntax.specs.Same.{same_bool}
-use Rattle.scasp_graph.specs.Components.{member_at, root_of, AreComponents}
-use Rattle.scasp_graph.specs.Graphs.{edge_at, EndsBelow}
-use Rattle.scasp_graph.specs.Levels.{root_from, root_to, IsSettled, AreRising, AreLevels, level_sum, is_fitting, Conflicts, AreOdd}
+use Rattle.scasp_graph.specs.Inside.Components.{member_at, root_of, AreComponents}
+use Rattle.scasp_graph.specs.Inside.Graphs.{edge_at, EndsBelow}
+use Rattle.scasp_graph.specs.Inside.Levels.{root_from, root_to, IsSettled, AreRising, AreLevels, level_sum, is_fitting, Conflicts, AreOdd}
 use Rattle.scasp_graph.specs.declared.components.Member.{Member}
 use Rattle.scasp_graph.specs.declared.graph.Edge.{Edge}
 use Rattle.scasp_graph.proofs.GraphLemmas.{same_or_not, last_or_below, below_or_not}

@@ -4,9 +4,9 @@ use Rattle.std.proofs.Math.ListN.{set}
 use Rattle.std.proofs.lemmas.List.{get_or_append_left, length-set}
 use Rattle.std.proofs.lemmas.List.Sums.{sum_by-set}
 use Rattle.std.proofs.Math.Seq.{get_or-append_seam}
-use Rattle.scasp_graph.specs.Graphs.{AreBelow}
-use Rattle.scasp_graph.specs.Levels.{level_sum}
-use Rattle.scasp_graph.specs.Orders.{AreNext}
+use Rattle.scasp_graph.specs.Inside.Graphs.{AreBelow}
+use Rattle.scasp_graph.specs.Inside.Levels.{level_sum}
+use Rattle.scasp_graph.specs.Inside.Orders.{AreNext}
 use Rattle.scasp_graph.specs.declared.graph.Edge.{Edge}
 use Rattle.scasp_graph.proofs.GraphLemmas.{same_or_not, last_or_below}
 

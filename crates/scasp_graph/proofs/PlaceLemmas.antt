@@ -7,7 +7,7 @@ use mathlib.Core.Bool.{beq}
 use Rattle.scasp_syntax.specs.Same.{same_pred, same_bool}
 use Rattle.scasp_syntax.specs.contracts.atom.PredPartialEq.TheImpl.{eq-value}
 use Rattle.scasp_syntax.specs.declared.atom.Pred.{Pred}
-use Rattle.scasp_graph.specs.Growing.{with_pred}
+use Rattle.scasp_graph.specs.Inside.Growing.{with_pred}
 use Rattle.scasp_graph.specs.Numbering.{place_in}
 
 three : (a b n r : Bool) → (beq a b && (n && r)) ≡ ((same_bool a b && n) && r)

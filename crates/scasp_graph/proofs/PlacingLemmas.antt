@@ -3,9 +3,9 @@ use Rattle.std.proofs.Common.{◌≡◌, ◌∙◌, ◌⊎◌, ℕ, ◌+◌, ◌
 use Rattle.std.proofs.Math.ListN.{set}
 use Rattle.std.specs.Prelude.{is_some}
 use Rattle.std.proofs.lemmas.List.{length-set}
-use Rattle.scasp_graph.specs.Components.{member_at}
-use Rattle.scasp_graph.specs.Graphs.{Marks, mark_of, is_marked, IsListed}
-use Rattle.scasp_graph.specs.Partitions.{placed, ArePlaced}
+use Rattle.scasp_graph.specs.Inside.Components.{member_at}
+use Rattle.scasp_graph.specs.Inside.Graphs.{Marks, mark_of, is_marked, IsListed}
+use Rattle.scasp_graph.specs.Inside.Partitions.{placed, ArePlaced}
 use Rattle.scasp_graph.specs.declared.components.Member.{Member}
 use Rattle.scasp_graph.proofs.GraphLemmas.{same_or_not, last_or_below}
 

@@ -10,7 +10,7 @@ use Rattle.scasp_syntax.specs.Programs.{clause_preds, first_occurrences, predica
 use Rattle.scasp_syntax.specs.Same.{same_bool, same_pred}
 use Rattle.scasp_syntax.specs.declared.atom.Pred.{Pred}
 use Rattle.scasp_syntax.specs.declared.program.Program.{Program}
-use Rattle.scasp_graph.specs.Growing.{grown, with_pred, query_preds}
+use Rattle.scasp_graph.specs.Inside.Growing.{grown, with_pred, query_preds}
 
 pub bool_is : (a b : Bool) → same_bool a b ≡ true → a ≡ b
 bool_is true b e = sym e

@@ -7,8 +7,8 @@ use Rattle.std.proofs.lemmas.List.{get_or_append_left, length-set, get_or_defaul
 use Rattle.std.proofs.lemmas.List.Sums.{sum_by-set, sum_by-le}
 use Rattle.std.proofs.lemmas.Option.{slice_get-get_or}
 use Rattle.std.proofs.Math.Seq.{get_or-append_seam}
-use Rattle.scasp_graph.specs.Graphs.{edge_at, EdgeIn, EdgeTo, Marks, mark_of, is_marked, marked_count, AreClear, IsListed, IsReach, IsLastFrom, EndsBelow}
-use Rattle.scasp_graph.specs.Searching.{is_new, with_mark, with_node}
+use Rattle.scasp_graph.specs.Inside.Graphs.{edge_at, EdgeIn, EdgeTo, Marks, mark_of, is_marked, marked_count, AreClear, IsListed, IsReach, IsLastFrom, EndsBelow}
+use Rattle.scasp_graph.specs.Inside.Searching.{is_new, with_mark, with_node}
 use Rattle.scasp_graph.specs.Walks.{Walk, stays}
 use Rattle.scasp_graph.specs.declared.graph.Edge.{Edge}
 use Rattle.scasp_graph.proofs.WalkLemmas.{differ, walk-edge}

@@ -1,16 +1,10 @@
 pub mod Analyses
-pub mod Components
 pub mod Examples
-pub mod Graphs
-pub mod Growing
+pub mod Inside
 pub mod Judged
 pub mod Kept
-pub mod Levels
 pub mod Map
 pub mod Numbering
 pub mod OddRules
-pub mod Orders
-pub mod Partitions
 pub mod RightMap
-pub mod Searching
 pub mod Walks

@@ -3,10 +3,10 @@ ghost use Rattle.std.specs.Prelude.{◌≡◌, ◌+◌, [], ◌∷◌, ◌++◌,
 ghost use Rattle.std.specs.List.{flat_map, list_any};
 ghost use Rattle.scasp_syntax.specs.Programs.{pred_of, body_preds, predicates};
 ghost use Rattle.scasp_graph.specs.Analyses.{IsAnalysis};
-ghost use Rattle.scasp_graph.specs.Components.{turned, root_of, AreComponents};
-ghost use Rattle.scasp_graph.specs.Graphs.{EndsBelow, IsGraph};
-ghost use Rattle.scasp_graph.specs.Levels.{AreLevels, AreOdd};
-ghost use Rattle.scasp_graph.specs.Numbering.{numbered_edge, root_in, entry_at, entries_from, is_odd_body, odd_from};
+ghost use Rattle.scasp_graph.specs.Inside.Components.{turned, root_of, AreComponents};
+ghost use Rattle.scasp_graph.specs.Inside.Graphs.{EndsBelow, IsGraph};
+ghost use Rattle.scasp_graph.specs.Inside.Levels.{AreLevels, AreOdd};
+ghost use Rattle.scasp_graph.specs.Inside.Places.{numbered_edge, root_in, entry_at, entries_from, is_odd_body, odd_from};
 ghost use Rattle.scasp_graph.specs.Walks.{item_dependencies, clause_dependencies, dependencies};
 
 use crate::components::{Member, find_components};

@@ -1,9 +1,9 @@
 //! Strong components of a graph, each found by a search backwards and a search forwards from one of its nodes
 //! (Sharir 1981), among the nodes whose component is not known yet.
 ghost use Rattle.std.specs.Prelude.{◌≡◌, ◌<◌, ◌≤◌, ℕ, List, true, false, length, map, slice_index_or, MatchOption, IfOk, OnOk};
-ghost use Rattle.scasp_graph.specs.Components.{turned, AreComponents};
-ghost use Rattle.scasp_graph.specs.Graphs.{AreBelow, AreClear, IsGraph, IsListed, is_marked};
-ghost use Rattle.scasp_graph.specs.Partitions.{ArePlaced, IsPartition, IsSource};
+ghost use Rattle.scasp_graph.specs.Inside.Components.{turned, AreComponents};
+ghost use Rattle.scasp_graph.specs.Inside.Graphs.{AreBelow, AreClear, IsGraph, IsListed, is_marked};
+ghost use Rattle.scasp_graph.specs.Inside.Partitions.{ArePlaced, IsPartition, IsSource};
 ghost use Rattle.scasp_graph.specs.declared.graph.Edge.{Edge as ThisEdge};
 
 use crate::graph::{Graph, clear, differ, parity_of};

@@ -1,8 +1,8 @@
 //! Graphs whose nodes are numbers, and what can be reached in them.
 ghost use Rattle.std.specs.Prelude.{◌≡◌, ℕ, true, Some, not, ◌<◌, ◌≤◌, length, IfOk, OnOk};
-ghost use Rattle.scasp_graph.specs.Graphs.{AreBelow, AreClear, EndsBelow, IsGraph, IsListed, IsReach, is_marked, mark_of, odd_of};
+ghost use Rattle.scasp_graph.specs.Inside.Graphs.{AreBelow, AreClear, EndsBelow, IsGraph, IsListed, IsReach, is_marked, mark_of, odd_of};
 ghost use Rattle.scasp_syntax.specs.Same.{same_bool};
-ghost use Rattle.scasp_graph.specs.Searching.{with_mark, with_node};
+ghost use Rattle.scasp_graph.specs.Inside.Searching.{with_mark, with_node};
 
 use scasp_name::Memory;
 use std::alloc::Global;

@@ -1,8 +1,8 @@
 //! Levels of components, and the components with an odd closed walk.
 ghost use Rattle.std.specs.Prelude.{◌≡◌, ◌<◌, ℕ, true, false, length, IfOk};
-ghost use Rattle.scasp_graph.specs.Components.{AreComponents};
-ghost use Rattle.scasp_graph.specs.Graphs.{AreBelow, EndsBelow, IsGraph};
-ghost use Rattle.scasp_graph.specs.Levels.{AreRising, IsSettled, AreLevels, AreOdd, level_sum};
+ghost use Rattle.scasp_graph.specs.Inside.Components.{AreComponents};
+ghost use Rattle.scasp_graph.specs.Inside.Graphs.{AreBelow, EndsBelow, IsGraph};
+ghost use Rattle.scasp_graph.specs.Inside.Levels.{AreRising, IsSettled, AreLevels, AreOdd, level_sum};
 
 use crate::components::Member;
 use crate::graph::{Edge, Graph, differ};

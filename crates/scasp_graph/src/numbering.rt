@@ -1,6 +1,6 @@
 //! Predicates and their places, found by hashing.
 ghost use Rattle.std.specs.Prelude.{◌≡◌, [], length, IfOk, OnOk};
-ghost use Rattle.scasp_graph.specs.Growing.{with_pred};
+ghost use Rattle.scasp_graph.specs.Inside.Growing.{with_pred};
 ghost use Rattle.scasp_graph.specs.Numbering.{place_in};
 
 use indexmap::IndexSet;

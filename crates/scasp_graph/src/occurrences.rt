@@ -2,7 +2,7 @@
 ghost use Rattle.std.specs.Prelude.{◌≡◌, IfOk, OnOk};
 ghost use Rattle.std.specs.List.{flat_map};
 ghost use Rattle.scasp_syntax.specs.Programs.{body_preds, clause_preds, predicates};
-ghost use Rattle.scasp_graph.specs.Growing.{grown, query_preds};
+ghost use Rattle.scasp_graph.specs.Inside.Growing.{grown, query_preds};
 
 use crate::numbering::Numbering;
 use scasp_name::Memory;

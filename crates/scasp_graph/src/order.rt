@@ -1,8 +1,8 @@
 //! The order in which a depth-first search leaves the nodes of a graph. What is proved of it is only that these are
 //! nodes: it decides the time that other functions take, and none of their answers.
 ghost use Rattle.std.specs.Prelude.{◌≡◌, ◌⊎◌, ◌<◌, ◌++◌, ◌∷◌, [], length, IfOk, OnOk};
-ghost use Rattle.scasp_graph.specs.Graphs.{AreBelow, IsGraph};
-ghost use Rattle.scasp_graph.specs.Orders.{AreNext};
+ghost use Rattle.scasp_graph.specs.Inside.Graphs.{AreBelow, IsGraph};
+ghost use Rattle.scasp_graph.specs.Inside.Orders.{AreNext};
 
 use crate::graph::Graph;
 use scasp_name::Memory;

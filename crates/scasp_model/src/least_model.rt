@@ -9,7 +9,7 @@ use crate::atoms::{among, has_all};
 use crate::program::{AtomList, DefiniteRules, GroundProgram};
 use crate::reduct::definite;
 use scasp_name::Memory;
-use scasp_syntax::{Duplicate, Lits, Sequence};
+use scasp_syntax::{DeepCopy, Lits, Sequence};
 use std::alloc::Global;
 
 /// Whether the body has no `not`.
@@ -56,10 +56,10 @@ pub fn least_of(alloc: Global, rules: &DefiniteRules) -> Result<AtomList, Memory
 fn round(alloc: Global, rules: &DefiniteRules, present: &AtomList) -> Result<AtomList, Memory>
     ensures { IfOk result (λ atoms. atoms ≡ round rules.now present.now) }
 {
-    let mut atoms = present.duplicate(alloc)?;
+    let mut atoms = present.copy(alloc)?;
     for rule in rules.as_slice() {
         if has_all(alloc, present, &rule.body)? && !among(alloc, &atoms, &rule.head)? {
-            atoms.push(rule.head.duplicate(alloc)?)?;
+            atoms.push(rule.head.copy(alloc)?)?;
         }
     }
     Ok(atoms)

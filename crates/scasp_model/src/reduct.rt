@@ -6,7 +6,7 @@ ghost use Rattle.scasp_model.specs.Reduct.{definite, reduct};
 use crate::atoms::among;
 use crate::program::{AtomList, DefiniteRule, DefiniteRules, GroundProgram};
 use scasp_name::Memory;
-use scasp_syntax::{Duplicate, Lits, Sequence};
+use scasp_syntax::{DeepCopy, Lits, Sequence};
 use std::alloc::Global;
 
 /// Whether the body has `not` before an atom of the list.
@@ -28,7 +28,7 @@ fn positive_atoms(alloc: Global, body: &Lits) -> Result<AtomList, Memory>
     let mut atoms = Sequence::new(alloc);
     for literal in body.as_slice() {
         if literal.positive {
-            atoms.push(literal.atom.duplicate(alloc)?)?;
+            atoms.push(literal.atom.copy(alloc)?)?;
         }
     }
     Ok(atoms)
@@ -41,7 +41,7 @@ pub fn definite(alloc: Global, g: &GroundProgram) -> Result<DefiniteRules, Memor
     let mut rules = Sequence::new(alloc);
     for clause in g.as_slice() {
         if let Some(head) = &clause.head {
-            let head = head.duplicate(alloc)?;
+            let head = head.copy(alloc)?;
             let body = positive_atoms(alloc, &clause.body)?;
             rules.push(DefiniteRule { head, body })?;
         }
@@ -59,7 +59,7 @@ pub fn reduct(alloc: Global, g: &GroundProgram, m: &AtomList) -> Result<Definite
             continue;
         }
         if let Some(head) = &clause.head {
-            let head = head.duplicate(alloc)?;
+            let head = head.copy(alloc)?;
             let body = positive_atoms(alloc, &clause.body)?;
             rules.push(DefiniteRule { head, body })?;
         }

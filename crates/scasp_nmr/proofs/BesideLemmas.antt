@@ -9,7 +9,7 @@ use Rattle.scasp_syntax.specs.declared.clause.Clause.{Clause}
 use Rattle.scasp_syntax.specs.declared.program.Program.{Program}
 use Rattle.scasp_graph.specs.Analyses.{IsAnalysis, is_checked}
 use Rattle.scasp_graph.specs.declared.analysis.Analysis.{Analysis}
-use Rattle.scasp_nmr.specs.Beside.{begins_with, behind}
+use Rattle.scasp_nmr.specs.Inside.Beside.{begins_with, behind}
 use Rattle.scasp_nmr.specs.Checks.{checks_from}
 use Rattle.scasp_nmr.specs.declared.items.CheckItem.{CheckItem}
 

@@ -1,3 +1,3 @@
-pub mod Beside
 pub mod Checks
 pub mod Examples
+pub mod Inside

@@ -2,7 +2,7 @@
 ghost use Rattle.std.specs.Prelude.{◌≡◌, map, IfOk};
 ghost use Rattle.scasp_graph.specs.Analyses.{IsAnalysis};
 ghost use Rattle.scasp_graph.specs.Map.{MapHolds};
-ghost use Rattle.scasp_nmr.specs.Beside.{begins_with, behind};
+ghost use Rattle.scasp_nmr.specs.Inside.Beside.{begins_with, behind};
 ghost use Rattle.scasp_nmr.specs.Checks.{checks_of, clause_in};
 
 use crate::items::{CheckItem, CheckItems};

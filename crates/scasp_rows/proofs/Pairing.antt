@@ -15,7 +15,7 @@ use Rattle.scasp_rows.specs.declared.state.State.{State}
 use Rattle.scasp_rows.specs.Points.{is_constant, is_false}
 use Rattle.scasp_rows.specs.Steps.{row_sum}
 use Rattle.scasp_rows.specs.Elimination.{Ends, and_then, looked, sum_looked, met, paired, all_paired, limited}
-use Rattle.scasp_rows.specs.Outlooks.{meeting, outlook_of, met_outlook, or_later, paired_outlook, all_paired_outlook, stepped, paired_steps, all_paired_steps}
+use Rattle.scasp_rows.specs.Inside.Outlooks.{meeting, outlook_of, met_outlook, or_later, paired_outlook, all_paired_outlook, stepped, paired_steps, all_paired_steps}
 
 -- the state without its rows
 abbrev bare : State → State

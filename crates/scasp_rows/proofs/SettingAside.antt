@@ -15,7 +15,7 @@ use Rattle.scasp_rows.specs.declared.state.Standing.{Standing}
 use Rattle.scasp_rows.specs.declared.state.State.{State}
 use Rattle.scasp_rows.specs.Elimination.{Ends, and_then, factor, first_equation, has_sign, solves, without}
 use Rattle.scasp_rows.specs.Samples.{between, bound, bound_with, by_solution, solution_of, tighter, value_for, values_from, with_value_for}
-use Rattle.scasp_rows.specs.Asides.{asides_from, rows_having, valued}
+use Rattle.scasp_rows.specs.Inside.Asides.{asides_from, rows_having, valued}
 
 and-not : (b c : Bool) → c ≡ true → (b && not c) ≡ false
 and-not true c e = ap not e

@@ -2,7 +2,7 @@
 ghost use Rattle.std.specs.Prelude.{◌≡◌, ◌≢◌, ◌*ℤ◌, neg_ℤ, [], ◌∷◌, None, IfOk, pos};
 ghost use Rattle.std.specs.Result.{result_ok};
 ghost use Rattle.scasp_rows.specs.Steps.{whole};
-ghost use Rattle.scasp_rows.specs.Asides.{asides_from, rows_having, valued};
+ghost use Rattle.scasp_rows.specs.Inside.Asides.{asides_from, rows_having, valued};
 ghost use Rattle.scasp_rows.specs.Elimination.{Ends, factor};
 ghost use Rattle.scasp_rows.specs.Samples.{between, bound, bound_with, by_solution, is_less, middle, over, plus_product, plus_term, solution_of, sum_with, tighter, value_for, value_in, values_from, with_value_for, zero_number};
 

@@ -4,7 +4,7 @@ ghost use Rattle.std.specs.Option.{option_copied};
 ghost use Rattle.scasp_list.specs.Each.{Each};
 ghost use Rattle.scasp_num.specs.Linear.{IsNormal};
 ghost use Rattle.scasp_rows.specs.Elimination.{Ends, all_looked, all_paired, and_then, by_bounds, eliminated, elimination, first_equation, limited, looked, made, met, others, paired, placed, replaced, rows_with, solved, variables, with_terms, without};
-ghost use Rattle.scasp_rows.specs.Outlooks.{all_paired_outlook, all_paired_steps};
+ghost use Rattle.scasp_rows.specs.Inside.Outlooks.{all_paired_outlook, all_paired_steps};
 ghost use Rattle.scasp_rows.specs.declared.state.State.{State as ThisState};
 
 use crate::indexed::Indexed;

@@ -21,7 +21,7 @@ pub struct RowKey {
 }
 
 impl PartialEq for RowKey {
-    ghost use Rattle.scasp_rows.specs.Keys.{rows_equivalent};
+    ghost use Rattle.scasp_rows.specs.Inside.Keys.{rows_equivalent};
     ghost use Rattle.std.specs.Cmp.{partial_equiv_from_equiv};
 
     ghost eq = { λ a b. same_row b.row a.row };
@@ -34,13 +34,13 @@ impl PartialEq for RowKey {
 }
 
 impl Eq for RowKey {
-    ghost use Rattle.scasp_rows.specs.Keys.{rows_equivalent};
+    ghost use Rattle.scasp_rows.specs.Inside.Keys.{rows_equivalent};
 
     ghost laws = { rows_equivalent (λ a. a.row) };
 }
 
 impl Hash for RowKey {
-    ghost use Rattle.scasp_rows.specs.Keys.{row_writes, writes-same};
+    ghost use Rattle.scasp_rows.specs.Inside.Keys.{row_writes, writes-same};
 
     ghost hash_input = { λ a. row_writes a.row };
 

@@ -1,7 +1,7 @@
 //! Pairs of a lower and an upper row: how their sums end an elimination, whatever rows stand.
 ghost use Rattle.std.specs.Prelude.{◌≡◌, IfOk};
 ghost use Rattle.scasp_rows.specs.Elimination.{Ends};
-ghost use Rattle.scasp_rows.specs.Outlooks.{all_paired_outlook, all_paired_steps, meeting, met_outlook, outlook_of, paired_outlook, paired_steps, stepped};
+ghost use Rattle.scasp_rows.specs.Inside.Outlooks.{all_paired_outlook, all_paired_steps, meeting, met_outlook, outlook_of, paired_outlook, paired_steps, stepped};
 ghost use Rattle.scasp_rows.specs.Steps.{row_sum};
 
 use crate::range::{has_variable, sum_fits};

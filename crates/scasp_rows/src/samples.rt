@@ -4,7 +4,7 @@ ghost use Rattle.scasp_list.specs.Each.{Each};
 ghost use Rattle.scasp_num.specs.Linear.{Gives, IsNormal};
 ghost use Rattle.scasp_rows.specs.Elimination.{Ends};
 ghost use Rattle.scasp_rows.specs.Points.{NoDisequation, RationalPoint};
-ghost use Rattle.scasp_rows.specs.Sampled.{Samples, sample_answer};
+ghost use Rattle.scasp_rows.specs.Inside.Sampled.{Samples, sample_answer};
 ghost use Rattle.scasp_rows.specs.Samples.{alternatives, first_met, first_of, found, if_some, point_of, sample_of, strict, with_all, MeetsBoth, OnlyDisequations, value_in};
 
 use crate::backward::values_from;

@@ -54,7 +54,7 @@ impl From<Memory> for Halt {
 }
 
 impl From<RowErr> for Halt {
-    ghost use Rattle.scasp_rows.specs.Halting.{IsHalt};
+    ghost use Rattle.scasp_rows.specs.Inside.Halting.{IsHalt};
 
     ghost from_gives = { IsHalt };
 

@@ -37,48 +37,48 @@ pub fn copy_terms(alloc: Global, terms: &Terms) -> Result<Terms, Memory>
 }
 
 /// A value of which copies are made with an allocator's memory.
-pub trait Duplicate {
+pub trait DeepCopy {
     /// A copy of the value.
-    fn duplicate(&self, alloc: Global) -> Result<Self, Memory>
+    fn copy(&self, alloc: Global) -> Result<Self, Memory>
         ensures { IfOk result (λ copied. copied ≡ self.now) };
 }
 
-impl Duplicate for u64 {
-    fn duplicate(&self, _alloc: Global) -> Result<u64, Memory> {
+impl DeepCopy for u64 {
+    fn copy(&self, _alloc: Global) -> Result<u64, Memory> {
         Ok(*self)
     }
 }
 
-impl Duplicate for PredMap {
-    fn duplicate(&self, _alloc: Global) -> Result<PredMap, Memory> {
+impl DeepCopy for PredMap {
+    fn copy(&self, _alloc: Global) -> Result<PredMap, Memory> {
         Ok(*self)
     }
 }
 
-impl Duplicate for Option<NameId> {
-    fn duplicate(&self, _alloc: Global) -> Result<Option<NameId>, Memory> {
+impl DeepCopy for Option<NameId> {
+    fn copy(&self, _alloc: Global) -> Result<Option<NameId>, Memory> {
         Ok(*self)
     }
 }
 
-impl Duplicate for Term {
-    fn duplicate(&self, alloc: Global) -> Result<Term, Memory> {
+impl DeepCopy for Term {
+    fn copy(&self, alloc: Global) -> Result<Term, Memory> {
         copy(alloc, self)
     }
 }
 
-impl<T: Duplicate + Drop> Duplicate for Sequence<T> {
-    fn duplicate(&self, alloc: Global) -> Result<Sequence<T>, Memory> {
+impl<T: DeepCopy + Drop> DeepCopy for Sequence<T> {
+    fn copy(&self, alloc: Global) -> Result<Sequence<T>, Memory> {
         let mut copied = Sequence::new(alloc);
         for item in self.as_slice() {
-            copied.push(item.duplicate(alloc)?)?;
+            copied.push(item.copy(alloc)?)?;
         }
         Ok(copied)
     }
 }
 
-impl Duplicate for Atom {
-    fn duplicate(&self, alloc: Global) -> Result<Atom, Memory> {
+impl DeepCopy for Atom {
+    fn copy(&self, alloc: Global) -> Result<Atom, Memory> {
         Ok(Atom {
             minus: self.minus,
             name: self.name,
@@ -87,17 +87,17 @@ impl Duplicate for Atom {
     }
 }
 
-impl Duplicate for Lit {
-    fn duplicate(&self, alloc: Global) -> Result<Lit, Memory> {
+impl DeepCopy for Lit {
+    fn copy(&self, alloc: Global) -> Result<Lit, Memory> {
         Ok(Lit {
             positive: self.positive,
-            atom: self.atom.duplicate(alloc)?,
+            atom: self.atom.copy(alloc)?,
         })
     }
 }
 
-impl Duplicate for Con {
-    fn duplicate(&self, alloc: Global) -> Result<Con, Memory> {
+impl DeepCopy for Con {
+    fn copy(&self, alloc: Global) -> Result<Con, Memory> {
         match self {
             Con::Eq(left, right) => Ok(Con::Eq(copy(alloc, left)?, copy(alloc, right)?)),
             Con::Neq(left, right) => Ok(Con::Neq(copy(alloc, left)?, copy(alloc, right)?)),
@@ -109,8 +109,8 @@ impl Duplicate for Con {
     }
 }
 
-impl Duplicate for Hint {
-    fn duplicate(&self, _alloc: Global) -> Result<Hint, Memory> {
+impl DeepCopy for Hint {
+    fn copy(&self, _alloc: Global) -> Result<Hint, Memory> {
         match self {
             Hint::Terms => Ok(Hint::Terms),
             Hint::Rows(steps) => Ok(Hint::Rows(steps.clone()?)),
@@ -119,67 +119,67 @@ impl Duplicate for Hint {
     }
 }
 
-impl Duplicate for Lin {
-    fn duplicate(&self, alloc: Global) -> Result<Lin, Memory> {
+impl DeepCopy for Lin {
+    fn copy(&self, alloc: Global) -> Result<Lin, Memory> {
         Ok(Lin {
-            vars: self.vars.duplicate(alloc)?,
+            vars: self.vars.copy(alloc)?,
             row: self.row.clone()?,
         })
     }
 }
 
-impl Duplicate for Item {
-    fn duplicate(&self, alloc: Global) -> Result<Item, Memory> {
+impl DeepCopy for Item {
+    fn copy(&self, alloc: Global) -> Result<Item, Memory> {
         match self {
-            Item::Call(literal) => Ok(Item::Call(literal.duplicate(alloc)?)),
+            Item::Call(literal) => Ok(Item::Call(literal.copy(alloc)?)),
             Item::Equal(left, right) => Ok(Item::Equal(copy(alloc, left)?, copy(alloc, right)?)),
             Item::Differ(left, right) => Ok(Item::Differ(copy(alloc, left)?, copy(alloc, right)?)),
-            Item::Linear(linear) => Ok(Item::Linear(linear.duplicate(alloc)?)),
+            Item::Linear(linear) => Ok(Item::Linear(linear.copy(alloc)?)),
         }
     }
 }
 
-impl Duplicate for FlatItem {
-    fn duplicate(&self, alloc: Global) -> Result<FlatItem, Memory> {
+impl DeepCopy for FlatItem {
+    fn copy(&self, alloc: Global) -> Result<FlatItem, Memory> {
         match self {
-            FlatItem::Call(literal) => Ok(FlatItem::Call(literal.duplicate(alloc)?)),
-            FlatItem::Test(test) => Ok(FlatItem::Test(test.duplicate(alloc)?)),
+            FlatItem::Call(literal) => Ok(FlatItem::Call(literal.copy(alloc)?)),
+            FlatItem::Test(test) => Ok(FlatItem::Test(test.copy(alloc)?)),
         }
     }
 }
 
-impl Duplicate for Option<Atom> {
-    fn duplicate(&self, alloc: Global) -> Result<Option<Atom>, Memory> {
+impl DeepCopy for Option<Atom> {
+    fn copy(&self, alloc: Global) -> Result<Option<Atom>, Memory> {
         match self {
-            Some(atom) => Ok(Some(atom.duplicate(alloc)?)),
+            Some(atom) => Ok(Some(atom.copy(alloc)?)),
             None => Ok(None),
         }
     }
 }
 
-impl Duplicate for Clause {
-    fn duplicate(&self, alloc: Global) -> Result<Clause, Memory> {
+impl DeepCopy for Clause {
+    fn copy(&self, alloc: Global) -> Result<Clause, Memory> {
         Ok(Clause {
-            head: self.head.duplicate(alloc)?,
-            body: self.body.duplicate(alloc)?,
+            head: self.head.copy(alloc)?,
+            body: self.body.copy(alloc)?,
             vars: self.vars,
         })
     }
 }
 
-impl Duplicate for Query {
-    fn duplicate(&self, alloc: Global) -> Result<Query, Memory> {
+impl DeepCopy for Query {
+    fn copy(&self, alloc: Global) -> Result<Query, Memory> {
         Ok(Query {
-            body: self.body.duplicate(alloc)?,
-            names: self.names.duplicate(alloc)?,
+            body: self.body.copy(alloc)?,
+            names: self.names.copy(alloc)?,
         })
     }
 }
 
-impl Duplicate for Program {
-    fn duplicate(&self, alloc: Global) -> Result<Program, Memory> {
-        let clauses = self.clauses.duplicate(alloc)?;
-        let queries = self.queries.duplicate(alloc)?;
+impl DeepCopy for Program {
+    fn copy(&self, alloc: Global) -> Result<Program, Memory> {
+        let clauses = self.clauses.copy(alloc)?;
+        let queries = self.queries.copy(alloc)?;
         Ok(Program { clauses, queries })
     }
 }

@@ -58,7 +58,9 @@ fn has_same_head(first: &Term, second: &Term) -> bool
         (Term::Var(x), Term::Var(y)) => x == y,
         (Term::Num(left), Term::Num(right)) => left == right,
         (Term::App(left, _), Term::App(right, _)) => left == right,
-        _ => false,
+        (Term::Var(_), Term::Num(_) | Term::App(..))
+        | (Term::Num(_), Term::Var(_) | Term::App(..))
+        | (Term::App(..), Term::Var(_) | Term::Num(_)) => false,
     }
 }
 

@@ -7,7 +7,7 @@ ghost use Rattle.scasp_syntax.specs.declared.con.Con.TheVariants as con;
 
 use crate::clause::{Clause, FlatItem, FlatItems, Item, Items, Lin};
 use crate::con::Con;
-use crate::copies::{Duplicate, copy};
+use crate::copies::{DeepCopy, copy};
 use crate::lists::VarList;
 use crate::term::Term;
 use scasp_name::Memory;
@@ -29,7 +29,7 @@ pub fn flat_items(alloc: Global, body: &Items) -> Result<FlatItems, Memory>
     let mut seen = VarList::new(alloc);
     for item in body.as_slice() {
         match item {
-            Item::Call(lit) => items.push(FlatItem::Call(lit.duplicate(alloc)?))?,
+            Item::Call(lit) => items.push(FlatItem::Call(lit.copy(alloc)?))?,
             Item::Equal(left, right) => {
                 items.push(FlatItem::Test(Con::Eq(copy(alloc, left)?, copy(alloc, right)?)))?;
             }

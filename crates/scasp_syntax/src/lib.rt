@@ -23,7 +23,7 @@ pub use clause::{
     Clause, Clauses, FlatItem, FlatItems, Item, Items, Lin, Queries, Query, VarNames,
 };
 pub use con::{Con, ConLists, Cons};
-pub use copies::{Duplicate, copy, copy_terms};
+pub use copies::{DeepCopy, copy, copy_terms};
 pub use equality::{same, same_atom, same_lit, same_terms};
 pub use flat_bodies::{flat, flat_items};
 pub use groundness::{are_ground, is_ground};

@@ -7,7 +7,7 @@ ghost use Rattle.scasp_syntax.specs.WellFormed.{is_clause_well_formed};
 use scasp_name::{Memory, NameId};
 use scasp_num::{Op, Rat, RatPair, RatPairs, Row};
 use scasp_syntax::{
-    Atom, Clause, Con, Duplicate, FlatItem, Hint, Item, Lin, Lit, PredMap, Program, Sequence, Term,
+    Atom, Clause, Con, DeepCopy, FlatItem, Hint, Item, Lin, Lit, PredMap, Program, Sequence, Term,
     Terms, flat,
 };
 use std::alloc::Global;
@@ -53,7 +53,7 @@ fn programs_are_copied(rt: HostRuntime) -> Result<(), Fail> {
         clauses,
         queries: Sequence::new(alloc),
     };
-    let copied = program.duplicate(alloc)?;
+    let copied = program.copy(alloc)?;
     assert!(rt; copied.clause(0).is_none());
     assert!(rt; copied.clause(2).is_none());
     assert!(rt; copied.query(1).is_none());
@@ -75,11 +75,11 @@ fn other_values_are_copied(rt: HostRuntime) -> Result<(), Fail> {
         level: 4,
         plus: true,
     })?;
-    let copied = map.duplicate(alloc)?;
+    let copied = map.copy(alloc)?;
     assert_eq!(rt; copied.get(0).copied(), map.get(0).copied());
     let test = FlatItem::Test(Con::Num(Term::Var(0)));
-    assert!(rt; matches!(&test.duplicate(alloc)?, FlatItem::Test(Con::Num(_))));
-    assert!(rt; matches!(&Hint::Terms.duplicate(alloc)?, Hint::Terms));
+    assert!(rt; matches!(&test.copy(alloc)?, FlatItem::Test(Con::Num(_))));
+    assert!(rt; matches!(&Hint::Terms.copy(alloc)?, Hint::Terms));
     Ok(())
 }
 

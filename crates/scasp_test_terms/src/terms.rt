@@ -6,7 +6,7 @@ ghost use Rattle.scasp_syntax.specs.View.{tm_of};
 use scasp_name::{Memory, NameId};
 use scasp_num::Rat;
 use scasp_syntax::{
-    Atom, Duplicate, Lit, Term, Terms, are_ground, copy, instance_atom, is_ground, rename, same,
+    Atom, DeepCopy, Lit, Term, Terms, are_ground, copy, instance_atom, is_ground, rename, same,
     same_atom, same_lit, size,
 };
 use std::alloc::Global;
@@ -85,7 +85,7 @@ fn literals_are_copied_and_compared(rt: HostRuntime) -> Result<(), Fail> {
     let alloc = rt.alloc();
     let positive = literal(alloc, true)?;
     let negative = literal(alloc, false)?;
-    assert!(rt; same_lit(alloc, &positive, &positive.duplicate(alloc)?)?);
+    assert!(rt; same_lit(alloc, &positive, &positive.copy(alloc)?)?);
     assert!(rt; !same_lit(alloc, &positive, &negative)?);
     Ok(())
 }

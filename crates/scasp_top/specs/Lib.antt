@@ -1,10 +1,10 @@
-pub mod Words
-pub mod Texts
-pub mod Runs
+pub mod Codes
+pub mod Examples
+pub mod Inside
 pub mod Outputs
 pub mod Reports
-pub mod Codes
-pub mod Commands
-pub mod Examples
 pub mod RunExamples
+pub mod Runs
+pub mod Texts
+pub mod Words
 pub mod WrittenAnswers

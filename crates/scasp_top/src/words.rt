@@ -2,7 +2,7 @@
 
 ghost use Rattle.std.specs.Prelude.{◌≡◌, Some, None, IfOk, IsErrOf, map, string_bytes};
 ghost use Rattle.scasp_top.specs.Words.{file_of};
-ghost use Rattle.scasp_top.specs.Commands.{file_named};
+ghost use Rattle.scasp_top.specs.Inside.Commands.{file_named};
 
 use scasp_name::Memory;
 use std::alloc::{AllocError, Global};

@@ -8,7 +8,7 @@ ghost use Rattle.scasp_written.specs.Views.{level_of, opened_of, above_of, state
 
 use scasp_cert::{Node, Nodes, copy_nodes};
 use scasp_name::Memory;
-use scasp_syntax::{Atom, Duplicate, Items, Terms, copy_terms};
+use scasp_syntax::{Atom, DeepCopy, Items, Terms, copy_terms};
 use std::alloc::Global;
 
 /// A list of nodes in the making: the trees that are done, and the items that are still to be shown.
@@ -40,7 +40,7 @@ pub fn copy_goals(alloc: Global, goals: &Goals) -> Result<Goals, Memory>
 {
     Ok(Goals {
         done: copy_nodes(alloc, &goals.done)?,
-        todo: goals.todo.duplicate(alloc)?,
+        todo: goals.todo.copy(alloc)?,
     })
 }
 
@@ -48,7 +48,7 @@ fn copy_frame(alloc: Global, frame: &Frame) -> Result<Frame, Memory>
     ensures { IfOk result (λ copied. opened_of copied ≡ opened_of frame.now) }
 {
     Ok(Frame {
-        atom: frame.atom.duplicate(alloc)?,
+        atom: frame.atom.copy(alloc)?,
         rule: frame.rule,
         terms: copy_terms(alloc, &frame.terms)?,
         outer: copy_goals(alloc, &frame.outer)?,

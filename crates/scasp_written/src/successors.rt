@@ -9,7 +9,7 @@ ghost use Rattle.scasp_written.specs.Views.{opened_of, above_of, state_of, state
 use crate::position::{Frame, Goals, Position, close, copy_frames, with_frame};
 use scasp_cert::{Nodes, copy_nodes};
 use scasp_name::Memory;
-use scasp_syntax::{Atom, Clause, Duplicate, Item, Items, Lit, Terms, same_atom};
+use scasp_syntax::{Atom, Clause, DeepCopy, Item, Items, Lit, Terms, same_atom};
 use std::alloc::Global;
 
 /// Whether a clause with this head is a rule of the atom.
@@ -47,7 +47,7 @@ fn copy_items(alloc: Global, items: &[Item]) -> Result<Items, Memory>
 {
     let mut copied = Items::new(alloc);
     for item in items {
-        copied.push(item.duplicate(alloc)?)?;
+        copied.push(item.copy(alloc)?)?;
     }
     Ok(copied)
 }
@@ -63,7 +63,7 @@ fn opened(
     ensures { IfOk result (λ frame. opened_of frame ≡ opened (state_of position.now) atom.now items.now rule) }
 {
     Ok(Frame {
-        atom: atom.duplicate(alloc)?,
+        atom: atom.copy(alloc)?,
         rule,
         terms: Terms::new(alloc),
         outer: Goals {
@@ -88,7 +88,7 @@ fn entered(
     let frames = with_frame(copy_frames(alloc, &position.frames)?, frame)?;
     let goals = Goals {
         done: Nodes::new(alloc),
-        todo: clause.body.duplicate(alloc)?,
+        todo: clause.body.copy(alloc)?,
     };
     close(goals, frames)
 }

@@ -5,7 +5,7 @@ use crate::position::{Frame, Goals, Position, close};
 use crate::walk::first_event;
 use scasp_cert::{Cert, Nodes};
 use scasp_name::Memory;
-use scasp_syntax::{Clauses, Duplicate, Program};
+use scasp_syntax::{Clauses, DeepCopy, Program};
 use std::alloc::Global;
 
 /// What a search meets.
@@ -58,13 +58,13 @@ impl Written {
         };
         let goals = Goals {
             done: Nodes::new(alloc),
-            todo: asked.body.duplicate(alloc)?,
+            todo: asked.body.copy(alloc)?,
         };
         let mut waiting = Vec::new(alloc);
         waiting.push(close(goals, Vec::new(alloc))?)?;
         Ok(Written {
             alloc,
-            clauses: program.clauses.duplicate(alloc)?,
+            clauses: program.clauses.copy(alloc)?,
             query,
             budget,
             calls: 0,

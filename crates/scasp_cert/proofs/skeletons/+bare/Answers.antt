@@ -19,7 +19,7 @@ bare_case-returns-in_ok-bare_nodes-in-Head t c =
 
 pub bare_node-returns-in_ok-bare_nodes-in-Pos : goal.bare_node-returns-in_ok-bare_nodes-in-Pos
 bare_node-returns-in_ok-bare_nodes-in-Pos t c =
-    let atom = c.in_ok-duplicate-in-Pos in
+    let atom = c.in_ok-copy-in-Pos in
     let terms = c.in_ok-copy_terms-in-Pos in
     let made = c.in_ok-bare_nodes-in-Pos in
     let below = listed_made _ _ made.ensures in
@@ -29,7 +29,7 @@ bare_node-returns-in_ok-bare_nodes-in-Pos t c =
 
 pub bare_node-returns-in_ok-bare_covers-in-Neg : goal.bare_node-returns-in_ok-bare_covers-in-Neg
 bare_node-returns-in_ok-bare_covers-in-Neg t c =
-    let atom = c.in_ok-duplicate-in-Neg in
+    let atom = c.in_ok-copy-in-Neg in
     let made = c.in_ok-bare_covers-in-Neg in
     let below = covering_made _ _ made.ensures in
     rw c.in-Neg.is

@@ -1,5 +1,5 @@
 use Rattle.std.proofs.Common.{◌≡◌, ◌++◌, drop, map}
-use Rattle.scasp_dual.specs.Filling.{empty_plan}
+use Rattle.scasp_dual.specs.Inside.Filling.{empty_plan}
 use Rattle.scasp_dual.proofs.planning.empty_plans.Given as goal
 
 abbrev pub invariant-loop-pred : goal.invariant-loop-pred

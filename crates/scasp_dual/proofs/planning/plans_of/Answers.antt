@@ -2,7 +2,7 @@ use Rattle.std.proofs.Common.{◌≡◌, ◌∙◌, ◌∷◌, ◌+◌, List, So
 use Rattle.std.proofs.lemmas.List.{drop_all, drop_more}
 use Rattle.std.proofs.lemmas.Option.{slice_get_read}
 use Rattle.scasp_syntax.specs.declared.clause.Clause.{Clause}
-use Rattle.scasp_dual.specs.Filling.{empty_plan}
+use Rattle.scasp_dual.specs.Inside.Filling.{empty_plan}
 use Rattle.scasp_dual.proofs.FillLemmas.{Filled, filled-none, has-place, filled-more, filled-all}
 use Rattle.scasp_dual.proofs.planning.plans_of.Goals as goal
 

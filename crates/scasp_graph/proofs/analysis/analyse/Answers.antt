@@ -1,9 +1,9 @@
 use Rattle.std.proofs.Common.{◌≡◌, ◌∙◌, ℕ, Bool, List, map, ap, sym, subst}
 use Rattle.scasp_syntax.specs.declared.atom.Pred.{Pred}
-use Rattle.scasp_graph.specs.Components.{AreComponents}
-use Rattle.scasp_graph.specs.Graphs.{EndsBelow}
-use Rattle.scasp_graph.specs.Levels.{AreLevels, AreOdd}
-use Rattle.scasp_graph.specs.Numbering.{numbered_edge, entries_from, odd_from}
+use Rattle.scasp_graph.specs.Inside.Components.{AreComponents}
+use Rattle.scasp_graph.specs.Inside.Graphs.{EndsBelow}
+use Rattle.scasp_graph.specs.Inside.Levels.{AreLevels, AreOdd}
+use Rattle.scasp_graph.specs.Inside.Places.{numbered_edge, entries_from, odd_from}
 use Rattle.scasp_graph.specs.OddRules.{AreOddRules}
 use Rattle.scasp_graph.specs.RightMap.{IsRightMap}
 use Rattle.scasp_graph.specs.Walks.{dependencies}

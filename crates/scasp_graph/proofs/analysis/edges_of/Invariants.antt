@@ -1,6 +1,6 @@
 use Rattle.std.proofs.Common.{◌≡◌, ◌++◌, drop, map}
 use Rattle.std.specs.List.{flat_map}
-use Rattle.scasp_graph.specs.Numbering.{numbered_edge}
+use Rattle.scasp_graph.specs.Inside.Places.{numbered_edge}
 use Rattle.scasp_graph.specs.Walks.{clause_dependencies, dependencies}
 use Rattle.scasp_graph.proofs.analysis.edges_of.Given as goal
 

@@ -1,5 +1,5 @@
 use Rattle.std.proofs.Common.{sym, subst}
-use Rattle.scasp_graph.specs.Graphs.{EndsBelow}
+use Rattle.scasp_graph.specs.Inside.Graphs.{EndsBelow}
 use Rattle.scasp_graph.proofs.AnalysisLemmas.{turned-below}
 use Rattle.scasp_graph.proofs.analysis.graph_behind.Goals as goal
 

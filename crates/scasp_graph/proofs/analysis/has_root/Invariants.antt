@@ -1,7 +1,7 @@
 use Rattle.std.proofs.Common.{◌≡◌, nat_eq, drop}
 use Rattle.std.specs.List.{list_any}
 use Rattle.scasp_syntax.specs.Programs.{body_preds}
-use Rattle.scasp_graph.specs.Numbering.{root_in}
+use Rattle.scasp_graph.specs.Inside.Places.{root_in}
 use Rattle.scasp_graph.proofs.analysis.has_root.Given as goal
 
 abbrev pub invariant-loop-item : goal.invariant-loop-item

@@ -1,5 +1,5 @@
 use Rattle.std.proofs.Common.{◌≡◌, ◌++◌, drop}
-use Rattle.scasp_graph.specs.Numbering.{entries_from}
+use Rattle.scasp_graph.specs.Inside.Places.{entries_from}
 use Rattle.scasp_graph.proofs.analysis.map_of.Given as goal
 
 abbrev pub invariant-loop-place : goal.invariant-loop-place

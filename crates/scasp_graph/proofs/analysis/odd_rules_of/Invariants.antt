@@ -1,5 +1,5 @@
 use Rattle.std.proofs.Common.{◌≡◌, ◌+◌, ◌++◌, drop}
-use Rattle.scasp_graph.specs.Numbering.{odd_from}
+use Rattle.scasp_graph.specs.Inside.Places.{odd_from}
 use Rattle.scasp_graph.proofs.analysis.odd_rules_of.Given as goal
 
 abbrev pub invariant-loop-place : goal.invariant-loop-place

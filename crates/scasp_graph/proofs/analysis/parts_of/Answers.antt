@@ -1,5 +1,5 @@
 use Rattle.std.proofs.Common.{subst}
-use Rattle.scasp_graph.specs.Components.{AreComponents}
+use Rattle.scasp_graph.specs.Inside.Components.{AreComponents}
 use Rattle.scasp_graph.proofs.analysis.parts_of.Goals as goal
 
 pub returns-clause-components : goal.returns-clause-components

@@ -1,7 +1,7 @@
 use Rattle.std.proofs.Common.{◌≡◌, ◌++◌, drop, map}
 use Rattle.std.specs.List.{flat_map}
 use Rattle.scasp_syntax.specs.Programs.{pred_of}
-use Rattle.scasp_graph.specs.Numbering.{numbered_edge}
+use Rattle.scasp_graph.specs.Inside.Places.{numbered_edge}
 use Rattle.scasp_graph.specs.Walks.{item_dependencies}
 use Rattle.scasp_graph.proofs.analysis.push_edges.Given as goal
 

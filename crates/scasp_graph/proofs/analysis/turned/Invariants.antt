@@ -1,5 +1,5 @@
 use Rattle.std.proofs.Common.{◌≡◌, ◌++◌, drop, map}
-use Rattle.scasp_graph.specs.Components.{turned}
+use Rattle.scasp_graph.specs.Inside.Components.{turned}
 use Rattle.scasp_graph.proofs.analysis.turned.Given as goal
 
 abbrev pub invariant-loop-edge : goal.invariant-loop-edge

@@ -1,6 +1,6 @@
 use Rattle.std.proofs.Common.{◌≡◌, ℕ, ◌<◌, false}
-use Rattle.scasp_graph.specs.Graphs.{is_marked}
-use Rattle.scasp_graph.specs.Partitions.{IsPartition}
+use Rattle.scasp_graph.specs.Inside.Graphs.{is_marked}
+use Rattle.scasp_graph.specs.Inside.Partitions.{IsPartition}
 use Rattle.scasp_graph.proofs.components.find_components.Given as goal
 
 abbrev pub invariant-loop-place : goal.invariant-loop-place

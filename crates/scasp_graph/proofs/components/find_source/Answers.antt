@@ -1,6 +1,6 @@
 use Rattle.std.proofs.Common.{◌≡◌, ℕ, false, List, map, subst}
-use Rattle.scasp_graph.specs.Components.{turned}
-use Rattle.scasp_graph.specs.Graphs.{Marks, is_marked, IsListed, IsReach}
+use Rattle.scasp_graph.specs.Inside.Components.{turned}
+use Rattle.scasp_graph.specs.Inside.Graphs.{Marks, is_marked, IsListed, IsReach}
 use Rattle.scasp_graph.specs.declared.graph.Edge.{Edge}
 use Rattle.scasp_graph.proofs.ComponentLemmas.{searched, source-smaller}
 use Rattle.scasp_graph.proofs.components.find_source.Goals as goal

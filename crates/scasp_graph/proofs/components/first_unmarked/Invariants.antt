@@ -1,5 +1,5 @@
 use Rattle.std.proofs.Common.{◌≡◌, ℕ, true, ◌<◌, get_or}
-use Rattle.scasp_graph.specs.Graphs.{is_marked}
+use Rattle.scasp_graph.specs.Inside.Graphs.{is_marked}
 use Rattle.scasp_graph.proofs.components.first_unmarked.Given as goal
 
 abbrev pub invariant-loop-node : goal.invariant-loop-node

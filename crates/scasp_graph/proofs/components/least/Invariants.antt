@@ -1,5 +1,5 @@
 use Rattle.std.proofs.Common.{ℕ, ◌<◌, ◌≤◌, get_or}
-use Rattle.scasp_graph.specs.Graphs.{IsListed}
+use Rattle.scasp_graph.specs.Inside.Graphs.{IsListed}
 use Rattle.scasp_graph.proofs.components.least.Given as goal
 
 abbrev pub invariant-loop-node : goal.invariant-loop-node

@@ -1,6 +1,6 @@
 use Rattle.std.proofs.Common.{ℕ, List, subst, arith}
-use Rattle.scasp_graph.specs.Graphs.{Marks, AreClear}
-use Rattle.scasp_graph.specs.Partitions.{IsSource, ArePlaced}
+use Rattle.scasp_graph.specs.Inside.Graphs.{Marks, AreClear}
+use Rattle.scasp_graph.specs.Inside.Partitions.{IsSource, ArePlaced}
 use Rattle.scasp_graph.specs.declared.components.Member.{Member}
 use Rattle.scasp_graph.specs.declared.graph.Edge.{Edge}
 use Rattle.scasp_graph.proofs.ComponentLemmas.{known-more, free-stays, left-some}

@@ -1,5 +1,5 @@
 use Rattle.std.proofs.Common.{◌≡◌, ℕ, ◌<◌, List, length, replicate, refl, subst, arith, rules}
-use Rattle.scasp_graph.specs.Levels.{AreRising, IsSettled}
+use Rattle.scasp_graph.specs.Inside.Levels.{AreRising, IsSettled}
 use Rattle.scasp_graph.specs.declared.graph.Edge.{Edge}
 use Rattle.scasp_graph.proofs.LevelLemmas.{rising-none, sum-below, levels-settled}
 use Rattle.scasp_graph.proofs.levels.find_levels.Goals as goal

@@ -1,5 +1,5 @@
 use Rattle.std.proofs.Common.{◌-◌, ◌*◌}
-use Rattle.scasp_graph.specs.Levels.{AreRising, level_sum}
+use Rattle.scasp_graph.specs.Inside.Levels.{AreRising, level_sum}
 use Rattle.scasp_graph.proofs.levels.find_levels.Given as goal
 
 abbrev pub invariant-loop : goal.invariant-loop

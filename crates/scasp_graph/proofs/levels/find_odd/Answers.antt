@@ -1,8 +1,8 @@
 use Rattle.std.proofs.Common.{◌∙◌, ℕ, Bool, true, false, not, ◌<◌, List, length, sym}
 use Rattle.scasp_syntax.specs.Same.{same_bool}
-use Rattle.scasp_graph.specs.Components.{member_at}
-use Rattle.scasp_graph.specs.Graphs.{edge_at}
-use Rattle.scasp_graph.specs.Levels.{root_from}
+use Rattle.scasp_graph.specs.Inside.Components.{member_at}
+use Rattle.scasp_graph.specs.Inside.Graphs.{edge_at}
+use Rattle.scasp_graph.specs.Inside.Levels.{root_from}
 use Rattle.scasp_graph.specs.declared.components.Member.{Member}
 use Rattle.scasp_graph.specs.declared.graph.Edge.{Edge}
 use Rattle.scasp_graph.proofs.LevelLemmas.{odd-more, odd-on, root-below, fit-from}

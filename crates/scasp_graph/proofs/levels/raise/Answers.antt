@@ -1,5 +1,5 @@
 use Rattle.std.proofs.Common.{◌≡◌, ℕ, ◌+◌, List, length, sym, subst}
-use Rattle.scasp_graph.specs.Levels.{AreRising, IsSettled}
+use Rattle.scasp_graph.specs.Inside.Levels.{AreRising, IsSettled}
 use Rattle.scasp_graph.specs.declared.components.Member.{Member}
 use Rattle.scasp_graph.specs.declared.graph.Edge.{Edge}
 use Rattle.scasp_graph.proofs.LevelLemmas.{Raising, raising-up, raising-on}

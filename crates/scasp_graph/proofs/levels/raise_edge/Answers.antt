@@ -1,8 +1,8 @@
 use Rattle.std.proofs.Common.{◌≡◌, ◌∙◌, ℕ, ◌+◌, ◌<◌, ◌≤◌, List, length, get_or, sym, subst, inl, inr, arith}
 use Rattle.std.proofs.lemmas.List.{get_or_default}
 use Rattle.std.proofs.Math.ListN.{set}
-use Rattle.scasp_graph.specs.Graphs.{edge_at}
-use Rattle.scasp_graph.specs.Levels.{root_from, root_to, AreRising}
+use Rattle.scasp_graph.specs.Inside.Graphs.{edge_at}
+use Rattle.scasp_graph.specs.Inside.Levels.{root_from, root_to, AreRising}
 use Rattle.scasp_graph.specs.declared.components.Member.{Member}
 use Rattle.scasp_graph.specs.declared.graph.Edge.{Edge}
 use Rattle.scasp_graph.proofs.LevelLemmas.{rising-up, root-below}

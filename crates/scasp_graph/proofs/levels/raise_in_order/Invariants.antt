@@ -1,5 +1,5 @@
 use Rattle.std.proofs.Common.{◌≤◌, length}
-use Rattle.scasp_graph.specs.Levels.{AreRising}
+use Rattle.scasp_graph.specs.Inside.Levels.{AreRising}
 use Rattle.scasp_graph.proofs.levels.raise_in_order.Given as goal
 
 abbrev pub invariant-loop-node : goal.invariant-loop-node

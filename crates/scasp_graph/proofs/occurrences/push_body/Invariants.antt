@@ -1,6 +1,6 @@
 use Rattle.std.proofs.Common.{◌≡◌, drop}
 use Rattle.scasp_syntax.specs.Programs.{body_preds}
-use Rattle.scasp_graph.specs.Growing.{grown}
+use Rattle.scasp_graph.specs.Inside.Growing.{grown}
 use Rattle.scasp_graph.proofs.occurrences.push_body.Given as goal
 
 abbrev pub invariant-loop-item : goal.invariant-loop-item

@@ -1,7 +1,7 @@
 use Rattle.std.proofs.Common.{◌∙◌, ap, drop, ◌+◌}
 use Rattle.std.specs.List.{flat_map}
-use Rattle.scasp_graph.specs.Growing.{query_preds}
-use Rattle.scasp_graph.specs.Growing.{grown}
+use Rattle.scasp_graph.specs.Inside.Growing.{query_preds}
+use Rattle.scasp_graph.specs.Inside.Growing.{grown}
 use Rattle.scasp_graph.proofs.PredLemmas.{grown-step}
 use Rattle.scasp_graph.proofs.occurrences.push_queries.Goals as goal
 

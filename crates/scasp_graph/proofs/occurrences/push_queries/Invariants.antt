@@ -1,6 +1,6 @@
 use Rattle.std.proofs.Common.{◌≡◌, drop}
 use Rattle.std.specs.List.{flat_map}
-use Rattle.scasp_graph.specs.Growing.{grown, query_preds}
+use Rattle.scasp_graph.specs.Inside.Growing.{grown, query_preds}
 use Rattle.scasp_graph.proofs.occurrences.push_queries.Given as goal
 
 abbrev pub invariant-loop-query : goal.invariant-loop-query

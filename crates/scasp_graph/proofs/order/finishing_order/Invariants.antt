@@ -1,6 +1,6 @@
 use Rattle.std.proofs.Common.{◌≡◌, length}
-use Rattle.scasp_graph.specs.Graphs.{AreBelow}
-use Rattle.scasp_graph.specs.Orders.{AreNext}
+use Rattle.scasp_graph.specs.Inside.Graphs.{AreBelow}
+use Rattle.scasp_graph.specs.Inside.Orders.{AreNext}
 use Rattle.scasp_graph.proofs.order.finishing_order.Given as goal
 
 abbrev pub invariant-loop-root : goal.invariant-loop-root

@@ -1,6 +1,6 @@
 use Rattle.std.proofs.Common.{◌≡◌, ◌∙◌, ◌∷◌, ◌++◌, ℕ, ◌+◌, ◌-◌, ◌<◌, false, List, [], length, get_or, ap, sym, subst, arith, length-append}
 use Rattle.std.proofs.lemmas.List.{get_or_default}
-use Rattle.scasp_graph.specs.Graphs.{edge_at, AreBelow}
+use Rattle.scasp_graph.specs.Inside.Graphs.{edge_at, AreBelow}
 use Rattle.scasp_graph.specs.declared.graph.Edge.{Edge}
 use Rattle.scasp_graph.proofs.OrderLemmas.{below-pop, below-push, below-enter, next-set, sum-falls}
 use Rattle.scasp_graph.proofs.order.leave.Goals as goal

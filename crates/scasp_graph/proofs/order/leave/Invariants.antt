@@ -1,5 +1,5 @@
 use Rattle.std.proofs.Common.{◌+◌, ◌*◌, length}
-use Rattle.scasp_graph.specs.Levels.{level_sum}
+use Rattle.scasp_graph.specs.Inside.Levels.{level_sum}
 use Rattle.scasp_graph.proofs.OrderLemmas.{Leaving}
 use Rattle.scasp_graph.proofs.order.leave.Given as goal
 

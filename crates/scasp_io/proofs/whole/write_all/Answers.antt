@@ -2,7 +2,7 @@ use Rattle.std.proofs.Common.{◌≡◌, ℕ, ◌+◌, ◌-◌, List, length, ta
 use Rattle.std.proofs.Math.Seq.{take-add}
 use Rattle.std.proofs.lemmas.List.{take_rest}
 use Rattle.scasp_io.specs.Bytes.{behind}
-use Rattle.scasp_io.specs.Behind.{behind-append}
+use Rattle.scasp_io.specs.Inside.Behind.{behind-append}
 use Rattle.scasp_io.proofs.whole.write_all.Goals as goal
 
 -- what was taken of the rest of the bytes stands behind what was taken of them before

@@ -2,7 +2,7 @@ use Rattle.std.proofs.Common.{◌≡◌, ◌∙◌, ◌∷◌, ◌++◌, ℕ, �
 use Rattle.std.proofs.lemmas.Bool.{or_left, or_right}
 use Rattle.std.proofs.lemmas.List.{append-nil, drop_all, drop_more}
 use Rattle.scasp_syntax.specs.declared.clause.Clause.{Clause}
-use Rattle.scasp_nmr.specs.Beside.{begins_with}
+use Rattle.scasp_nmr.specs.Inside.Beside.{begins_with}
 use Rattle.scasp_nmr.specs.Checks.{checks_from, checks_of}
 use Rattle.scasp_nmr.specs.declared.items.CheckItem.{CheckItem}
 use Rattle.scasp_nmr.proofs.BesideLemmas.{Coming, coming-first, coming-more, none-is, some-is, listed-made, listed-skipped}

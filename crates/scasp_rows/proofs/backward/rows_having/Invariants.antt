@@ -1,5 +1,5 @@
 use Rattle.std.proofs.Common.{◌≡◌, drop, ◌++◌}
-use Rattle.scasp_rows.specs.Asides.{rows_having}
+use Rattle.scasp_rows.specs.Inside.Asides.{rows_having}
 use Rattle.scasp_rows.proofs.backward.rows_having.Given as goal
 
 abbrev pub invariant-loop-r : goal.invariant-loop-r

@@ -1,6 +1,6 @@
 use Rattle.std.proofs.Common.{◌≡◌, drop, ◌++◌, Ok}
 use Rattle.scasp_rows.specs.Elimination.{and_then}
-use Rattle.scasp_rows.specs.Asides.{asides_from}
+use Rattle.scasp_rows.specs.Inside.Asides.{asides_from}
 use Rattle.scasp_rows.proofs.backward.set_aside.Given as goal
 
 abbrev pub invariant-loop-x : goal.invariant-loop-x

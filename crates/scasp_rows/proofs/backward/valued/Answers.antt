@@ -4,7 +4,7 @@ use Rattle.scasp_rows.specs.declared.backward.Aside.{Aside}
 use Rattle.scasp_rows.specs.declared.state.Halt.{Halt}
 use Rattle.scasp_rows.specs.Elimination.{Ends, and_then}
 use Rattle.scasp_rows.specs.Samples.{value_for, with_value_for}
-use Rattle.scasp_rows.specs.Asides.{valued}
+use Rattle.scasp_rows.specs.Inside.Asides.{valued}
 use Rattle.scasp_rows.proofs.SettingAside.{ends-first, valued-last}
 use Rattle.scasp_rows.proofs.backward.valued.Goals as goal
 

@@ -1,5 +1,5 @@
 use Rattle.std.proofs.Common.{◌≡◌, [], length}
-use Rattle.scasp_rows.specs.Asides.{valued}
+use Rattle.scasp_rows.specs.Inside.Asides.{valued}
 use Rattle.scasp_rows.proofs.backward.valued.Given as goal
 
 abbrev pub invariant-loop-aside : goal.invariant-loop-aside

@@ -3,7 +3,7 @@ use Rattle.scasp_num.specs.declared.linear.RatPair.{RatPair}
 use Rattle.scasp_rows.specs.declared.backward.Aside.{Aside}
 use Rattle.scasp_rows.specs.declared.state.Halt.{Halt}
 use Rattle.scasp_rows.specs.Elimination.{Ends, and_then}
-use Rattle.scasp_rows.specs.Asides.{asides_from, valued}
+use Rattle.scasp_rows.specs.Inside.Asides.{asides_from, valued}
 use Rattle.scasp_rows.proofs.SettingAside.{ends-first, values_from-valued}
 use Rattle.scasp_rows.proofs.backward.values_from.Goals as goal
 

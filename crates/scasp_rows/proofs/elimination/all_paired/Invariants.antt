@@ -1,7 +1,7 @@
 use Rattle.std.proofs.Common.{◌≡◌, drop}
 use Rattle.scasp_rows.specs.declared.outlook.Outlook.TheVariants as outlook
 use Rattle.scasp_rows.specs.Elimination.{all_paired, and_then, limited}
-use Rattle.scasp_rows.specs.Outlooks.{all_paired_outlook}
+use Rattle.scasp_rows.specs.Inside.Outlooks.{all_paired_outlook}
 use Rattle.scasp_rows.proofs.elimination.all_paired.Given as goal
 
 abbrev pub invariant-loop-l : goal.invariant-loop-l

@@ -3,7 +3,7 @@ use Rattle.scasp_rows.specs.declared.state.Sign.TheVariants as sign
 use Rattle.scasp_rows.specs.declared.state.Halt.{Halt}
 use Rattle.scasp_rows.specs.declared.state.State.{State}
 use Rattle.scasp_rows.specs.Elimination.{Ends, all_paired, and_then, limited, rows_with}
-use Rattle.scasp_rows.specs.Outlooks.{all_paired_outlook}
+use Rattle.scasp_rows.specs.Inside.Outlooks.{all_paired_outlook}
 use Rattle.scasp_rows.proofs.Pairing.{ended-limited, overflow-limited}
 use Rattle.scasp_rows.proofs.elimination.by_bounds.Goals as goal
 

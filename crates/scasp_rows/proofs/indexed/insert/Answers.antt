@@ -3,7 +3,7 @@ use Rattle.std.specs.List.{list_any}
 use Rattle.scasp_num.specs.Linear.{Linear}
 use Rattle.scasp_num.specs.SameRow.{same_row}
 use Rattle.scasp_rows.specs.declared.indexed.RowKey.{RowKey}
-use Rattle.scasp_rows.specs.Keys.{same_row-symm}
+use Rattle.scasp_rows.specs.Inside.Keys.{same_row-symm}
 use Rattle.scasp_rows.proofs.Indexing.{or-cond}
 use Rattle.scasp_rows.proofs.indexed.insert.Goals as goal
 

@@ -1,5 +1,5 @@
 use Rattle.std.proofs.Common.{◌≡◌, drop}
-use Rattle.scasp_rows.specs.Outlooks.{all_paired_outlook}
+use Rattle.scasp_rows.specs.Inside.Outlooks.{all_paired_outlook}
 use Rattle.scasp_rows.proofs.outlook.all_paired_outlook.Given as goal
 
 abbrev pub invariant-loop-l : goal.invariant-loop-l

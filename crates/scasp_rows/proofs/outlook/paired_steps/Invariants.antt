@@ -1,5 +1,5 @@
 use Rattle.std.proofs.Common.{◌≡◌, drop}
-use Rattle.scasp_rows.specs.Outlooks.{paired_steps}
+use Rattle.scasp_rows.specs.Inside.Outlooks.{paired_steps}
 use Rattle.scasp_rows.proofs.outlook.paired_steps.Given as goal
 
 abbrev pub invariant-loop-u : goal.invariant-loop-u

@@ -1,6 +1,6 @@
 use Rattle.std.proofs.Common.{◌≡◌, ◌∙◌, ℕ, false, is_some, length, get_or, replicate, Some, None, ap, rules}
 use Rattle.std.proofs.lemmas.List.{length-replicate, get_or-replicate}
-use Rattle.scasp_graph.specs.Graphs.{Marks}
+use Rattle.scasp_graph.specs.Inside.Graphs.{Marks}
 use Rattle.scasp_graph.proofs.ComponentLemmas.{clear-none, known-none}
 use Rattle.scasp_graph.proofs.components.Partition.new.Goals as goal
 

@@ -1,7 +1,7 @@
 use Rattle.std.proofs.Common.{◌≡◌, ◌∙◌, ℕ, ◌+◌, ◌<◌, List, length, get_or, replicate, refl, ap, sym, subst, arith, rules}
 use Rattle.std.proofs.Math.ListN.{set}
 use Rattle.std.proofs.lemmas.List.{length-replicate, get_or-replicate, get_or_default}
-use Rattle.scasp_graph.specs.Graphs.{EndsBelow, edge_at}
+use Rattle.scasp_graph.specs.Inside.Graphs.{EndsBelow, edge_at}
 use Rattle.scasp_graph.specs.declared.graph.Edge.{Edge}
 use Rattle.scasp_graph.proofs.GraphLemmas.{Linked, linked-none, linked-more, graph_linked}
 use Rattle.scasp_graph.proofs.graph.Graph.new.Goals as goal

@@ -1,7 +1,7 @@
 use Rattle.std.proofs.Common.{◌≡◌, ◌∙◌, ℕ, Bool, true, false, not, Some, ◌-◌, ◌<◌, List, length, get_or, ap, sym, subst, arith}
 use Rattle.std.proofs.lemmas.List.{get_or_default}
-use Rattle.scasp_graph.specs.Graphs.{edge_at, IsLastFrom, Marks, mark_of, is_marked}
-use Rattle.scasp_graph.specs.Searching.{with_mark, with_node}
+use Rattle.scasp_graph.specs.Inside.Graphs.{edge_at, IsLastFrom, Marks, mark_of, is_marked}
+use Rattle.scasp_graph.specs.Inside.Searching.{with_mark, with_node}
 use Rattle.scasp_syntax.specs.Same.{same_bool}
 use Rattle.scasp_graph.specs.declared.graph.Edge.{Edge}
 use Rattle.scasp_graph.proofs.ReachLemmas.{going-first, next-below, queue-below, visiting-first, visiting-more}

@@ -1,6 +1,6 @@
 use Rattle.std.proofs.Common.{◌∙◌, ap}
 use Rattle.scasp_syntax.specs.contracts.atom.PredPartialEq.TheImpl.{eq-value}
-use Rattle.scasp_graph.specs.Growing.{with_pred}
+use Rattle.scasp_graph.specs.Inside.Growing.{with_pred}
 use Rattle.scasp_graph.proofs.PlaceLemmas.{eq-is, inserted}
 use Rattle.scasp_graph.proofs.numbering.Numbering.insert.Goals as goal
 

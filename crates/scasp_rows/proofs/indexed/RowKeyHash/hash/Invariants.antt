@@ -1,5 +1,5 @@
 use Rattle.std.proofs.Common.{◌≡◌, drop, fold}
-use Rattle.scasp_rows.specs.Keys.{terms_writes}
+use Rattle.scasp_rows.specs.Inside.Keys.{terms_writes}
 use Rattle.scasp_rows.proofs.indexed.RowKeyHash.hash.Given as goal
 
 abbrev pub invariant-loop-k : goal.invariant-loop-k

@@ -1,6 +1,6 @@
 -- A search that marks what it reaches and keeps the marked nodes in a queue.
 use Rattle.std.specs.Prelude.{ℕ, Bool, not, ◌&&◌, List, [], ◌∷◌, ◌++◌, Some, slice_set, if◌then◌else◌}
-use Rattle.scasp_graph.specs.Graphs.{Marks, is_marked}
+use Rattle.scasp_graph.specs.Inside.Graphs.{Marks, is_marked}
 
 -- the search may go to the node, which is not marked yet
 abbrev pub is_new : Marks → Marks → ℕ → Bool

@@ -1,8 +1,8 @@
 -- Components that are found one after another.
 use Rattle.std.specs.Prelude.{◌≡◌, ◌⊎◌, ℕ, ◌<◌, ◌≤◌, Bool, true, false, not, ◌&&◌, nat_eq, List, length, map}
 use Rattle.scasp_syntax.specs.Same.{same_bool}
-use Rattle.scasp_graph.specs.Components.{turned, member_at, root_of}
-use Rattle.scasp_graph.specs.Graphs.{EdgeIn, Marks, is_marked, mark_of, odd_of, marked_count, AreClear, IsListed, IsReach}
+use Rattle.scasp_graph.specs.Inside.Components.{turned, member_at, root_of}
+use Rattle.scasp_graph.specs.Inside.Graphs.{EdgeIn, Marks, is_marked, mark_of, odd_of, marked_count, AreClear, IsListed, IsReach}
 use Rattle.scasp_graph.specs.Walks.{Walk, Reaches}
 use Rattle.scasp_graph.specs.declared.components.Member.{Member}
 use Rattle.scasp_graph.specs.declared.components.Partition.{Partition}

@@ -1,8 +1,8 @@
 -- Levels of components, and components with an odd closed walk.
 use Rattle.std.specs.Prelude.{◌≡◌, ◌≢◌, ◌⊎◌, ℕ, ◌+◌, ◌<◌, ◌≤◌, Bool, true, false, not, List, length, slice_index_or, sum_by}
 use Rattle.scasp_syntax.specs.Same.{same_bool}
-use Rattle.scasp_graph.specs.Components.{member_at, root_of}
-use Rattle.scasp_graph.specs.Graphs.{edge_at}
+use Rattle.scasp_graph.specs.Inside.Components.{member_at, root_of}
+use Rattle.scasp_graph.specs.Inside.Graphs.{edge_at}
 use Rattle.scasp_graph.specs.declared.components.Member.{Member}
 use Rattle.scasp_graph.specs.declared.graph.Edge.{Edge}
 

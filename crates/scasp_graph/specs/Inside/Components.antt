@@ -1,6 +1,6 @@
 -- Strong components: nodes with walks to one another.
 use Rattle.std.specs.Prelude.{◌≡◌, ◌≢◌, ℕ, ◌<◌, ◌≤◌, false, List, length, slice_index_or}
-use Rattle.scasp_graph.specs.Graphs.{EdgeIn, edge_at}
+use Rattle.scasp_graph.specs.Inside.Graphs.{EdgeIn, edge_at}
 use Rattle.scasp_graph.specs.Walks.{Walk, Reaches}
 use Rattle.scasp_graph.specs.declared.components.Member.{Member}
 use Rattle.scasp_graph.specs.declared.graph.Edge.{Edge}

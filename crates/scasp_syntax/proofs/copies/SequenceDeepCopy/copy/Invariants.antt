@@ -1,5 +1,5 @@
 use Rattle.std.proofs.Common.{◌≡◌, take}
-use Rattle.scasp_syntax.proofs.copies.SequenceDuplicate.duplicate.Given as goal
+use Rattle.scasp_syntax.proofs.copies.SequenceDeepCopy.copy.Given as goal
 
 abbrev pub invariant-loop-item : goal.invariant-loop-item
 invariant-loop-item g l = l.copied ≡ take l.item-index l.item-items
