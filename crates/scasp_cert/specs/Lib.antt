@@ -7,3 +7,4 @@ pub mod Instances
 pub mod Flat
 pub mod Skeleton
 pub mod Examples
+pub mod Text

@@ -9,11 +9,11 @@ use Rattle.scasp_syntax.specs.declared.con.Con.TheVariants as con
 use Rattle.scasp_syntax.specs.declared.term.Term.TheVariants as term
 use Rattle.scasp_syntax.specs.declared.hint.Hint.TheVariants as hint
 use Rattle.scasp_cert.specs.Trees.{Branch, pos_tree, neg_tree, loop_tree, test_tree, no_tree, tree, split, leaf, no_branch, branch}
-use Rattle.scasp_print.specs.Terms.{list_text, atom_text, lit_text}
-use Rattle.scasp_print.specs.Hints.{step_text}
-use Rattle.scasp_print.specs.Trees.{line_text}
-use Rattle.scasp_print.specs.Constraints.{con_text}
-use Rattle.scasp_print.specs.Block.{block_text, answer_line, check_text, given_line, map_line, pred_text}
+use Rattle.scasp_cert.specs.Text.Terms.{list_text, atom_text, lit_text}
+use Rattle.scasp_cert.specs.Text.Hints.{step_text}
+use Rattle.scasp_cert.specs.Text.Trees.{line_text}
+use Rattle.scasp_cert.specs.Text.Constraints.{con_text}
+use Rattle.scasp_cert.specs.Text.Block.{block_text, answer_line, check_text, given_line, map_line, pred_text}
 
 -- digits
 d0 : decimal 0 ≡ 48 ∷ []

@@ -1,8 +1,8 @@
 //! The whole block of a certificate.
 ghost use Rattle.std.specs.Prelude.{◌≡◌, ◌++◌, OnOk, IfOk, flat_map, codes};
 ghost use Rattle.scasp_cert.specs.Certificate.{certificate_of, check_of, checks_of};
-ghost use Rattle.scasp_print.specs.Terms.{list_text};
-ghost use Rattle.scasp_print.specs.Block as spec;
+ghost use Rattle.scasp_cert.specs.Text.Terms.{list_text};
+ghost use Rattle.scasp_cert.specs.Text.Block as spec;
 
 use crate::constraints::put_con;
 use crate::hints::put_hint;

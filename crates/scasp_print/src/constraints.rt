@@ -1,8 +1,8 @@
 //! Rows and other constraints.
 ghost use Rattle.std.specs.Prelude.{◌≡◌, ◌++◌, [], true, OnOk, if◌then◌else◌, codes};
 ghost use Rattle.scasp_syntax.specs.View.{tm_of};
-ghost use Rattle.scasp_print.specs.Terms.{term_text};
-ghost use Rattle.scasp_print.specs.Constraints as spec;
+ghost use Rattle.scasp_cert.specs.Text.Terms.{term_text};
+ghost use Rattle.scasp_cert.specs.Text.Constraints as spec;
 
 use crate::names::{put_constant, put_name};
 use crate::terms::{put_term, put_var};

@@ -1,6 +1,6 @@
 //! Hints and their steps.
 ghost use Rattle.std.specs.Prelude.{◌≡◌, ◌++◌, true, OnOk};
-ghost use Rattle.scasp_print.specs.Hints as spec;
+ghost use Rattle.scasp_cert.specs.Text.Hints as spec;
 
 use crate::text::{put, put_integer, put_number, put_separator};
 use scasp_name::Memory;

@@ -1,7 +1,7 @@
 //! Names, in quotes where they need them.
 ghost use Rattle.std.specs.Prelude.{◌≡◌, ◌++◌, OnOk};
 ghost use Rattle.std.specs.List.{list_all};
-ghost use Rattle.scasp_print.specs.Names as spec;
+ghost use Rattle.scasp_cert.specs.Text.Names as spec;
 
 use crate::text::put;
 use scasp_name::{Memory, NIL, NameId, Names};

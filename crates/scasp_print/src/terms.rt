@@ -1,7 +1,7 @@
 //! Terms, lists of terms, atoms and literals.
 ghost use Rattle.std.specs.Prelude.{◌≡◌, ◌++◌, true, OnOk, if◌then◌else◌};
 ghost use Rattle.scasp_syntax.specs.View.{tm_of};
-ghost use Rattle.scasp_print.specs.Terms as spec;
+ghost use Rattle.scasp_cert.specs.Text.Terms as spec;
 
 use crate::names::{put_constant, put_name};
 use crate::text::{put, put_integer, put_number, put_separator};

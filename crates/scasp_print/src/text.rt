@@ -1,7 +1,7 @@
 //! Texts, numbers and blanks at the end of a list of bytes.
 ghost use Rattle.std.specs.Prelude.{◌≡◌, ◌+◌, ◌++◌, OnOk, IfOk, decimal, replicate};
 ghost use Rattle.std.specs.Fmt.{signed_decimal};
-ghost use Rattle.scasp_print.specs.Separators.{separator_text};
+ghost use Rattle.scasp_cert.specs.Text.Separators.{separator_text};
 
 use itoa::Buffer;
 use scasp_name::Memory;

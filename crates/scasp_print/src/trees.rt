@@ -2,10 +2,10 @@
 ghost use Rattle.std.specs.Prelude.{◌≡◌, ◌++◌, OnOk, codes, decimal};
 ghost use Rattle.scasp_cert.specs.Trees.{listed, covering};
 ghost use Rattle.scasp_cert.specs.View.{tree_of, trees_of, branch_of, covers_of};
-ghost use Rattle.scasp_print.specs.Terms.{atom_text, lit_text, list_text};
-ghost use Rattle.scasp_print.specs.Constraints.{con_text};
-ghost use Rattle.scasp_print.specs.Hints.{hint_text};
-ghost use Rattle.scasp_print.specs.Trees as spec;
+ghost use Rattle.scasp_cert.specs.Text.Terms.{atom_text, lit_text, list_text};
+ghost use Rattle.scasp_cert.specs.Text.Constraints.{con_text};
+ghost use Rattle.scasp_cert.specs.Text.Hints.{hint_text};
+ghost use Rattle.scasp_cert.specs.Text.Trees as spec;
 
 use crate::constraints::put_con;
 use crate::hints::put_hint;

@@ -1,7 +1,8 @@
 //! A certificate of each form, made, counted and copied.
 use crate::made::{certificate, nodes};
 use scasp_cert::{
-    Case, Cert, Check, Clash, Cover, Covers, Node, Nodes, copy_case, copy_node, copy_nodes, lines,
+    Case, Cert, Check, Clash, Cover, Covers, Node, Nodes, copy_case, copy_node, copy_nodes, flat,
+    lines, skeleton,
 };
 use scasp_name::Memory;
 use scasp_samples::{P, atom, literal};
@@ -74,5 +75,9 @@ fn counts_and_copies(rt: HostRuntime) -> Result<(), Fail> {
     assert!(rt; matches!(cert.trees.get(1), Some(Node::Neg { .. })));
     // Twice a literal, a rule and four lines; a check and its case.
     assert_eq!(rt; lines(&cert)?, 14);
+    assert!(rt; flat(&cert)?);
+    let bare = skeleton(rt.alloc(), &cert)?;
+    assert_eq!(rt; lines(&bare)?, 14);
+    assert_eq!(rt; (cert.clashes.len(), bare.clashes.len()), (1, 0));
     Ok(())
 }

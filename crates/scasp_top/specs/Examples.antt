@@ -13,9 +13,9 @@ use Rattle.scasp_cert.specs.Certificate.{Certificate}
 use Rattle.scasp_cert.specs.Trees.{pos_tree, no_tree, tree}
 use Rattle.scasp_written.specs.Machine.{answered, ended, spent, overflowed}
 use Rattle.scasp_written.specs.Run.{certificate}
-use Rattle.scasp_print.specs.Block.{answer_line}
-use Rattle.scasp_print.specs.Terms.{list_text, atom_text}
-use Rattle.scasp_print.specs.Trees.{line_text}
+use Rattle.scasp_cert.specs.Text.Block.{answer_line}
+use Rattle.scasp_cert.specs.Text.Terms.{list_text, atom_text}
+use Rattle.scasp_cert.specs.Text.Trees.{line_text}
 use Rattle.scasp_top.specs.Codes.{code_of}
 use Rattle.scasp_top.specs.Texts.{query_text, status_of}
 use Rattle.scasp_top.specs.Words.{file_of}

@@ -2,7 +2,7 @@
 use Rattle.std.specs.Prelude.{ℕ, List, ◌++◌, codes}
 use Rattle.scasp_cert.specs.Certificate.{Certificate}
 use Rattle.scasp_written.specs.Machine.{Outcome, answered, ended, spent, overflowed}
-use Rattle.scasp_print.specs.Block.{block_text}
+use Rattle.scasp_cert.specs.Text.Block.{block_text}
 use Rattle.scasp_top.specs.declared.status.Status.{Status}
 use Rattle.scasp_top.specs.declared.status.Status.TheVariants.{Done, NoAnswer, Spent, Overflow}
 

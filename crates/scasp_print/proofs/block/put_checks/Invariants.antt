@@ -1,7 +1,7 @@
 use Rattle.std.proofs.Common.{◌≡◌, ◌++◌, map, drop}
 use Rattle.std.specs.Prelude.{flat_map}
 use Rattle.scasp_cert.specs.Certificate.{check_of}
-use Rattle.scasp_print.specs.Block.{check_text}
+use Rattle.scasp_cert.specs.Text.Block.{check_text}
 use Rattle.scasp_print.proofs.block.put_checks.Given as goal
 
 abbrev pub invariant-loop-check : goal.invariant-loop-check

@@ -1,6 +1,6 @@
 use Rattle.std.proofs.Common.{◌≡◌, ◌++◌, drop}
 use Rattle.std.specs.Prelude.{flat_map}
-use Rattle.scasp_print.specs.Block.{clash_line}
+use Rattle.scasp_cert.specs.Text.Block.{clash_line}
 use Rattle.scasp_print.proofs.block.put_clashes.Given as goal
 
 abbrev pub invariant-loop-clash : goal.invariant-loop-clash

@@ -1,6 +1,6 @@
 use Rattle.std.proofs.Common.{◌≡◌, ◌++◌, drop}
 use Rattle.std.specs.Prelude.{flat_map}
-use Rattle.scasp_print.specs.Block.{given_line}
+use Rattle.scasp_cert.specs.Text.Block.{given_line}
 use Rattle.scasp_print.proofs.block.put_given.Given as goal
 
 abbrev pub invariant-loop-con : goal.invariant-loop-con

@@ -1,6 +1,6 @@
 use Rattle.std.proofs.Common.{◌≡◌, ◌++◌, drop}
 use Rattle.std.specs.Prelude.{flat_map}
-use Rattle.scasp_print.specs.Block.{map_line}
+use Rattle.scasp_cert.specs.Text.Block.{map_line}
 use Rattle.scasp_print.proofs.block.put_map.Given as goal
 
 abbrev pub invariant-loop-line : goal.invariant-loop-line

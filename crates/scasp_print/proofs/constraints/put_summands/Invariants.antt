@@ -1,5 +1,5 @@
 use Rattle.std.proofs.Common.{◌≡◌, ◌++◌, true, drop}
-use Rattle.scasp_print.specs.Constraints.{summands_text}
+use Rattle.scasp_cert.specs.Text.Constraints.{summands_text}
 use Rattle.scasp_print.proofs.constraints.put_summands.Given as goal
 
 abbrev pub invariant-loop-summand : goal.invariant-loop-summand

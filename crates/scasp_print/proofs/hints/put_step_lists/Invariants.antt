@@ -1,5 +1,5 @@
 use Rattle.std.proofs.Common.{◌≡◌, ◌++◌, true, drop}
-use Rattle.scasp_print.specs.Hints.{step_lists_text}
+use Rattle.scasp_cert.specs.Text.Hints.{step_lists_text}
 use Rattle.scasp_print.proofs.hints.put_step_lists.Given as goal
 
 abbrev pub invariant-loop-steps : goal.invariant-loop-steps

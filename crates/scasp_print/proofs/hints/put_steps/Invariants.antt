@@ -1,5 +1,5 @@
 use Rattle.std.proofs.Common.{◌≡◌, ◌++◌, true, drop}
-use Rattle.scasp_print.specs.Hints.{steps_text}
+use Rattle.scasp_cert.specs.Text.Hints.{steps_text}
 use Rattle.scasp_print.proofs.hints.put_steps.Given as goal
 
 abbrev pub invariant-loop-step : goal.invariant-loop-step

@@ -1,6 +1,6 @@
 use Rattle.std.proofs.Common.{◌≡◌, drop}
 use Rattle.std.specs.List.{list_all}
-use Rattle.scasp_print.specs.Names.{is_word_byte}
+use Rattle.scasp_cert.specs.Text.Names.{is_word_byte}
 use Rattle.scasp_print.proofs.names.are_word_bytes.Given as goal
 
 abbrev pub invariant-loop-byte : goal.invariant-loop-byte

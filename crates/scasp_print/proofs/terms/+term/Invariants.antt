@@ -1,6 +1,6 @@
 use Rattle.std.proofs.Common.{◌≡◌, ◌++◌, true, drop}
 use Rattle.scasp_syntax.specs.View.{tms_of}
-use Rattle.scasp_print.specs.Terms.{terms_text, pair_text}
+use Rattle.scasp_cert.specs.Text.Terms.{terms_text, pair_text}
 use Rattle.scasp_print.proofs.terms.+term.Given as goal
 
 abbrev pub invariant-put_pair-loop-term : goal.invariant-put_pair-loop-term

@@ -1,7 +1,7 @@
 use Rattle.std.proofs.Common.{◌≡◌, ◌++◌, map, drop}
 use Rattle.scasp_cert.specs.View.{tree_of, cover_of}
 use Rattle.scasp_cert.specs.Trees.{listed, covering}
-use Rattle.scasp_print.specs.Trees.{trees_text, branches_text}
+use Rattle.scasp_cert.specs.Text.Trees.{trees_text, branches_text}
 use Rattle.scasp_print.proofs.trees.+tree.Given as goal
 
 abbrev pub invariant-put_nodes-loop-node : goal.invariant-put_nodes-loop-node

@@ -4,7 +4,7 @@ use Rattle.std.specs.Fmt.{signed_decimal}
 use Rattle.scasp_num.specs.declared.hints.Step.{Step}
 use Rattle.scasp_syntax.specs.declared.hint.Hint.{Hint}
 use Rattle.scasp_syntax.specs.declared.hint.Hint.TheVariants as hint
-use Rattle.scasp_print.specs.Separators.{separator_text}
+use Rattle.scasp_cert.specs.Text.Separators.{separator_text}
 
 -- `a*p+b*q`: a times row p plus b times row q
 unfoldable pub step_text : Step → List ℕ

@@ -9,8 +9,8 @@ use Rattle.scasp_num.specs.declared.linear.Op.TheVariants as op
 use Rattle.scasp_syntax.specs.View.{tm_of}
 use Rattle.scasp_syntax.specs.declared.con.Con.{Con}
 use Rattle.scasp_syntax.specs.declared.con.Con.TheVariants as con
-use Rattle.scasp_print.specs.Names.{name_text, constant_text}
-use Rattle.scasp_print.specs.Terms.{var_text, term_text}
+use Rattle.scasp_cert.specs.Text.Names.{name_text, constant_text}
+use Rattle.scasp_cert.specs.Text.Terms.{var_text, term_text}
 
 -- the sign between a sum and what follows; a negative number brings its own
 abbrev pub plus_text : ℤ → List ℕ

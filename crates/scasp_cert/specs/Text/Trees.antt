@@ -3,9 +3,9 @@ use Rattle.std.specs.Prelude.{ℕ, ◌+◌, List, [], ◌∷◌, ◌++◌, repli
 use Rattle.scasp_syntax.specs.Tm.{Tms}
 use Rattle.scasp_syntax.specs.declared.atom.Atom.{Atom}
 use Rattle.scasp_cert.specs.Trees.{Tree, Trees, Branch, Branches, pos_tree, neg_tree, loop_tree, seen_tree, test_tree, no_tree, tree, split, void, leaf, head, no_branch, branch}
-use Rattle.scasp_print.specs.Terms.{list_text, atom_text, lit_text}
-use Rattle.scasp_print.specs.Constraints.{con_text}
-use Rattle.scasp_print.specs.Hints.{hint_text}
+use Rattle.scasp_cert.specs.Text.Terms.{list_text, atom_text, lit_text}
+use Rattle.scasp_cert.specs.Text.Constraints.{con_text}
+use Rattle.scasp_cert.specs.Text.Hints.{hint_text}
 
 -- the text as a line behind so many blanks
 unfoldable pub line_text : ℕ → List ℕ → List ℕ

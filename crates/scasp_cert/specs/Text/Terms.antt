@@ -6,8 +6,8 @@ use Rattle.scasp_num.specs.Number.{Number}
 use Rattle.scasp_syntax.specs.Tm.{Tm, Tms, var, num, app, nil, cons, items}
 use Rattle.scasp_syntax.specs.declared.atom.Atom.{Atom}
 use Rattle.scasp_syntax.specs.declared.atom.Lit.{Lit}
-use Rattle.scasp_print.specs.Separators.{separator_text}
-use Rattle.scasp_print.specs.Names.{name_text, constant_text}
+use Rattle.scasp_cert.specs.Text.Separators.{separator_text}
+use Rattle.scasp_cert.specs.Text.Names.{name_text, constant_text}
 
 -- `V0`
 abbrev pub var_text : ℕ → List ℕ

@@ -6,11 +6,11 @@ use Rattle.scasp_syntax.specs.declared.predicate_map.PredMap.{PredMap}
 use Rattle.scasp_cert.specs.Trees.{Branch, listed}
 use Rattle.scasp_cert.specs.Certificate.{Certificate}
 use Rattle.scasp_cert.specs.declared.certificate.Clash.{Clash}
-use Rattle.scasp_print.specs.Names.{name_text}
-use Rattle.scasp_print.specs.Terms.{list_text, minus_text}
-use Rattle.scasp_print.specs.Constraints.{con_text}
-use Rattle.scasp_print.specs.Hints.{hint_text}
-use Rattle.scasp_print.specs.Trees.{trees_text, branch_text}
+use Rattle.scasp_cert.specs.Text.Names.{name_text}
+use Rattle.scasp_cert.specs.Text.Terms.{list_text, minus_text}
+use Rattle.scasp_cert.specs.Text.Constraints.{con_text}
+use Rattle.scasp_cert.specs.Text.Hints.{hint_text}
+use Rattle.scasp_cert.specs.Text.Trees.{trees_text, branch_text}
 
 -- `answer Q.N TERMS`, the first line of answer N to query Q
 unfoldable pub answer_line : List (List ℕ) → Certificate → ℕ → List ℕ
