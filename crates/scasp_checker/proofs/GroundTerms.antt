@@ -10,7 +10,7 @@ use Rattle.scasp_syntax.specs.declared.atom.Atom.{Atom}
 use Rattle.scasp_syntax.proofs.SameLemmas.{tm_decided}
 use Rattle.scasp_syntax.proofs.ValueLemmas.{all_under-all_under}
 use Rattle.scasp_model.specs.Grounding.{choices}
-use Rattle.scasp_sound.proofs.ListLemmas.{Contains-map, Contains-flat_map, list_any-member, Contains-here}
+use Rattle.scasp_list.proofs.MemberLemmas.{Contains-map, Contains-flat_map, list_any-member, Contains-here}
 
 mutual
   under-ground : (s : Sub) (t : Tm) → is_ground t ≡ true → under s t ≡ t

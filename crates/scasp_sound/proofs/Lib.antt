@@ -9,7 +9,6 @@ pub mod KeepingLemmas
 pub mod LeastInduction
 pub mod LevelInduction
 pub mod LevelLemmas
-pub mod ListLemmas
 pub mod ReadingLemmas
 pub mod ReductLemmas
 pub mod ResidualLemmas
