@@ -10,6 +10,7 @@ pub mod LeastInduction
 pub mod LevelInduction
 pub mod LevelLemmas
 pub mod ListLemmas
+pub mod MapKeeping
 pub mod ReadingLemmas
 pub mod ReductLemmas
 pub mod ResidualLemmas
