@@ -5,6 +5,5 @@ pub mod FaultLemmas
 pub mod FoundedLines
 pub mod GroundTerms
 pub mod Judging
-pub mod MapKeeping
 pub mod Soundness
 pub mod VerdictLemmas

@@ -26,18 +26,17 @@ use Rattle.scasp_cert.specs.Certificate.{Certificate}
 use Rattle.scasp_cert.specs.Instances.{Said, said, said_at, said_below, true_atoms, false_atoms, is_closed_over}
 use Rattle.scasp_cert.specs.Trees.{listed}
 use Rattle.scasp_sound.specs.Good.{Good, GoodAt, GoodRight, Extendable, holds_by, query_values}
+use Rattle.scasp_sound.specs.MapLevels.{level_of, plus_of, covered, NoneLeft}
 use Rattle.scasp_sound.specs.Support.{Founded, Supports, Joins}
 use Rattle.scasp_sound.proofs.JoinLemmas.{joined}
 use Rattle.scasp_sound.proofs.LevelInduction.{levelled-stable}
 use Rattle.scasp_list.proofs.MemberLemmas.{Contains-here, Contains-there, Contains-map, Contains-from_map, Contains-filter, Contains-from_filter, list_all-from, list_any-from, list_any-member}
+use Rattle.scasp_sound.proofs.MapKeeping.{left-keeps}
 use Rattle.scasp_sound.proofs.SupportLemmas.{Supports-founded}
 use Rattle.scasp_checker.specs.Accepted.{Accepts, AreAccepted}
-use Rattle.scasp_checker.specs.MapLevels.{level_of, plus_of, NoneLeft}
-use Rattle.scasp_checker.specs.Verdicts.{covered}
 use Rattle.scasp_checker.proofs.Calls.{IsCalls, accepted_calls, are_calls, flat-calls}
 use Rattle.scasp_checker.proofs.FoundedLines.{IsFounded, trees-founded, say_dues, are_closed}
 use Rattle.scasp_checker.proofs.GroundTerms.{atom_under-atom_under}
-use Rattle.scasp_checker.proofs.MapKeeping.{left-keeps}
 
 -- an item of a positive body holds where its atom is true
 pub holds-calls : (t f : List Atom) (s : Sub) (ls : List Lit) → is_positive ls ≡ true → ((l : Lit) → Contains ls l → among t (atom_under s l.atom) ≡ true)

@@ -4,10 +4,11 @@ use Rattle.scasp_syntax.specs.declared.program.Program.{Program}
 use Rattle.scasp_cert.specs.Certificate.{Certificate}
 use Rattle.scasp_graph.specs.Map.{map_faults}
 use Rattle.scasp_sound.specs.Good.{GoodRight}
+use Rattle.scasp_sound.specs.MapLevels.{covered}
 use Rattle.scasp_checker.specs.Accepted.{Accepts}
 use Rattle.scasp_checker.specs.Faults.{faults}
 use Rattle.scasp_checker.specs.Judged.{first, IsFirst}
-use Rattle.scasp_checker.specs.Verdicts.{covered, Refutes}
+use Rattle.scasp_checker.specs.Verdicts.{Refutes}
 use Rattle.scasp_checker.specs.declared.refusal.CheckErr.{CheckErr}
 use Rattle.scasp_checker.specs.declared.refusal.CheckErr.TheVariants.{Refused, Memory}
 use Rattle.scasp_checker.proofs.FaultLemmas.{accepted-no_fault}

@@ -3,5 +3,4 @@ pub mod Examples
 pub mod Faults
 pub mod Judged
 pub mod MapEntries
-pub mod MapLevels
 pub mod Verdicts

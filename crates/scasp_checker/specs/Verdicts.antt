@@ -1,6 +1,5 @@
 -- What the checker answers.
-use Rattle.std.specs.Prelude.{◌≡◌, ℕ, ⊤, List, [], map, Result, Ok, Err}
-use Rattle.scasp_cert.specs.Certificate.{Certificate}
+use Rattle.std.specs.Prelude.{◌≡◌, ℕ, ⊤, List, [], Result, Ok, Err}
 use Rattle.scasp_graph.specs.Judged.{judged}
 use Rattle.scasp_checker.specs.Judged.{IsFirst}
 use Rattle.scasp_checker.specs.declared.verdict.Verdict.{Verdict}
@@ -8,10 +7,6 @@ use Rattle.scasp_checker.specs.declared.verdict.Verdict.TheVariants.{Right, Join
 use Rattle.scasp_checker.specs.declared.refusal.CheckErr.{CheckErr}
 use Rattle.scasp_checker.specs.declared.refusal.CheckErr.TheVariants.{Refused, Memory}
 use Rattle.scasp_checker.specs.declared.refusal.Refusal.{Refusal}
-
--- the clauses of the checks
-abbrev pub covered : Certificate → List ℕ
-covered c = map (λ k. k.0) c.checks
 
 -- right where there is neither a fault nor a clause that breaks the map; it joins where such a clause is the first; else the first fault
 abbrev pub Decides : Result Verdict CheckErr → List Refusal → List ℕ → Type 0

@@ -4,10 +4,11 @@ ghost use Rattle.std.specs.Prelude.{◌≡◌, map, IfOk, IfErr, OnOk};
 ghost use Rattle.scasp_cert.specs.Certificate.{certificate_of, checks_of};
 ghost use Rattle.scasp_checker.specs.Accepted.{Accepts};
 ghost use Rattle.scasp_checker.specs.Faults.{faults};
-ghost use Rattle.scasp_checker.specs.Verdicts.{covered, Decides, Refutes};
+ghost use Rattle.scasp_checker.specs.Verdicts.{Decides, Refutes};
 ghost use Rattle.scasp_checker.specs.declared.verdict.Verdict.TheVariants as answers;
 ghost use Rattle.scasp_graph.specs.Map.{map_faults};
 ghost use Rattle.scasp_sound.specs.Good.{Good, GoodRight, HasClosedDomains};
+ghost use Rattle.scasp_sound.specs.MapLevels.{covered};
 
 use crate::acceptance::accept;
 use crate::refusal::CheckErr;

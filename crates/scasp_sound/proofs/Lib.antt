@@ -9,6 +9,7 @@ pub mod KeepingLemmas
 pub mod LeastInduction
 pub mod LevelInduction
 pub mod LevelLemmas
+pub mod MapKeeping
 pub mod ReadingLemmas
 pub mod ReductLemmas
 pub mod ResidualLemmas

@@ -1,7 +1,9 @@
 //! What holds of atoms that a ground program supports.
 ghost use Rattle.std.specs.Prelude.{◌≡◌, ℕ, ◌+◌, ◌⊎◌, Bool, IsTrue, List, [], ◌∷◌, ◌++◌, length, not, Contains};
+ghost use Rattle.scasp_graph.specs.Map.{MapHolds};
 ghost use Rattle.scasp_model.specs.Atoms.{SameAtoms, among};
 ghost use Rattle.scasp_model.specs.Examples.{p, q, r};
+ghost use Rattle.scasp_model.specs.Grounding.{ground_program};
 ghost use Rattle.scasp_model.specs.Levelled.{plus_steps, plus_model, levelled_model};
 ghost use Rattle.scasp_model.specs.Levels.{keeps_rule, keeps_levels};
 ghost use Rattle.scasp_model.specs.Residual.{residual, residual_of};
@@ -9,8 +11,12 @@ ghost use Rattle.scasp_model.specs.Stable.{Stable};
 ghost use Rattle.scasp_model.specs.declared.program.GroundClause.{GroundClause as ThisClause};
 ghost use Rattle.scasp_sound.specs.Carried.{CarriedByRule};
 ghost use Rattle.scasp_sound.specs.Examples.{choice, circle, entered};
+ghost use Rattle.scasp_sound.specs.MapLevels.{level_of, plus_of, NoneLeft};
 ghost use Rattle.scasp_sound.specs.Support.{BodiesWithin, Founded, Joins, Lower, LowerInPair, RestsBelow, Supports};
+ghost use Rattle.scasp_syntax.specs.Tm.{Tm};
 ghost use Rattle.scasp_syntax.specs.declared.atom.Atom.{Atom as ThisAtom};
+ghost use Rattle.scasp_syntax.specs.declared.predicate_map.PredMap.{PredMap as ThisMap};
+ghost use Rattle.scasp_syntax.specs.declared.program.Program.{Program as ThisProgram};
 
 /// Where a program supports that the atoms `t` are true and the atoms `f` false, each stable model of
 /// what they leave of it is, joined with `t`, a stable model of the whole.
@@ -52,6 +58,12 @@ pub fn extension()
     ensures kept { (level : ThisAtom → ℕ) (plus : ThisAtom → Bool) (g : List ThisClause) (t f : List ThisAtom) → IsTrue (keeps_levels level plus g) → IsTrue (keeps_levels level plus (residual t f g)) }
     ensures left { (level : ThisAtom → ℕ) (plus : ThisAtom → Bool) (g : List ThisClause) (t f : List ThisAtom) → ((c : ThisClause) → Contains g c → IsTrue (keeps_rule level plus c) ⊎ (residual_of t f c ≡ [])) → IsTrue (keeps_levels level plus (residual t f g)) }
     ensures extends { (level : ThisAtom → ℕ) (plus : ThisAtom → Bool) (g : List ThisClause) (t f : List ThisAtom) → IsTrue (keeps_levels level plus (residual t f g)) → Supports g t f → Stable g (t ++ levelled_model level plus (residual t f g)) }
+{}
+
+/// Where a program keeps a map and nothing is left of the clauses that are covered, what known atoms leave
+/// of the program over a domain keeps the map's levels and signs.
+pub fn kept_maps_give_levels()
+    ensures { (p : ThisProgram) (checked : List ℕ) (map : List ThisMap) (d : List Tm) (t f : List ThisAtom) → MapHolds p checked map → NoneLeft p checked d t f → IsTrue (keeps_levels (level_of map) (plus_of map) (residual t f (ground_program d p))) }
 {}
 
 /// By hand: `p :- p.` does not support p; a circle with a way in supports its atoms; of a choice between

@@ -12,7 +12,7 @@ use Rattle.scasp_syntax.specs.declared.predicate_map.PredMap.{PredMap}
 use Rattle.scasp_syntax.specs.declared.program.Program.{Program}
 use Rattle.scasp_cert.specs.Certificate.{Certificate}
 use Rattle.scasp_checker.specs.Accepted.{Accepts}
-use Rattle.scasp_checker.specs.Verdicts.{covered}
+use Rattle.scasp_sound.specs.MapLevels.{covered}
 use Rattle.scasp_checker.proofs.Soundness.{accepted-good_right}
 use Rattle.scasp_graph.specs.Map.{MapHolds, map_faults, is_positive_item, is_positive_rule}
 use Rattle.scasp_graph.proofs.MapLemmas.{empty_map_holds}

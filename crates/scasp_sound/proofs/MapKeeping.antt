@@ -25,7 +25,7 @@ use Rattle.scasp_model.specs.declared.program.GroundClause.{GroundClause}
 use Rattle.scasp_sound.proofs.KeepingLemmas.{residual-keeps}
 use Rattle.scasp_list.proofs.MemberLemmas.{Contains-none, Contains-from_map, Contains-from_flat_map}
 use Rattle.scasp_sound.proofs.ResidualLemmas.{left, residual-has}
-use Rattle.scasp_checker.specs.MapLevels.{level_of, plus_of, NoneLeft}
+use Rattle.scasp_sound.specs.MapLevels.{level_of, plus_of, NoneLeft}
 
 all_under-length : (s : Sub) (ts : Tms) → length (items (all_under s ts)) ≡ length (items ts)
 all_under-length s nil = refl

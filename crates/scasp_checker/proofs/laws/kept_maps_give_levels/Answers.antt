@@ -1,5 +1,0 @@
-use Rattle.scasp_checker.proofs.MapKeeping.{left-keeps}
-use Rattle.scasp_checker.proofs.laws.kept_maps_give_levels.Goals as goal
-
-pub returns : goal.returns
-returns c = left-keeps
