@@ -1,5 +1,5 @@
 -- Terms of several terms.
-use Rattle.std.proofs.Common.{◌≡◌, ◌≢◌, ℕ, zero, suc, ◌-◌, ◌<◌, List, [], ◌∷◌, ◌++◌, map, true, false, Option, None, Some, Result, Ok, Err, refl, sym, ap, ◌∙◌, arith}
+use Rattle.std.proofs.Common.{◌≡◌, ℕ, ◌⊎◌, inl, inr, zero, suc, ◌-◌, ◌<◌, List, [], ◌∷◌, ◌++◌, map, true, false, Option, None, Some, Result, Ok, Err, refl, sym, ap, ◌∙◌, arith}
 use Rattle.std.proofs.lemmas.List.{map-append}
 use Rattle.scasp_num.specs.Number.{Number}
 use Rattle.scasp_syntax.specs.declared.term.Term.{Term}
@@ -63,13 +63,17 @@ module _ (room : ℕ) (s : State) where
   pub term_none : token_of s.tokens ≡ None → term room s ≡ Err (unexpected_fault s)
   term_none e = at_token _ e
 
-  pub term_other : (t : Token) → token_of s.tokens ≡ Some t → ((x : List ℕ) → t ≢ token.Variable x) → ((q : Option Number) → t ≢ token.Number q) → ((x : List ℕ) → t ≢ token.Name x) → ((g : Sign) → t ≢ token.Sign g)
+  -- a token that begins no term
+  pub term_other : (t : Token) → token_of s.tokens ≡ Some t
+      → (t ≡ token.Not) ⊎ ((t ≡ token.SkippedDirective) ⊎ ((t ≡ token.UnclosedDirective) ⊎ ((t ≡ token.OtherDirective) ⊎ ((t ≡ token.BadByte) ⊎ ((t ≡ token.Unclosed) ⊎ (t ≡ token.End))))))
       → term room s ≡ Err (unexpected_fault s)
-  term_other (token.Variable x) e a b n g = absurd (a x refl)
-  term_other (token.Number q) e a b n g = absurd (b q refl)
-  term_other (token.Name x) e a b n g = absurd (n x refl)
-  term_other (token.Sign x) e a b n g = absurd (g x refl)
-  term_other t e a b n g = at_token _ e
+  term_other t e (inl n) = at_token _ (e ∙ ap Some n)
+  term_other t e (inr (inl n)) = at_token _ (e ∙ ap Some n)
+  term_other t e (inr (inr (inl n))) = at_token _ (e ∙ ap Some n)
+  term_other t e (inr (inr (inr (inl n)))) = at_token _ (e ∙ ap Some n)
+  term_other t e (inr (inr (inr (inr (inl n))))) = at_token _ (e ∙ ap Some n)
+  term_other t e (inr (inr (inr (inr (inr (inl n)))))) = at_token _ (e ∙ ap Some n)
+  term_other t e (inr (inr (inr (inr (inr (inr n)))))) = at_token _ (e ∙ ap Some n)
 
 -- a thing more of a series: with a comma behind it, or without
 module _ {A : Type 0} (one : List A → Read A) (n : ℕ) (before : List A) (some : 0 < n) (s s1 s2 : State) (x : A) (is_one : one before s ≡ Ok (x, s1)) where

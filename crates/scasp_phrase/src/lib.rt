@@ -8,4 +8,4 @@ mod terms;
 
 pub use fault::{Count, Fault, Kind, Stop};
 pub use reader::{Reader, VARIABLE_LIMIT};
-pub use terms::ARITY_LIMIT;
+pub use terms::{ARITY_LIMIT, arguments_of};

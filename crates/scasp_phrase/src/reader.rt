@@ -1,5 +1,5 @@
 //! What a reader knows, and its smallest steps.
-ghost use Rattle.std.specs.Prelude.{◌≡◌, ◌<◌, length, option_copied};
+ghost use Rattle.std.specs.Prelude.{◌≡◌, ◌<◌, [], length, option_copied};
 ghost use Rattle.scasp_phrase.specs.Faults.{fault_at};
 ghost use Rattle.scasp_phrase.specs.Steps.{start, set_list, place_of, token_of, noted, told, kind_of_sign, unexpected_fault, behind, note_if, is_sign, taken, expect, Does};
 ghost use Rattle.scasp_phrase.specs.Names.{interned, known_variable, new_variable, variable_at};
@@ -77,6 +77,27 @@ impl<'a> Reader<'a> {
         self.rest.len()
     }
 
+    /// The tokens that are left, the next one first.
+    pub fn tokens(&self) -> &'a [Placed]
+        ensures { result.now ≡ self.now.tokens }
+    {
+        self.rest
+    }
+
+    /// The texts of the clause's variables, by their numbers.
+    pub fn variables(&self) -> &[Text]
+        ensures { result.now ≡ self.now.variables }
+    {
+        self.variables.as_slice()
+    }
+
+    /// Begins another clause, which has no variables yet.
+    pub fn forget_variables(&mut self)
+        ensures { self.new ≡ record self.old { variables = [] } }
+    {
+        self.variables = Sequence::new(self.variables.allocator());
+    }
+
     /// Sets whether the innermost open bracket is that of a list, and tells whether it was.
     pub fn set_list(&mut self, is_list: bool) -> bool
         ensures was { result ≡ self.old.is_in_list }
@@ -137,7 +158,17 @@ impl<'a> Reader<'a> {
             }
             Some(Token::BadByte) => Kind::BadByte,
             Some(Token::Unclosed) => Kind::Unclosed,
-            _ => Kind::Expected,
+            Some(
+                Token::Name(_)
+                | Token::Not
+                | Token::Variable(_)
+                | Token::Number(_)
+                | Token::SkippedDirective
+                | Token::UnclosedDirective
+                | Token::OtherDirective
+                | Token::End,
+            )
+            | None => Kind::Expected,
         };
         self.told(self.at(), kind)
     }
@@ -148,7 +179,22 @@ impl<'a> Reader<'a> {
         match sign {
             Sign::Foreign => Kind::Unsupported,
             Sign::Bar if !self.is_in_list => Kind::Unsupported,
-            _ => Kind::Expected,
+            Sign::Open
+            | Sign::Close
+            | Sign::OpenList
+            | Sign::CloseList
+            | Sign::Comma
+            | Sign::Bar
+            | Sign::Plus
+            | Sign::Minus
+            | Sign::Times
+            | Sign::Over
+            | Sign::If
+            | Sign::Query
+            | Sign::Equal
+            | Sign::Differ
+            | Sign::Stop
+            | Sign::Relation(_, _) => Kind::Expected,
         }
     }
 
@@ -159,7 +205,16 @@ impl<'a> Reader<'a> {
         self.is_behind_operand = match self.token() {
             Some(Token::Name(_) | Token::Variable(_) | Token::Number(_)) => true,
             Some(Token::Sign(sign)) => matches!(sign, Sign::Close | Sign::CloseList),
-            _ => false,
+            Some(
+                Token::Not
+                | Token::SkippedDirective
+                | Token::UnclosedDirective
+                | Token::OtherDirective
+                | Token::BadByte
+                | Token::Unclosed
+                | Token::End,
+            )
+            | None => false,
         };
         self.rest = match self.rest {
             [_, rest @ ..] => rest,
@@ -180,9 +235,10 @@ impl<'a> Reader<'a> {
     pub fn is_sign(&self, sign: Sign) -> bool
         ensures { result ≡ is_sign sign (token_of self.now.tokens) }
     {
-        match self.token() {
-            Some(Token::Sign(next)) => sign == *next,
-            _ => false,
+        if let Some(Token::Sign(next)) = self.token() {
+            sign == *next
+        } else {
+            false
         }
     }
 

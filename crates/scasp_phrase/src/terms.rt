@@ -19,7 +19,7 @@ use std::alloc::Global;
 pub const ARITY_LIMIT: usize = 32;
 
 /// The terms as arguments.
-fn arguments_of(alloc: Global, terms: Vec<Term>) -> Result<Terms, Memory>
+pub fn arguments_of(alloc: Global, terms: Vec<Term>) -> Result<Terms, Memory>
     ensures { IfOk result (λ ts. ts ≡ listed (map tm_of terms.items)) }
 {
     let mut arguments = Terms::new(alloc);
@@ -64,7 +64,13 @@ impl Reader<'_> {
             Token::Number(_) => self.constant(alloc),
             Token::Name(text) => self.compound(alloc, room, text.as_str()),
             Token::Sign(sign) => self.term_at_sign(alloc, room, *sign),
-            _ => Err(Stop::At(self.unexpected())),
+            Token::Not
+            | Token::SkippedDirective
+            | Token::UnclosedDirective
+            | Token::OtherDirective
+            | Token::BadByte
+            | Token::Unclosed
+            | Token::End => Err(Stop::At(self.unexpected())),
         }
     }
 
@@ -76,7 +82,21 @@ impl Reader<'_> {
             Sign::Minus => self.constant(alloc),
             Sign::OpenList if room == 0 => Err(Stop::At(self.too_deep())),
             Sign::OpenList => self.list(alloc, room - 1),
-            _ => Err(Stop::At(self.unexpected())),
+            Sign::Open
+            | Sign::Close
+            | Sign::CloseList
+            | Sign::Comma
+            | Sign::Bar
+            | Sign::Plus
+            | Sign::Times
+            | Sign::Over
+            | Sign::If
+            | Sign::Query
+            | Sign::Equal
+            | Sign::Differ
+            | Sign::Stop
+            | Sign::Relation(_, _)
+            | Sign::Foreign => Err(Stop::At(self.unexpected())),
         }
     }
 
@@ -108,9 +128,9 @@ impl Reader<'_> {
         Ok(Term::App(name, arguments))
     }
 
-    /// `["(" term {"," term} ")"]`
+    /// `["(" term {"," term} ")"]`, where `room` brackets may be opened inside one another.
     #[cycle(term)]
-    fn arguments(&mut self, alloc: Global, room: u64) -> Result<Vec<Term>, Stop>
+    pub fn arguments(&mut self, alloc: Global, room: u64) -> Result<Vec<Term>, Stop>
         ensures { Does (λ v. map tm_of v.items) (arguments (below term room)) self.old result self.new }
     {
         if !self.is_sign(Sign::Open) {

@@ -68,7 +68,6 @@ term-returns-in_default t c =
     let tok : token_of s.tokens ≡ None = cc in
     term_none c.args.room s tok ∙ ap (λ f. Err f) (sym c.unexpected.ensures)
 
-pub term-returns-in_default-token : goal.term-returns-in_default-token
-term-returns-in_default-token t c =
-    let n = c.in_default-token in
-    term_other c.args.room c.args.self.now c.in-Some.token.now (sym c.in-Some.ensures) n.not-Variable n.not-Number n.not-Name n.not-Sign ∙ ap (λ f. Err f) (sym c.unexpected-in_default-token.ensures)
+pub term-returns-in-Not : goal.term-returns-in-Not
+term-returns-in-Not t c =
+    term_other c.args.room c.args.self.now c.in-Some.token.now (sym c.in-Some.ensures) c.in-Not.is ∙ ap (λ f. Err f) (sym c.unexpected-in-Not.ensures)
