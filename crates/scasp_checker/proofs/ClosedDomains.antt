@@ -1,55 +1,18 @@
 -- Above each domain there is a closed one.
-use Rattle.std.proofs.Common.{◌≡◌, ◌∙◌, ℕ, Bool, true, false, ◌&&◌, not, cond, List, [], ◌∷◌, ◌++◌, map, refl, ap, sym}
+use Rattle.std.proofs.Common.{◌≡◌, ◌∙◌, ℕ, Bool, true, false, cond, List, [], ◌∷◌, ◌++◌, map, refl, sym}
 use Rattle.std.specs.List.{list_all, flat_map}
-use Rattle.std.proofs.lemmas.Bool.{and_parts, and_from, or_left, or_right}
+use Rattle.std.proofs.lemmas.Bool.{and_parts, and_from}
 use Rattle.std.proofs.lemmas.List.Folds.{list_all-append}
 use Rattle.scasp_syntax.specs.Constraints.{holds}
-use Rattle.scasp_syntax.specs.Same.{same_tm}
 use Rattle.scasp_syntax.specs.Tm.{Tm, items}
 use Rattle.scasp_syntax.specs.Values.{Valuation, under, is_ground}
 use Rattle.scasp_syntax.specs.declared.program.Program.{Program}
-use Rattle.scasp_syntax.proofs.SameLemmas.{tm_decided}
 use Rattle.scasp_syntax.proofs.ValueLemmas.{is_ground-under}
-use Rattle.scasp_model.specs.Grounding.{is_domain}
 use Rattle.scasp_cert.specs.Certificate.{Certificate}
 use Rattle.scasp_cert.specs.Instances.{Said, said, said_by, said_below, said_at, said_in}
 use Rattle.scasp_cert.specs.Trees.{Tree, Trees, Branch, Branches, pos_tree, neg_tree, loop_tree, seen_tree, test_tree, no_tree, tree, split, void, leaf, head, no_branch, branch, listed}
 use Rattle.scasp_sound.specs.Good.{HasClosedDomains}
-use Rattle.scasp_checker.proofs.GroundTerms.{within}
-
--- the domain with those of the terms that it lacks
-abbrev grown : List Tm → List Tm → List Tm
-grown d [] = d
-grown d (t ∷ ts) = cond (within d t) (grown d ts) (grown (t ∷ d) ts)
-
-grown-both : (d : List Tm) (t : Tm) (ts : List Tm) (P : List Tm → Type 0)
-    → (within d t ≡ true → P (grown d ts)) → (within d t ≡ false → P (grown (t ∷ d) ts)) → P (grown d (t ∷ ts))
-grown-both d t ts P f g = by (within d t) refl
-  where
-    by : (b : Bool) → within d t ≡ b → P (grown d (t ∷ ts))
-    by true e = rw e (f e)
-    by false e = rw e (g e)
-
-grown-domain : (d ts : List Tm) → is_domain d ≡ true → list_all is_ground ts ≡ true → is_domain (grown d ts) ≡ true
-grown-domain d [] h g = h
-grown-domain d (t ∷ ts) h g =
-    let p = and_parts (is_ground t) (list_all is_ground ts) g in
-    grown-both d t ts (λ z. is_domain z ≡ true) (λ e. grown-domain d ts h p.1)
-    (λ e. grown-domain (t ∷ d) ts
-    (and_from (is_ground t && not (within d t)) (is_domain d) (and_from (is_ground t) (not (within d t)) p.0 (ap not e)) h) p.1)
-
-grown-keeps : (d ts : List Tm) (u : Tm) → within d u ≡ true → within (grown d ts) u ≡ true
-grown-keeps d [] u h = h
-grown-keeps d (t ∷ ts) u h =
-    grown-both d t ts (λ z. within z u ≡ true) (λ e. grown-keeps d ts u h) (λ e. grown-keeps (t ∷ d) ts u (or_right (same_tm u t) (within d u) h))
-
-grown-has : (d ts : List Tm) → list_all (within (grown d ts)) ts ≡ true
-grown-has d [] = refl
-grown-has d (t ∷ ts) =
-    grown-both d t ts (λ z. list_all (within z) (t ∷ ts) ≡ true)
-    (λ e. and_from (within (grown d ts) t) (list_all (within (grown d ts)) ts) (grown-keeps d ts t e) (grown-has d ts))
-    (λ e. and_from (within (grown (t ∷ d) ts) t) (list_all (within (grown (t ∷ d) ts)) ts)
-    (grown-keeps (t ∷ d) ts t (or_left (same_tm t t) (within d t) ((tm_decided t t).1 refl))) (grown-has (t ∷ d) ts))
+use Rattle.scasp_sound.proofs.DomainLemmas.{within, grown, grown-domain, grown-keeps, grown-has}
 
 -- all terms that lines list
 abbrev all_terms : List Said → List Tm

@@ -1,6 +1,6 @@
 -- Terms without variables, and lists of them as values of variables.
-use Rattle.std.proofs.Common.{◌≡◌, Bool, true, List, [], ◌∷◌, length, map, refl, ap, sym, subst}
-use Rattle.std.specs.List.{Contains, list_all, list_any}
+use Rattle.std.proofs.Common.{◌≡◌, true, List, [], ◌∷◌, length, map, refl, ap, sym, subst}
+use Rattle.std.specs.List.{Contains, list_all}
 use Rattle.std.proofs.lemmas.Bool.{and_parts}
 use Rattle.scasp_syntax.specs.Instances.{atom_under}
 use Rattle.scasp_syntax.specs.Same.{same_tm}
@@ -11,6 +11,7 @@ use Rattle.scasp_syntax.proofs.SameLemmas.{tm_decided}
 use Rattle.scasp_syntax.proofs.ValueLemmas.{all_under-all_under}
 use Rattle.scasp_model.specs.Grounding.{choices}
 use Rattle.scasp_list.proofs.MemberLemmas.{Contains-map, Contains-flat_map, list_any-member, Contains-here}
+use Rattle.scasp_sound.proofs.DomainLemmas.{within}
 
 mutual
   under-ground : (s : Sub) (t : Tm) → is_ground t ≡ true → under s t ≡ t
@@ -40,10 +41,6 @@ atom_under-ground s a g =
 pub atom_under-atom_under : (r s : Sub) (a : Atom) → atom_under r (atom_under s a) ≡ atom_under (λ x. under r (s x)) a
 atom_under-atom_under r s a =
     ap (λ (ts : Tms). let b : Atom = record { minus = a.minus; name = a.name; args = ts } in b) (all_under-all_under r s a.args)
-
--- the term is one of the domain
-abbrev pub within : List Tm → Tm → Bool
-within d t = list_any (same_tm t) d
 
 within-contains : (d : List Tm) (t : Tm) → within d t ≡ true → Contains d t
 within-contains d t h =

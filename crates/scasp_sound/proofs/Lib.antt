@@ -1,6 +1,7 @@
 pub mod BelowLemmas
 pub mod BodyLemmas
 pub mod CarriedLemmas
+pub mod DomainLemmas
 pub mod ExampleLemmas
 pub mod FoundedLemmas
 pub mod HeadLemmas

@@ -23,13 +23,10 @@ use Rattle.scasp_syntax.specs.declared.con.Con.TheVariants as con
 use Rattle.scasp_syntax.specs.declared.program.Program.{Program}
 use Rattle.scasp_syntax.proofs.SameLemmas.{tm_decided}
 use Rattle.scasp_lines.proofs.KnownLemmas.{agree-con}
+use Rattle.scasp_sound.proofs.DomainLemmas.{within}
 use Rattle.scasp_model.specs.Grounding.{choices, ground_program, instance_of, instances, is_test_true, literal_under}
 
--- the term is one of the domain
-abbrev pub within : List Tm → Tm → Bool
-within d t = list_any (same_tm t) d
-
-within-contains : (d : List Tm) (t : Tm) → within d t ≡ true → Contains d t
+pub within-contains : (d : List Tm) (t : Tm) → within d t ≡ true → Contains d t
 within-contains d t h =
     let q = list_any-member (same_tm t) d h in
     subst (λ (u : Tm). Contains d u) (sym ((tm_decided t q.0).0 q.2)) q.1
@@ -59,7 +56,7 @@ coeffs-below n vars (k ∷ ks) h i =
 
 module _ (n : ℕ) (r s : Sub) (same : (x : ℕ) → nat_lt x n ≡ true → r x ≡ s x) where
   mutual
-    below-same : (t : Tm) → is_below n t ≡ true → under r t ≡ under s t
+    pub below-same : (t : Tm) → is_below n t ≡ true → under r t ≡ under s t
     below-same (var x) h = same x h
     below-same (num q) h = refl
     below-same (app f ts) h = ap (app f) (all-below-same ts h)

@@ -14,3 +14,9 @@ pub mod CoverLemmas
 pub mod RefutedLemmas
 pub mod GoodLemmas
 pub mod CheckLemmas
+pub mod RightLemmas
+pub mod SubtermLemmas
+pub mod ListedLemmas
+pub mod VisibleLemmas
+pub mod ReachLemmas
+pub mod ClosedLemmas

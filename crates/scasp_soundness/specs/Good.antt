@@ -1,8 +1,9 @@
 -- What a certificate promises, by what its lines say.
 use Rattle.std.specs.Prelude.{◌≡◌, Bool, ◌&&◌, not, IsTrue, List, Some}
-use Rattle.std.specs.List.{list_all}
+use Rattle.std.specs.List.{list_all, list_any}
 use Rattle.scasp_syntax.specs.Constraints.{Meets}
 use Rattle.scasp_syntax.specs.Programs.{numbered}
+use Rattle.scasp_syntax.specs.Same.{same_tm}
 use Rattle.scasp_syntax.specs.Tm.{Tm, items}
 use Rattle.scasp_syntax.specs.Values.{Sub, Valuation, under, giving}
 use Rattle.scasp_syntax.specs.declared.atom.Atom.{Atom}
@@ -54,3 +55,15 @@ Extendable p c = Over (λ v d. HasStable (residual_over p c v d)) p c
 -- the promise with existence
 abbrev pub GoodRight : Program → Certificate → Type 0
 GoodRight p c = Good p c × Extendable p c
+
+-- a domain that has all of the given one and is closed
+pub record ClosedAbove (p : Program) (c : Certificate) (v : Sub) (given : List Tm) : Type 0 where
+  pub domain : List Tm
+  pub is : IsTrue (is_domain domain)
+  pub has : (t : Tm) → IsTrue (list_any (same_tm t) given) → IsTrue (list_any (same_tm t) domain)
+  pub closed : IsTrue (is_closed_over p c v domain)
+
+-- above each domain there is a closed one, so the promise is not empty
+abbrev pub HasClosedDomains : Program → Certificate → Type 0
+HasClosedDomains p c =
+    (v : Valuation) → Meets v.of c.given → (given : List Tm) → IsTrue (is_domain given) → ClosedAbove p c v.of given

@@ -5,8 +5,11 @@ ghost use Rattle.scasp_model.specs.Atoms.{among};
 ghost use Rattle.scasp_model.specs.Grounding.{ground_program, instances};
 ghost use Rattle.scasp_model.specs.Residual.{is_known_false, residual};
 ghost use Rattle.scasp_model.specs.declared.program.GroundClause.{GroundClause as ThisGroundClause};
+ghost use Rattle.scasp_graph.specs.Map.{MapHolds};
+ghost use Rattle.scasp_sound.specs.MapLevels.{covered};
 ghost use Rattle.scasp_sound.specs.Support.{Founded};
 ghost use Rattle.scasp_cert.specs.Certificate.{Certificate};
+ghost use Rattle.scasp_cert.specs.Flat.{is_flat};
 ghost use Rattle.scasp_cert.specs.Trees.{Branch, Tree, test_tree, void};
 ghost use Rattle.scasp_syntax.specs.Programs.{numbered};
 ghost use Rattle.scasp_syntax.specs.declared.clause.Clause.{Clause as ThisClause};
@@ -16,7 +19,7 @@ ghost use Rattle.scasp_lines.specs.Said.{false_atoms, is_closed_over, true_atoms
 ghost use Rattle.scasp_lines.specs.Scopes.{excludes_no_parts};
 ghost use Rattle.scasp_lines.specs.Walk.{Line, of_case, of_node};
 ghost use Rattle.scasp_soundness.specs.Carriers.{Carrier};
-ghost use Rattle.scasp_soundness.specs.Good.{Good, holds_by, query_values};
+ghost use Rattle.scasp_soundness.specs.Good.{Good, GoodRight, HasClosedDomains, holds_by, query_values};
 ghost use Rattle.scasp_soundness.specs.Premises.{IsAt, Premises};
 ghost use Rattle.scasp_acceptance.specs.Accepted.{AcceptsWhere};
 ghost use Rattle.scasp_acceptance.specs.Normality.{AreRowsNormal};
@@ -68,4 +71,15 @@ pub fn covered_clauses_are_gone()
 /// An accepted certificate with rows in normal form keeps its promise.
 pub fn accepted_is_good()
     ensures { (b : Bool) (p : ThisProgram) (c : Certificate) → AreRowsNormal p c → AcceptsWhere b p c → Good p c }
+{}
+
+/// Where the program keeps the certificate's map but for the clauses that are checked, what an accepted certificate
+/// leaves of it has a stable model each time, the levelled one.
+pub fn right_is_good_with_existence()
+    ensures { (b : Bool) (p : ThisProgram) (c : Certificate) → AreRowsNormal p c → AcceptsWhere b p c → MapHolds p (covered c) c.map → GoodRight p c }
+{}
+
+/// Above each domain there is one that is closed for an accepted certificate which is flat, so that its promise is not empty.
+pub fn closed_domains_exist()
+    ensures { (b : Bool) (p : ThisProgram) (c : Certificate) → AcceptsWhere b p c → IsTrue (is_flat c) → HasClosedDomains p c }
 {}
