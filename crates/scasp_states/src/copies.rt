@@ -1,0 +1,226 @@
+//! Copies.
+ghost use Rattle.std.specs.Prelude.{◌≡◌, IfOk};
+
+use crate::covers::{Cover, Remainder};
+use crate::lines::Line;
+use crate::state::{Bindings, Literal, Made, State};
+use crate::tasks::{Pair, Task};
+use scasp_name::Memory;
+use scasp_syntax::{Duplicate, copy_terms};
+use scasp_unify::Binding;
+use std::alloc::Global;
+
+impl Duplicate for Made {
+    fn duplicate(&self, _alloc: Global) -> Result<Made, Memory> {
+        Ok(*self)
+    }
+}
+
+/// A copy of a binding.
+pub fn copy_binding(alloc: Global, binding: &Binding) -> Result<Binding, Memory>
+    ensures { IfOk result (λ copied. copied ≡ binding.now) }
+{
+    Ok(Binding {
+        x: binding.x,
+        term: binding.term.duplicate(alloc)?,
+    })
+}
+
+/// Copies of bindings.
+pub fn copy_bindings(alloc: Global, bindings: &Bindings) -> Result<Bindings, Memory>
+    ensures { IfOk result (λ copied. copied ≡ bindings.now) }
+{
+    let mut copied = Bindings::new(alloc);
+    for binding in bindings.as_slice() {
+        copied.push(copy_binding(alloc, binding)?)?;
+    }
+    Ok(copied)
+}
+
+fn copy_equation(alloc: Global, equation: &Option<Binding>) -> Result<Option<Binding>, Memory>
+    ensures { IfOk result (λ copied. copied ≡ equation.now) }
+{
+    match equation {
+        Some(binding) => Ok(Some(copy_binding(alloc, binding)?)),
+        None => Ok(None),
+    }
+}
+
+impl Duplicate for Pair {
+    fn duplicate(&self, alloc: Global) -> Result<Pair, Memory> {
+        Ok(Pair {
+            left: self.left.duplicate(alloc)?,
+            right: self.right.duplicate(alloc)?,
+        })
+    }
+}
+
+impl Duplicate for Line {
+    fn duplicate(&self, alloc: Global) -> Result<Line, Memory> {
+        match self {
+            Line::Pos {
+                atom,
+                rule,
+                terms,
+                children,
+            } => Ok(Line::Pos {
+                atom: atom.duplicate(alloc)?,
+                rule: *rule,
+                terms: copy_terms(alloc, terms)?,
+                children: *children,
+            }),
+            Line::Neg { atom, rules } => Ok(Line::Neg {
+                atom: atom.duplicate(alloc)?,
+                rules: *rules,
+            }),
+            Line::Loop { lit, literal } => Ok(Line::Loop {
+                lit: lit.duplicate(alloc)?,
+                literal: *literal,
+            }),
+            Line::Seen { lit, literal } => Ok(Line::Seen {
+                lit: lit.duplicate(alloc)?,
+                literal: *literal,
+            }),
+            Line::Test(constraint) => Ok(Line::Test(constraint.duplicate(alloc)?)),
+            Line::Rule { atom, rule, first } => Ok(Line::Rule {
+                atom: atom.duplicate(alloc)?,
+                rule: *rule,
+                first: *first,
+            }),
+            Line::Check { clause, first } => Ok(Line::Check {
+                clause: *clause,
+                first: *first,
+            }),
+            Line::Split { constraint, parts } => Ok(Line::Split {
+                constraint: constraint.duplicate(alloc)?,
+                parts: parts.duplicate(alloc)?,
+            }),
+            Line::Void => Ok(Line::Void),
+            Line::Leaf(item) => Ok(Line::Leaf(*item)),
+            Line::Head(children) => Ok(Line::Head(*children)),
+        }
+    }
+}
+
+impl Duplicate for Task {
+    fn duplicate(&self, alloc: Global) -> Result<Task, Memory> {
+        match self {
+            Task::Show(item) => Ok(Task::Show(item.duplicate(alloc)?)),
+            Task::Equate(left, right) => Ok(Task::Equate(
+                left.duplicate(alloc)?,
+                right.duplicate(alloc)?,
+            )),
+            Task::Assume(constraint) => Ok(Task::Assume(constraint.duplicate(alloc)?)),
+            Task::Differ(pairs, aim) => Ok(Task::Differ(pairs.duplicate(alloc)?, *aim)),
+            Task::Become { x, term, rest, aim } => Ok(Task::Become {
+                x: *x,
+                term: term.duplicate(alloc)?,
+                rest: rest.duplicate(alloc)?,
+                aim: *aim,
+            }),
+            Task::Avoid {
+                x,
+                value,
+                rest,
+                aim,
+            } => Ok(Task::Avoid {
+                x: *x,
+                value: *value,
+                rest: rest.duplicate(alloc)?,
+                aim: *aim,
+            }),
+            Task::Shape {
+                x,
+                name,
+                args,
+                rest,
+                aim,
+            } => Ok(Task::Shape {
+                x: *x,
+                name: *name,
+                args: copy_terms(alloc, args)?,
+                rest: rest.duplicate(alloc)?,
+                aim: *aim,
+            }),
+            Task::Cover { atom, rule } => Ok(Task::Cover {
+                atom: atom.duplicate(alloc)?,
+                rule: *rule,
+            }),
+            Task::Check {
+                clause,
+                checks_head,
+            } => Ok(Task::Check {
+                clause: *clause,
+                checks_head: *checks_head,
+            }),
+            Task::Begin {
+                clause,
+                first,
+                checks_head,
+            } => Ok(Task::Begin {
+                clause: *clause,
+                first: *first,
+                checks_head: *checks_head,
+            }),
+            Task::Void => Ok(Task::Void),
+            Task::Leave => Ok(Task::Leave),
+            Task::Close => Ok(Task::Close),
+        }
+    }
+}
+
+impl Duplicate for Remainder {
+    fn duplicate(&self, alloc: Global) -> Result<Remainder, Memory> {
+        Ok(Remainder {
+            region: self.region.duplicate(alloc)?,
+            universals: self.universals.duplicate(alloc)?,
+            replaced: self.replaced.duplicate(alloc)?,
+            equation: copy_equation(alloc, &self.equation)?,
+        })
+    }
+}
+
+impl Duplicate for Cover {
+    fn duplicate(&self, alloc: Global) -> Result<Cover, Memory> {
+        Ok(Cover {
+            clause: self.clause,
+            first: self.first,
+            checks_head: self.checks_head,
+            plain: self.plain,
+            depth: self.depth,
+            case: self.case,
+            universals: self.universals.duplicate(alloc)?,
+            region: self.region.duplicate(alloc)?,
+            waiting: self.waiting.duplicate(alloc)?,
+            before: self.before.duplicate(alloc)?,
+        })
+    }
+}
+
+impl Duplicate for Literal {
+    fn duplicate(&self, alloc: Global) -> Result<Literal, Memory> {
+        Ok(Literal {
+            number: self.number,
+            lit: self.lit.duplicate(alloc)?,
+            cases: self.cases.duplicate(alloc)?,
+            is_done: self.is_done,
+            loops: self.loops,
+            is_general: self.is_general,
+        })
+    }
+}
+
+impl Duplicate for State {
+    fn duplicate(&self, alloc: Global) -> Result<State, Memory> {
+        Ok(State {
+            made: self.made.duplicate(alloc)?,
+            bound: copy_bindings(alloc, &self.bound)?,
+            given: self.given.duplicate(alloc)?,
+            covers: self.covers.duplicate(alloc)?,
+            cases: self.cases,
+            literals: self.literals.duplicate(alloc)?,
+            lines: self.lines.duplicate(alloc)?,
+            work: self.work.duplicate(alloc)?,
+        })
+    }
+}

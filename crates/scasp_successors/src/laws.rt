@@ -1,0 +1,15 @@
+//! What holds of the states of the written search.
+ghost use Rattle.scasp_successors.specs.Falls.{ClosingKeepsWork, FreeStepFalls, LighterIsLess, MoreIsLess};
+
+/// At each step that costs nothing, more variables or bindings are made, or no fewer are made and what is left to do
+/// weighs less. So no search goes on for ever between two calls.
+pub fn free_steps_fall()
+    ensures falls { FreeStepFalls }
+    ensures closing { ClosingKeepsWork }
+{}
+
+/// The two parts of the measure packed into one number: it falls where more is made, and where what is left weighs less.
+pub fn measure_is_packed()
+    ensures more { MoreIsLess }
+    ensures lighter { LighterIsLess }
+{}
