@@ -7,7 +7,7 @@ use Rattle.scasp_syntax.specs.Tm.{Tm}
 use Rattle.scasp_syntax.specs.Values.{is_ground}
 use Rattle.scasp_syntax.proofs.SameLemmas.{tm_decided}
 use Rattle.scasp_model.specs.Grounding.{is_domain}
-use Rattle.scasp_sound.proofs.ListLemmas.{Contains-here, Contains-there, Contains-cases}
+use Rattle.scasp_list.proofs.MemberLemmas.{Contains-here, Contains-there, Contains-cases}
 
 -- the term is one of the domain
 abbrev pub within : List Tm → Tm → Bool

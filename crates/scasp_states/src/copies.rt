@@ -6,12 +6,12 @@ use crate::lines::Line;
 use crate::state::{Bindings, Literal, Made, State};
 use crate::tasks::{Pair, Task};
 use scasp_name::Memory;
-use scasp_syntax::{Duplicate, copy_terms};
+use scasp_syntax::{DeepCopy, copy_terms};
 use scasp_unify::Binding;
 use std::alloc::Global;
 
-impl Duplicate for Made {
-    fn duplicate(&self, _alloc: Global) -> Result<Made, Memory> {
+impl DeepCopy for Made {
+    fn copy(&self, _alloc: Global) -> Result<Made, Memory> {
         Ok(*self)
     }
 }
@@ -22,7 +22,7 @@ pub fn copy_binding(alloc: Global, binding: &Binding) -> Result<Binding, Memory>
 {
     Ok(Binding {
         x: binding.x,
-        term: binding.term.duplicate(alloc)?,
+        term: binding.term.copy(alloc)?,
     })
 }
 
@@ -46,17 +46,17 @@ fn copy_equation(alloc: Global, equation: &Option<Binding>) -> Result<Option<Bin
     }
 }
 
-impl Duplicate for Pair {
-    fn duplicate(&self, alloc: Global) -> Result<Pair, Memory> {
+impl DeepCopy for Pair {
+    fn copy(&self, alloc: Global) -> Result<Pair, Memory> {
         Ok(Pair {
-            left: self.left.duplicate(alloc)?,
-            right: self.right.duplicate(alloc)?,
+            left: self.left.copy(alloc)?,
+            right: self.right.copy(alloc)?,
         })
     }
 }
 
-impl Duplicate for Line {
-    fn duplicate(&self, alloc: Global) -> Result<Line, Memory> {
+impl DeepCopy for Line {
+    fn copy(&self, alloc: Global) -> Result<Line, Memory> {
         match self {
             Line::Pos {
                 atom,
@@ -64,26 +64,26 @@ impl Duplicate for Line {
                 terms,
                 children,
             } => Ok(Line::Pos {
-                atom: atom.duplicate(alloc)?,
+                atom: atom.copy(alloc)?,
                 rule: *rule,
                 terms: copy_terms(alloc, terms)?,
                 children: *children,
             }),
             Line::Neg { atom, rules } => Ok(Line::Neg {
-                atom: atom.duplicate(alloc)?,
+                atom: atom.copy(alloc)?,
                 rules: *rules,
             }),
             Line::Loop { lit, literal } => Ok(Line::Loop {
-                lit: lit.duplicate(alloc)?,
+                lit: lit.copy(alloc)?,
                 literal: *literal,
             }),
             Line::Seen { lit, literal } => Ok(Line::Seen {
-                lit: lit.duplicate(alloc)?,
+                lit: lit.copy(alloc)?,
                 literal: *literal,
             }),
-            Line::Test(constraint) => Ok(Line::Test(constraint.duplicate(alloc)?)),
+            Line::Test(constraint) => Ok(Line::Test(constraint.copy(alloc)?)),
             Line::Rule { atom, rule, first } => Ok(Line::Rule {
-                atom: atom.duplicate(alloc)?,
+                atom: atom.copy(alloc)?,
                 rule: *rule,
                 first: *first,
             }),
@@ -92,8 +92,8 @@ impl Duplicate for Line {
                 first: *first,
             }),
             Line::Split { constraint, parts } => Ok(Line::Split {
-                constraint: constraint.duplicate(alloc)?,
-                parts: parts.duplicate(alloc)?,
+                constraint: constraint.copy(alloc)?,
+                parts: parts.copy(alloc)?,
             }),
             Line::Void => Ok(Line::Void),
             Line::Leaf(item) => Ok(Line::Leaf(*item)),
@@ -102,20 +102,17 @@ impl Duplicate for Line {
     }
 }
 
-impl Duplicate for Task {
-    fn duplicate(&self, alloc: Global) -> Result<Task, Memory> {
+impl DeepCopy for Task {
+    fn copy(&self, alloc: Global) -> Result<Task, Memory> {
         match self {
-            Task::Show(item) => Ok(Task::Show(item.duplicate(alloc)?)),
-            Task::Equate(left, right) => Ok(Task::Equate(
-                left.duplicate(alloc)?,
-                right.duplicate(alloc)?,
-            )),
-            Task::Assume(constraint) => Ok(Task::Assume(constraint.duplicate(alloc)?)),
-            Task::Differ(pairs, aim) => Ok(Task::Differ(pairs.duplicate(alloc)?, *aim)),
+            Task::Show(item) => Ok(Task::Show(item.copy(alloc)?)),
+            Task::Equate(left, right) => Ok(Task::Equate(left.copy(alloc)?, right.copy(alloc)?)),
+            Task::Assume(constraint) => Ok(Task::Assume(constraint.copy(alloc)?)),
+            Task::Differ(pairs, aim) => Ok(Task::Differ(pairs.copy(alloc)?, *aim)),
             Task::Become { x, term, rest, aim } => Ok(Task::Become {
                 x: *x,
-                term: term.duplicate(alloc)?,
-                rest: rest.duplicate(alloc)?,
+                term: term.copy(alloc)?,
+                rest: rest.copy(alloc)?,
                 aim: *aim,
             }),
             Task::Avoid {
@@ -126,7 +123,7 @@ impl Duplicate for Task {
             } => Ok(Task::Avoid {
                 x: *x,
                 value: *value,
-                rest: rest.duplicate(alloc)?,
+                rest: rest.copy(alloc)?,
                 aim: *aim,
             }),
             Task::Shape {
@@ -139,11 +136,11 @@ impl Duplicate for Task {
                 x: *x,
                 name: *name,
                 args: copy_terms(alloc, args)?,
-                rest: rest.duplicate(alloc)?,
+                rest: rest.copy(alloc)?,
                 aim: *aim,
             }),
             Task::Cover { atom, rule } => Ok(Task::Cover {
-                atom: atom.duplicate(alloc)?,
+                atom: atom.copy(alloc)?,
                 rule: *rule,
             }),
             Task::Check {
@@ -169,19 +166,19 @@ impl Duplicate for Task {
     }
 }
 
-impl Duplicate for Remainder {
-    fn duplicate(&self, alloc: Global) -> Result<Remainder, Memory> {
+impl DeepCopy for Remainder {
+    fn copy(&self, alloc: Global) -> Result<Remainder, Memory> {
         Ok(Remainder {
-            region: self.region.duplicate(alloc)?,
-            universals: self.universals.duplicate(alloc)?,
-            replaced: self.replaced.duplicate(alloc)?,
+            region: self.region.copy(alloc)?,
+            universals: self.universals.copy(alloc)?,
+            replaced: self.replaced.copy(alloc)?,
             equation: copy_equation(alloc, &self.equation)?,
         })
     }
 }
 
-impl Duplicate for Cover {
-    fn duplicate(&self, alloc: Global) -> Result<Cover, Memory> {
+impl DeepCopy for Cover {
+    fn copy(&self, alloc: Global) -> Result<Cover, Memory> {
         Ok(Cover {
             clause: self.clause,
             first: self.first,
@@ -189,20 +186,20 @@ impl Duplicate for Cover {
             plain: self.plain,
             depth: self.depth,
             case: self.case,
-            universals: self.universals.duplicate(alloc)?,
-            region: self.region.duplicate(alloc)?,
-            waiting: self.waiting.duplicate(alloc)?,
-            before: self.before.duplicate(alloc)?,
+            universals: self.universals.copy(alloc)?,
+            region: self.region.copy(alloc)?,
+            waiting: self.waiting.copy(alloc)?,
+            before: self.before.copy(alloc)?,
         })
     }
 }
 
-impl Duplicate for Literal {
-    fn duplicate(&self, alloc: Global) -> Result<Literal, Memory> {
+impl DeepCopy for Literal {
+    fn copy(&self, alloc: Global) -> Result<Literal, Memory> {
         Ok(Literal {
             number: self.number,
-            lit: self.lit.duplicate(alloc)?,
-            cases: self.cases.duplicate(alloc)?,
+            lit: self.lit.copy(alloc)?,
+            cases: self.cases.copy(alloc)?,
             is_done: self.is_done,
             loops: self.loops,
             is_general: self.is_general,
@@ -210,17 +207,17 @@ impl Duplicate for Literal {
     }
 }
 
-impl Duplicate for State {
-    fn duplicate(&self, alloc: Global) -> Result<State, Memory> {
+impl DeepCopy for State {
+    fn copy(&self, alloc: Global) -> Result<State, Memory> {
         Ok(State {
-            made: self.made.duplicate(alloc)?,
+            made: self.made.copy(alloc)?,
             bound: copy_bindings(alloc, &self.bound)?,
-            given: self.given.duplicate(alloc)?,
-            covers: self.covers.duplicate(alloc)?,
+            given: self.given.copy(alloc)?,
+            covers: self.covers.copy(alloc)?,
             cases: self.cases,
-            literals: self.literals.duplicate(alloc)?,
-            lines: self.lines.duplicate(alloc)?,
-            work: self.work.duplicate(alloc)?,
+            literals: self.literals.copy(alloc)?,
+            lines: self.lines.copy(alloc)?,
+            work: self.work.copy(alloc)?,
         })
     }
 }
