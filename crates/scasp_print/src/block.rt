@@ -15,7 +15,7 @@ use scasp_name::{Memory, Names};
 use scasp_syntax::{Con, Cons, Pred, PredMap, PredMaps, Terms};
 use std::alloc::Global;
 
-#[tactic(auto, unfolding(crate::specs::Block::answer_line))]
+#[tactic(auto, unfolding(scasp_cert::specs::Text::Block::answer_line))]
 fn put_answer_line(out: &mut Vec<u8>, names: &Names, cert: &Cert, answer: u64) -> Result<(), Memory>
     ensures { OnOk result (out.new.items ≡ out.old.items ++ spec.answer_line names.now (certificate_of cert.now) answer) }
 {
@@ -28,7 +28,7 @@ fn put_answer_line(out: &mut Vec<u8>, names: &Names, cert: &Cert, answer: u64) -
     put(out, "\n")
 }
 
-#[tactic(auto, unfolding(crate::specs::Block::given_line))]
+#[tactic(auto, unfolding(scasp_cert::specs::Text::Block::given_line))]
 fn put_given_line(out: &mut Vec<u8>, names: &Names, con: &Con) -> Result<(), Memory>
     ensures { OnOk result (out.new.items ≡ out.old.items ++ spec.given_line names.now con.now) }
 {
@@ -54,7 +54,7 @@ fn put_sample(out: &mut Vec<u8>, names: &Names, sample: &Terms) -> Result<(), Me
     put(out, "\ntree\n")
 }
 
-#[tactic(auto, unfolding(crate::specs::Block::check_text))]
+#[tactic(auto, unfolding(scasp_cert::specs::Text::Block::check_text))]
 fn put_check(out: &mut Vec<u8>, names: &Names, check: &Check) -> Result<(), Memory>
     ensures { OnOk result (out.new.items ≡ out.old.items ++ spec.check_text names.now (check_of check.now)) }
 {
@@ -73,7 +73,7 @@ fn put_checks(out: &mut Vec<u8>, names: &Names, checks: &Checks) -> Result<(), M
     Ok(())
 }
 
-#[tactic(auto, unfolding(crate::specs::Block::clash_line))]
+#[tactic(auto, unfolding(scasp_cert::specs::Text::Block::clash_line))]
 fn put_clash_line(out: &mut Vec<u8>, clash: &Clash) -> Result<(), Memory>
     ensures { OnOk result (out.new.items ≡ out.old.items ++ spec.clash_line clash.now) }
 {
@@ -95,7 +95,7 @@ fn put_clashes(out: &mut Vec<u8>, clashes: &Clashes) -> Result<(), Memory>
     Ok(())
 }
 
-#[tactic(auto, unfolding(crate::specs::Block::pred_text))]
+#[tactic(auto, unfolding(scasp_cert::specs::Text::Block::pred_text))]
 fn put_pred(out: &mut Vec<u8>, names: &Names, pred: Pred) -> Result<(), Memory>
     ensures { OnOk result (out.new.items ≡ out.old.items ++ spec.pred_text names.now pred) }
 {
@@ -105,7 +105,7 @@ fn put_pred(out: &mut Vec<u8>, names: &Names, pred: Pred) -> Result<(), Memory>
     put_number(out, pred.arity)
 }
 
-#[tactic(auto, unfolding(crate::specs::Block::map_line))]
+#[tactic(auto, unfolding(scasp_cert::specs::Text::Block::map_line))]
 fn put_map_line(out: &mut Vec<u8>, names: &Names, line: PredMap) -> Result<(), Memory>
     ensures { OnOk result (out.new.items ≡ out.old.items ++ spec.map_line names.now line) }
 {

@@ -7,7 +7,7 @@ use scasp_name::Memory;
 use scasp_num::{Step, StepLists, Steps};
 use scasp_syntax::Hint;
 
-#[tactic(auto, unfolding(crate::specs::Hints::step_text))]
+#[tactic(auto, unfolding(scasp_cert::specs::Text::Hints::step_text))]
 fn put_step(out: &mut Vec<u8>, step: &Step) -> Result<(), Memory>
     ensures { OnOk result (out.new.items ≡ out.old.items ++ spec.step_text step.now) }
 {

@@ -148,7 +148,7 @@ fn put_part(out: &mut Vec<u8>, names: &Names, is_first: bool, term: &Term) -> Re
 }
 
 /// Puts a list of terms in square brackets at the end.
-#[tactic(auto, unfolding(crate::specs::Terms::list_text))]
+#[tactic(auto, unfolding(scasp_cert::specs::Text::Terms::list_text))]
 pub fn put_list(out: &mut Vec<u8>, names: &Names, terms: &Terms) -> Result<(), Memory>
     ensures { OnOk result (out.new.items ≡ out.old.items ++ spec.list_text names.now terms.now) }
 {
@@ -165,7 +165,7 @@ pub fn put_minus(out: &mut Vec<u8>, minus: bool) -> Result<(), Memory>
 }
 
 /// Puts an atom at the end.
-#[tactic(auto, unfolding(crate::specs::Terms::atom_text))]
+#[tactic(auto, unfolding(scasp_cert::specs::Text::Terms::atom_text))]
 pub fn put_atom(out: &mut Vec<u8>, names: &Names, atom: &Atom) -> Result<(), Memory>
     ensures { OnOk result (out.new.items ≡ out.old.items ++ spec.atom_text names.now atom.now) }
 {
@@ -174,7 +174,7 @@ pub fn put_atom(out: &mut Vec<u8>, names: &Names, atom: &Atom) -> Result<(), Mem
 }
 
 /// Puts a literal at the end.
-#[tactic(auto, unfolding(crate::specs::Terms::lit_text))]
+#[tactic(auto, unfolding(scasp_cert::specs::Text::Terms::lit_text))]
 pub fn put_lit(out: &mut Vec<u8>, names: &Names, lit: &Lit) -> Result<(), Memory>
     ensures { OnOk result (out.new.items ≡ out.old.items ++ spec.lit_text names.now lit.now) }
 {

@@ -32,7 +32,7 @@ fn put_pos(
     put_list(out, names, terms)
 }
 
-#[tactic(auto, unfolding(crate::specs::Trees::line_text))]
+#[tactic(auto, unfolding(scasp_cert::specs::Text::Trees::line_text))]
 fn put_pos_line(
     out: &mut Vec<u8>,
     names: &Names,
@@ -48,7 +48,7 @@ fn put_pos_line(
     put(out, "\n")
 }
 
-#[tactic(auto, unfolding(crate::specs::Trees::line_text))]
+#[tactic(auto, unfolding(scasp_cert::specs::Text::Trees::line_text))]
 fn put_neg_line(out: &mut Vec<u8>, names: &Names, depth: u64, atom: &Atom) -> Result<(), Memory>
     ensures { OnOk result (out.new.items ≡ out.old.items ++ spec.line_text depth (codes "neg " ++ atom_text names.now atom.now)) }
 {
@@ -58,7 +58,7 @@ fn put_neg_line(out: &mut Vec<u8>, names: &Names, depth: u64, atom: &Atom) -> Re
     put(out, "\n")
 }
 
-#[tactic(auto, unfolding(crate::specs::Trees::line_text))]
+#[tactic(auto, unfolding(scasp_cert::specs::Text::Trees::line_text))]
 fn put_loop_line(
     out: &mut Vec<u8>,
     names: &Names,
@@ -76,7 +76,7 @@ fn put_loop_line(
     put(out, "\n")
 }
 
-#[tactic(auto, unfolding(crate::specs::Trees::line_text))]
+#[tactic(auto, unfolding(scasp_cert::specs::Text::Trees::line_text))]
 fn put_seen_line(
     out: &mut Vec<u8>,
     names: &Names,
@@ -94,7 +94,7 @@ fn put_seen_line(
     put(out, "\n")
 }
 
-#[tactic(auto, unfolding(crate::specs::Trees::line_text))]
+#[tactic(auto, unfolding(scasp_cert::specs::Text::Trees::line_text))]
 fn put_test_line(
     out: &mut Vec<u8>,
     names: &Names,
@@ -112,7 +112,7 @@ fn put_test_line(
     put(out, "\n")
 }
 
-#[tactic(auto, unfolding(crate::specs::Trees::line_text))]
+#[tactic(auto, unfolding(scasp_cert::specs::Text::Trees::line_text))]
 fn put_split_line(out: &mut Vec<u8>, names: &Names, depth: u64, con: &Con) -> Result<(), Memory>
     ensures { OnOk result (out.new.items ≡ out.old.items ++ spec.line_text depth (codes "split " ++ con_text names.now con.now)) }
 {
@@ -122,7 +122,7 @@ fn put_split_line(out: &mut Vec<u8>, names: &Names, depth: u64, con: &Con) -> Re
     put(out, "\n")
 }
 
-#[tactic(auto, unfolding(crate::specs::Trees::line_text))]
+#[tactic(auto, unfolding(scasp_cert::specs::Text::Trees::line_text))]
 fn put_void_line(out: &mut Vec<u8>, depth: u64, hint: &Hint) -> Result<(), Memory>
     ensures { OnOk result (out.new.items ≡ out.old.items ++ spec.line_text depth (codes "void " ++ hint_text hint.now)) }
 {
@@ -132,7 +132,7 @@ fn put_void_line(out: &mut Vec<u8>, depth: u64, hint: &Hint) -> Result<(), Memor
     put(out, "\n")
 }
 
-#[tactic(auto, unfolding(crate::specs::Trees::line_text))]
+#[tactic(auto, unfolding(scasp_cert::specs::Text::Trees::line_text))]
 fn put_leaf_line(out: &mut Vec<u8>, depth: u64, item: u64) -> Result<(), Memory>
     ensures { OnOk result (out.new.items ≡ out.old.items ++ spec.line_text depth (codes "leaf " ++ decimal item)) }
 {
@@ -142,7 +142,7 @@ fn put_leaf_line(out: &mut Vec<u8>, depth: u64, item: u64) -> Result<(), Memory>
     put(out, "\n")
 }
 
-#[tactic(auto, unfolding(crate::specs::Trees::line_text))]
+#[tactic(auto, unfolding(scasp_cert::specs::Text::Trees::line_text))]
 fn put_head_line(out: &mut Vec<u8>, depth: u64) -> Result<(), Memory>
     ensures { OnOk result (out.new.items ≡ out.old.items ++ spec.line_text depth (codes "head")) }
 {
@@ -150,7 +150,7 @@ fn put_head_line(out: &mut Vec<u8>, depth: u64) -> Result<(), Memory>
     put(out, "head\n")
 }
 
-#[tactic(auto, unfolding(crate::specs::Trees::line_text))]
+#[tactic(auto, unfolding(scasp_cert::specs::Text::Trees::line_text))]
 fn put_rule_line(out: &mut Vec<u8>, depth: u64, rule: u64) -> Result<(), Memory>
     ensures { OnOk result (out.new.items ≡ out.old.items ++ spec.line_text depth (codes "rule " ++ decimal rule)) }
 {
