@@ -20,3 +20,4 @@ pub mod ListedLemmas
 pub mod VisibleLemmas
 pub mod ReachLemmas
 pub mod ClosedLemmas
+pub mod ExampleLemmas

@@ -1,3 +1,4 @@
+pub mod Examples
 pub mod Good
 pub mod Premises
 pub mod Carriers
