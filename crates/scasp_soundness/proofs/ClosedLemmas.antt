@@ -33,7 +33,7 @@ use Rattle.scasp_acceptance.proofs.ListLemmas.{Each-member}
 use Rattle.scasp_acceptance.proofs.ScopeLemmas.{scoped}
 use Rattle.scasp_soundness.specs.Good.{HasClosedDomains}
 use Rattle.scasp_soundness.proofs.ClauseLemmas.{below-same, within-contains}
-use Rattle.scasp_soundness.proofs.ListedLemmas.{terms_on, terms_on_node, listed_terms, lines-list}
+use Rattle.scasp_soundness.proofs.ListedLemmas.{terms_on, listed_terms, line-lists}
 use Rattle.scasp_soundness.proofs.ReachLemmas.{reached}
 use Rattle.scasp_soundness.proofs.SayingLemmas.{domain-ground}
 use Rattle.scasp_soundness.proofs.SubtermLemmas.{all_subterms, all_subterms-ground, listed-subterm, argument-subterm}
@@ -166,7 +166,7 @@ module _ (b : Bool) (p : Program) (c : Certificate) (h : AcceptsWhere b p c) (fl
     -- a term without universals has the value that it has at the free variables; another is a variable by itself
     flat-within : (t : Tm) → Contains (terms_on l.part) t → within domain (under w t) ≡ true
     flat-within t i =
-        let among = (lines-list p c).at l listed t i in
+        let among = line-lists p c l listed t i in
         let k = terms-known l l.part (Each-member (LineHolds (whole_of b p c)) (lines p c) l h.lines_hold listed) t i in
         let is = list_all-member (is_flat_term (free_of c)) (listed_terms c) t flat among in
         elim (or_cases (is_below (free_of c) t) (is_variable t) is) [

@@ -21,3 +21,6 @@ pub mod VisibleLemmas
 pub mod ReachLemmas
 pub mod ClosedLemmas
 pub mod ExampleLemmas
+pub mod GatherLemmas
+pub mod OwnRowLemmas
+pub mod PromiseLemmas

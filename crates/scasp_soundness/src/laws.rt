@@ -22,6 +22,8 @@ ghost use Rattle.scasp_lines.specs.Walk.{Line, of_case, of_node};
 ghost use Rattle.scasp_soundness.specs.Carriers.{Carrier};
 ghost use Rattle.scasp_soundness.specs.Examples.{alone, aside, circle, even, fact, looped, q};
 ghost use Rattle.scasp_soundness.specs.Good.{Good, GoodRight, HasClosedDomains, holds_by, query_values, residual_over};
+ghost use Rattle.scasp_soundness.specs.Kept.{KeepsPromise};
+ghost use Rattle.scasp_soundness.specs.OwnRows.{HasNormalRows};
 ghost use Rattle.scasp_soundness.specs.Premises.{IsAt, Premises};
 ghost use Rattle.scasp_acceptance.specs.Accepted.{AcceptsWhere};
 ghost use Rattle.scasp_acceptance.specs.Normality.{AreRowsNormal};
@@ -85,6 +87,17 @@ pub fn right_is_good_with_existence()
 /// Above each domain there is one that is closed for an accepted certificate which is flat, so that its promise is not empty.
 pub fn closed_domains_exist()
     ensures { (b : Bool) (p : ThisProgram) (c : Certificate) → AcceptsWhere b p c → IsTrue (is_flat c) → HasClosedDomains p c }
+{}
+
+/// The rows of each program are in normal form; so where those that stand in a certificate are, all are that its
+/// acceptance speaks of.
+pub fn rows_are_normal()
+    ensures { (p : ThisProgram) (c : Certificate) → HasNormalRows c → AreRowsNormal p c }
+{}
+
+/// An accepted certificate, whose rows are in normal form as those of each `Cert` are, keeps all of its promise.
+pub fn accepted_keeps_its_promise()
+    ensures { (b : Bool) (p : ThisProgram) (c : Certificate) → HasNormalRows c → AcceptsWhere b p c → KeepsPromise p c }
 {}
 
 /// By the definition alone: of `p :- p.` neither the one line that p holds by rule 1, nor that line with a loop below it,
