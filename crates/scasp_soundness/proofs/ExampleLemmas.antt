@@ -1,9 +1,9 @@
 -- What small certificates promise, by the definition alone.
-use Rattle.std.proofs.Common.{◌≡◌, Bool, true, false, ◌||◌, not, List, [], ◌∷◌, ◌++◌, Some, refl, ap, sym, subst, inl, inr, arith}
+use Rattle.std.proofs.Common.{◌≡◌, Bool, true, false, ◌||◌, List, [], ◌∷◌, Some, refl, ap, sym, subst, inl, inr, arith}
 use Rattle.std.proofs.lemmas.Bool.{true≢false, false≢true, or_cases}
 use Rattle.scasp_syntax.specs.Same.{same_atom}
 use Rattle.scasp_syntax.specs.Tm.{Tm, app, nil}
-use Rattle.scasp_syntax.specs.Values.{Sub, Valuation}
+use Rattle.scasp_syntax.specs.Values.{Valuation}
 use Rattle.scasp_syntax.specs.declared.atom.Atom.{Atom}
 use Rattle.scasp_syntax.proofs.SameLemmas.{atom_decided}
 use Rattle.scasp_model.specs.Atoms.{among}
@@ -14,7 +14,7 @@ use Rattle.scasp_sound.specs.Support.{Founded, by_rule, Joins}
 use Rattle.scasp_sound.proofs.JoinLemmas.{joined}
 use Rattle.scasp_sound.proofs.SupportLemmas.{Supports-founded}
 use Rattle.scasp_soundness.specs.Examples.{p, q, r, circle, alone, looped, fact, even, aside, loop}
-use Rattle.scasp_soundness.specs.Good.{Good, GoodAt, GoodRight, residual_over}
+use Rattle.scasp_soundness.specs.Good.{Good, GoodRight}
 
 -- each variable stands for one constant
 constants : Valuation
@@ -36,11 +36,10 @@ fact-joins d m s =
     record { least_of_reduct = λ a. ap (λ (b : Bool). same_atom a p || b) (s.least_of_reduct a); no_violation = refl }
 
 pub fact-right : GoodRight fact alone
-fact-right =
-    (
-      λ v meets d is closed. record { apart = λ a t. refl; query = _; asked = refl; holds = refl; joins = fact-joins d },
-      λ v meets d is closed. ([], nothing),
-    )
+fact-right = (
+  λ v meets d is closed. record { apart = λ a t. refl; query = _; asked = refl; holds = refl; joins = fact-joins d },
+  λ v meets d is closed. ([], nothing),
+)
 
 -- r holds by a rule without a body
 r-founded : (d : List Tm) (a : Atom) → among (r ∷ []) a ≡ true → Founded (ground_program d even) [] a
@@ -56,9 +55,8 @@ pub loop-stable : Stable loop (q ∷ [])
 loop-stable = record { least_of_reduct = λ a. refl; no_violation = refl }
 
 pub even-right : GoodRight even aside
-even-right =
-    (
-      λ v meets d is closed.
+even-right = (
+  λ v meets d is closed.
       record {
         apart = λ a t. refl;
         query = _;
@@ -66,5 +64,5 @@ even-right =
         holds = refl;
         joins = joined (ground_program d even) (r ∷ []) [] (Supports-founded (ground_program d even) (r ∷ []) (r-founded d));
       },
-      λ v meets d is closed. (q ∷ [], loop-stable),
-    )
+  λ v meets d is closed. (q ∷ [], loop-stable),
+)

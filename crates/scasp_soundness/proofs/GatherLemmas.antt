@@ -1,5 +1,5 @@
 -- What stands on the lines of a certificate is what its trees have.
-use Rattle.std.proofs.Common.{ℕ, suc, ◌+◌, true, false, List, [], ◌∷◌, ◌++◌, subst, sym, inl, inr}
+use Rattle.std.proofs.Common.{ℕ, suc, ◌+◌, true, false, List, [], ◌∷◌, ◌++◌, subst, inl, inr}
 use Rattle.std.specs.List.{Contains, flat_map}
 use Rattle.std.proofs.lemmas.List.Elements.{Contains-append_left, Contains-append_right, Contains-append_cases}
 use Rattle.scasp_list.proofs.MemberLemmas.{Contains-none, Contains-cases}

@@ -1,11 +1,10 @@
 -- Where the rows that stand in a certificate are in normal form, all are that its acceptance speaks of.
-use Rattle.std.proofs.Common.{◌≡◌, ℕ, List, [], ◌∷◌, ◌++◌, map, sym, subst, inl, inr}
+use Rattle.std.proofs.Common.{ℕ, List, [], ◌∷◌, ◌++◌, map, subst, inl, inr}
 use Rattle.std.specs.List.{Contains, flat_map}
 use Rattle.std.proofs.lemmas.List.Elements.{Contains-append_left, Contains-append_right}
 use Rattle.scasp_list.specs.Each.{Each}
 use Rattle.scasp_list.proofs.EachLemmas.{Each-map, Each-append}
 use Rattle.scasp_list.proofs.MemberLemmas.{Contains-none, Contains-here, Contains-there, Contains-cases}
-use Rattle.scasp_num.specs.Linear.{IsNormal}
 use Rattle.scasp_syntax.specs.Flat.{flat_after, number_test, unseen}
 use Rattle.scasp_syntax.specs.WellFormed.{HasNormalRow}
 use Rattle.scasp_syntax.specs.declared.clause.Item.{Item}
@@ -16,7 +15,7 @@ use Rattle.scasp_syntax.specs.declared.program.Program.{Program}
 use Rattle.scasp_syntax.proofs.ProgramLemmas.{clause-rows, query-rows}
 use Rattle.scasp_cert.specs.Certificate.{Certificate}
 use Rattle.scasp_cert.specs.Trees.{Tree, Branch, pos_tree, neg_tree, loop_tree, seen_tree, test_tree, split, void, leaf, head, listed}
-use Rattle.scasp_hint.specs.AskedRows.{RowsNormal, given_rows}
+use Rattle.scasp_hint.specs.AskedRows.{RowsNormal}
 use Rattle.scasp_lines.specs.Lines.{lines}
 use Rattle.scasp_lines.specs.Walk.{Line}
 use Rattle.scasp_acceptance.specs.Normality.{AreRowsNormal, ItemNormal, LineNormal, on_node, on_case, on_part}
@@ -112,7 +111,7 @@ rows-normal p c h =
     let within : List Con = constraints_below (listed c.trees) ++ flat_map (λ k. constraints_at k.1) c.checks in
     let each = member-normal (c.given ++ within) h in
     let passed = lines-passed on_part constraints_by constraints_below constraints_at constraints_in constraints-gather ConNormal p c
-        (λ k i. each k (Contains-append_right c.given within k i)) in
+    (λ k i. each k (Contains-append_right c.given within k i)) in
     record {
       clauses = Each-map (λ k. Each HasNormalRow k.body) _ (λ k n. body-normal [] k.body n) p.clauses (clause-rows p);
       queries = Each-map (λ q. Each HasNormalRow q.body) _ (λ q n. body-normal [] q.body n) p.queries (query-rows p);

@@ -1,5 +1,5 @@
 -- Small certificates, with what they say and leave. What they promise stands at the law `small_certificates`.
-use Rattle.std.specs.Prelude.{◌≡◌, ℕ, Bool, true, false, List, [], ◌∷◌, Some}
+use Rattle.std.specs.Prelude.{◌≡◌, Bool, true, false, List, [], ◌∷◌, Some}
 use Rattle.std.proofs.Common.{refl}
 use Rattle.scasp_syntax.specs.Programs.{pred_of}
 use Rattle.scasp_syntax.specs.Tm.{Tm, nil}
@@ -14,10 +14,10 @@ use Rattle.scasp_model.specs.Levelled.{levelled_model}
 use Rattle.scasp_model.specs.declared.program.GroundClause.{GroundClause}
 use Rattle.scasp_cert.specs.Certificate.{Certificate}
 use Rattle.scasp_cert.specs.Flat.{is_flat}
-use Rattle.scasp_cert.specs.Trees.{Tree, pos_tree, loop_tree, listed}
+use Rattle.scasp_cert.specs.Trees.{pos_tree, loop_tree, listed}
 use Rattle.scasp_sound.specs.MapLevels.{level_of, plus_of, covered}
 use Rattle.scasp_lines.specs.ClosedDomainOnly.{certificate as never_closed}
-use Rattle.scasp_lines.specs.Said.{true_atoms, false_atoms, is_closed_over}
+use Rattle.scasp_lines.specs.Said.{true_atoms, false_atoms}
 use Rattle.scasp_lines.specs.Samples.{atom, is_true, is_not, rule, ask, answer, by_fact}
 use Rattle.scasp_acceptance.specs.ExampleWords.{program}
 use Rattle.scasp_acceptance.specs.Faults.{faults}

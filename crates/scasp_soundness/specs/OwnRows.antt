@@ -1,6 +1,6 @@
 -- The constraints that stand in a certificate: those that are given, and those of its tests and splits. Each row of the product's types is
 -- in normal form, so those of the certificate that a `Cert` is are.
-use Rattle.std.specs.Prelude.{ℕ, List, [], ◌∷◌, ◌++◌}
+use Rattle.std.specs.Prelude.{List, [], ◌∷◌, ◌++◌}
 use Rattle.std.specs.List.{flat_map}
 use Rattle.scasp_syntax.specs.declared.con.Con.{Con}
 use Rattle.scasp_cert.specs.Certificate.{Certificate}
