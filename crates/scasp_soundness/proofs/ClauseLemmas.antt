@@ -1,5 +1,5 @@
 -- The instances of a clause depend on the values of its own variables alone.
-use Rattle.std.proofs.Common.{◌&&◌, ◌≡◌, ◌∙◌, ℕ, zero, suc, ◌<◌, Bool, true, nat_eq, nat_lt, List, [], ◌∷◌, ◌++◌, length, map, Option, Some, None, refl, ap, sym, subst, arith}
+use Rattle.std.proofs.Common.{◌&&◌, ◌≡◌, ◌∙◌, ℕ, zero, suc, ◌<◌, true, nat_eq, nat_lt, List, [], ◌∷◌, ◌++◌, length, map, Option, Some, None, refl, ap, sym, subst, arith}
 use Rattle.std.specs.List.{Contains, list_all, list_any, flat_map, filter}
 use Rattle.std.proofs.lemmas.Bool.{and_parts, and_from}
 use Rattle.std.proofs.lemmas.Bool.Decides.{Decides-eqb}

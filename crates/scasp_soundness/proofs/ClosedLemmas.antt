@@ -1,7 +1,7 @@
 -- Above each domain there is one that is closed for a flat certificate: what is listed, the values of the free variables and the given
 -- domain, with all that stands in these terms.
-use Rattle.std.proofs.Common.{◌≡◌, ◌∙◌, ℕ, zero, suc, ◌<◌, Bool, true, ◌&&◌, ◌||◌, nat_lt, List, [], ◌∷◌, ◌++◌, map, refl, ap, sym, subst, inl, inr, arith}
-use Rattle.std.specs.List.{Contains, list_all, list_any}
+use Rattle.std.proofs.Common.{◌≡◌, ◌∙◌, ℕ, zero, suc, ◌<◌, Bool, true, nat_lt, List, [], ◌∷◌, ◌++◌, map, refl, ap, sym, subst, inl, inr, arith}
+use Rattle.std.specs.List.{Contains, list_all}
 use Rattle.std.proofs.lemmas.Bool.{false≢true, and_parts, and_from, or_cases, ltb-true, cases_lt}
 use Rattle.std.proofs.lemmas.List.Elements.{Contains-append_left, Contains-append_right}
 use Rattle.std.proofs.lemmas.List.Folds.{list_all-append}
@@ -17,23 +17,22 @@ use Rattle.scasp_model.specs.Grounding.{is_domain}
 use Rattle.scasp_cert.specs.Certificate.{Certificate}
 use Rattle.scasp_cert.specs.Flat.{is_flat, is_flat_term, is_variable}
 use Rattle.scasp_cert.specs.Instances.{Said}
-use Rattle.scasp_cert.specs.Trees.{Tree, pos_tree, neg_tree, loop_tree, seen_tree, test_tree}
+use Rattle.scasp_cert.specs.Trees.{pos_tree, neg_tree, loop_tree, seen_tree, test_tree}
 use Rattle.scasp_sound.proofs.DomainLemmas.{within, grown, grown-domain, grown-has, grown-from}
-use Rattle.scasp_lines.specs.Dues.{Due}
 use Rattle.scasp_lines.specs.Known.{is_known, are_known}
 use Rattle.scasp_lines.specs.Lines.{free_of, lines, setting}
 use Rattle.scasp_lines.specs.Opened.{knows, well, IsInstance}
-use Rattle.scasp_lines.specs.Said.{are_in, are_lines_known, is_line_known, is_part_known, said_by_node, said_by_part, SaysAt}
+use Rattle.scasp_lines.specs.Said.{are_in, are_lines_known, is_line_known, is_part_known, said_by_part, SaysAt}
 use Rattle.scasp_lines.specs.Walk.{Part, of_node, of_rule, of_check, of_case, Line}
 use Rattle.scasp_lines.proofs.FitLemmas.{lines-known}
 use Rattle.scasp_lines.proofs.SaidLemmas.{closed-from}
-use Rattle.scasp_acceptance.specs.Accepted.{AcceptsWhere, NodeHolds, PartHolds, LineHolds}
+use Rattle.scasp_acceptance.specs.Accepted.{AcceptsWhere, PartHolds, LineHolds}
 use Rattle.scasp_acceptance.specs.Wholes.{whole_of, scope}
 use Rattle.scasp_acceptance.proofs.ListLemmas.{Each-member}
 use Rattle.scasp_acceptance.proofs.ScopeLemmas.{scoped}
 use Rattle.scasp_soundness.specs.Good.{HasClosedDomains}
 use Rattle.scasp_soundness.proofs.ClauseLemmas.{below-same, within-contains}
-use Rattle.scasp_soundness.proofs.ListedLemmas.{terms_on, terms_on_node, listed_terms, lines-list}
+use Rattle.scasp_soundness.proofs.ListedLemmas.{terms_on, listed_terms, line-lists}
 use Rattle.scasp_soundness.proofs.ReachLemmas.{reached}
 use Rattle.scasp_soundness.proofs.SayingLemmas.{domain-ground}
 use Rattle.scasp_soundness.proofs.SubtermLemmas.{all_subterms, all_subterms-ground, listed-subterm, argument-subterm}
@@ -159,14 +158,14 @@ module _ (b : Bool) (p : Program) (c : Certificate) (h : AcceptsWhere b p c) (fl
         let top = (setting p.clauses c).top in
         let q = and_parts (nat_lt x top) (knows (free_of c) l.here.opened x) k in
         let is = and_parts (well (free_of c) l.here.opened) (is_part_known (knows (free_of c) l.here.opened) l.part)
-            (list_all-member (is_line_known (free_of c)) (lines p c) l known listed) in
+        (list_all-member (is_line_known (free_of c)) (lines p c) l known listed) in
         let visible = lines-visible b p c h l listed in
         reached (free_of c) top domain w (arguments-within c v.of given) free-within l.here.opened is.0 visible.entries instance.met x q.0 q.1
 
     -- a term without universals has the value that it has at the free variables; another is a variable by itself
     flat-within : (t : Tm) → Contains (terms_on l.part) t → within domain (under w t) ≡ true
     flat-within t i =
-        let among = (lines-list p c).at l listed t i in
+        let among = line-lists p c l listed t i in
         let k = terms-known l l.part (Each-member (LineHolds (whole_of b p c)) (lines p c) l h.lines_hold listed) t i in
         let is = list_all-member (is_flat_term (free_of c)) (listed_terms c) t flat among in
         elim (or_cases (is_below (free_of c) t) (is_variable t) is) [

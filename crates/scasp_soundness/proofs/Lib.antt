@@ -20,3 +20,7 @@ pub mod ListedLemmas
 pub mod VisibleLemmas
 pub mod ReachLemmas
 pub mod ClosedLemmas
+pub mod ExampleLemmas
+pub mod GatherLemmas
+pub mod OwnRowLemmas
+pub mod PromiseLemmas

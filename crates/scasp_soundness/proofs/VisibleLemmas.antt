@@ -1,5 +1,5 @@
 -- Of what opens at the lines of an accepted certificate, what gives a value to a variable that may stand on a line speaks of one that may.
-use Rattle.std.proofs.Common.{◌≡◌, ℕ, zero, suc, ◌+◌, ◌≤◌, Bool, true, ◌&&◌, ◌||◌, nat_eq, nat_lt, nat_le, List, [], ◌∷◌, Option, None, Some, length, refl, arith}
+use Rattle.std.proofs.Common.{◌≡◌, ℕ, zero, suc, ◌≤◌, Bool, true, ◌&&◌, ◌||◌, nat_eq, nat_lt, nat_le, List, ◌∷◌, Option, None, Some, length, refl, arith}
 use Rattle.std.specs.Prelude.{⊤}
 use Rattle.std.specs.List.{Contains, list_all}
 use Rattle.std.proofs.lemmas.Bool.{and_parts, and_from, or_left, or_right, cond_both}
@@ -19,14 +19,14 @@ use Rattle.scasp_lines.specs.Bodies.{inside_rule, inside_check, open_head}
 use Rattle.scasp_lines.specs.Covers.{Cover, with_universal, with_universals, cover_from, covering}
 use Rattle.scasp_lines.specs.Lines.{lines, setting}
 use Rattle.scasp_lines.specs.Opened.{Opened, ranges, shaped, assumed, knows}
-use Rattle.scasp_lines.specs.Openings.{Opening, bound_to, open_variable, open_number, open_term, open_terms, unopened, with_assumed, with_clash, with_shape}
-use Rattle.scasp_lines.specs.Places.{Place, is_universal, start}
+use Rattle.scasp_lines.specs.Openings.{Opening, bound_to, open_variable, open_term, open_terms, unopened, with_assumed, with_clash, with_shape}
+use Rattle.scasp_lines.specs.Places.{Place, is_universal}
 use Rattle.scasp_lines.specs.Sides.{Shape, shape_of, sides_by}
-use Rattle.scasp_lines.specs.Walk.{Part, of_node, of_rule, of_check, of_case, Line, Setting}
+use Rattle.scasp_lines.specs.Walk.{Part, of_node, of_rule, of_check, of_case, Line}
 use Rattle.scasp_lines.proofs.EverywhereLemmas.{everywhere}
 use Rattle.scasp_lines.proofs.Passages.{Claim, HoldsFor, Passes}
 use Rattle.scasp_acceptance.specs.Accepted.{AcceptsWhere, LineHolds, Splits}
-use Rattle.scasp_acceptance.specs.Wholes.{whole_of, scope, universal}
+use Rattle.scasp_acceptance.specs.Wholes.{whole_of}
 
 -- the entry gives values to variables from the top on, or speaks of a variable below it
 abbrev pub is_visible : ℕ → Opened → Bool
@@ -107,7 +107,7 @@ module _ (top : ℕ) where
   into-rule None a next here f = f
   into-rule (Some c) a next here f =
       let g = inside-visible c next (open_head c.head a (unopened here.opened here.hidden))
-          (opens-head c.head a (unopened here.opened here.hidden) (record { entries = f.entries; hidden_above = f.hidden_above })) in
+      (opens-head c.head a (unopened here.opened here.hidden) (record { entries = f.entries; hidden_above = f.hidden_above })) in
       record { entries = g.entries; hidden_above = g.hidden_above }
 
   into-check : (o : Option Clause) (next : ℕ) (here : Place) → Here here → Here (inside_check o next here).here

@@ -1,9 +1,10 @@
 //! What holds of the lines of accepted certificates at their instances.
-ghost use Rattle.std.specs.Prelude.{◌≡◌, ℕ, Bool, IsTrue, List, [], Some, map, not, Contains};
+ghost use Rattle.std.specs.Prelude.{◌≡◌, ◌∷◌, ℕ, Bool, IsTrue, List, [], Some, map, not, Contains};
 ghost use Rattle.std.specs.List.{list_all, list_any};
 ghost use Rattle.scasp_model.specs.Atoms.{among};
 ghost use Rattle.scasp_model.specs.Grounding.{ground_program, instances};
 ghost use Rattle.scasp_model.specs.Residual.{is_known_false, residual};
+ghost use Rattle.scasp_model.specs.Stable.{Stable};
 ghost use Rattle.scasp_model.specs.declared.program.GroundClause.{GroundClause as ThisGroundClause};
 ghost use Rattle.scasp_graph.specs.Map.{MapHolds};
 ghost use Rattle.scasp_sound.specs.MapLevels.{covered};
@@ -19,11 +20,15 @@ ghost use Rattle.scasp_lines.specs.Said.{false_atoms, is_closed_over, true_atoms
 ghost use Rattle.scasp_lines.specs.Scopes.{excludes_no_parts};
 ghost use Rattle.scasp_lines.specs.Walk.{Line, of_case, of_node};
 ghost use Rattle.scasp_soundness.specs.Carriers.{Carrier};
-ghost use Rattle.scasp_soundness.specs.Good.{Good, GoodRight, HasClosedDomains, holds_by, query_values};
+ghost use Rattle.scasp_soundness.specs.Examples.{alone, aside, circle, even, fact, looped, q};
+ghost use Rattle.scasp_soundness.specs.Good.{Good, GoodRight, HasClosedDomains, holds_by, query_values, residual_over};
+ghost use Rattle.scasp_soundness.specs.Kept.{KeepsPromise};
+ghost use Rattle.scasp_soundness.specs.OwnRows.{HasNormalRows};
 ghost use Rattle.scasp_soundness.specs.Premises.{IsAt, Premises};
 ghost use Rattle.scasp_acceptance.specs.Accepted.{AcceptsWhere};
 ghost use Rattle.scasp_acceptance.specs.Normality.{AreRowsNormal};
 ghost use Rattle.scasp_syntax.specs.Constraints.{holds};
+ghost use Rattle.scasp_syntax.specs.Tm.{Tm};
 ghost use Rattle.scasp_syntax.specs.Values.{Sub};
 ghost use Rattle.scasp_syntax.specs.declared.atom.Atom.{Atom as ThisAtom};
 ghost use Rattle.scasp_syntax.specs.declared.atom.Lit.{Lit as ThisLit};
@@ -82,4 +87,26 @@ pub fn right_is_good_with_existence()
 /// Above each domain there is one that is closed for an accepted certificate which is flat, so that its promise is not empty.
 pub fn closed_domains_exist()
     ensures { (b : Bool) (p : ThisProgram) (c : Certificate) → AcceptsWhere b p c → IsTrue (is_flat c) → HasClosedDomains p c }
+{}
+
+/// The rows of each program are in normal form; so where those that stand in a certificate are, all are that its
+/// acceptance speaks of.
+pub fn rows_are_normal()
+    ensures { (p : ThisProgram) (c : Certificate) → HasNormalRows c → AreRowsNormal p c }
+{}
+
+/// An accepted certificate, whose rows are in normal form as those of each `Cert` are, keeps all of its promise.
+pub fn accepted_keeps_its_promise()
+    ensures { (b : Bool) (p : ThisProgram) (c : Certificate) → HasNormalRows c → AcceptsWhere b p c → KeepsPromise p c }
+{}
+
+/// By the definition alone: of `p :- p.` neither the one line that p holds by rule 1, nor that line with a loop below it,
+/// is good. The first is right for `p.`; and for an even loop beside a fact r, so is the line of r: it leaves the loop, of
+/// which q is a stable model.
+pub fn small_certificates()
+    ensures alone { Good circle alone → ⊥ }
+    ensures looped { Good circle looped → ⊥ }
+    ensures fact { GoodRight fact alone }
+    ensures even { GoodRight even aside }
+    ensures model { (v : Sub) (d : List Tm) → Stable (residual_over even aside v d) (q ∷ []) }
 {}

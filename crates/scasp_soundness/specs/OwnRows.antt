@@ -1,0 +1,37 @@
+-- The constraints that stand in a certificate: those that are given, and those of its tests and splits. Each row of the product's types is
+-- in normal form, so those of the certificate that a `Cert` is are.
+use Rattle.std.specs.Prelude.{List, [], ◌∷◌, ◌++◌}
+use Rattle.std.specs.List.{flat_map}
+use Rattle.scasp_syntax.specs.declared.con.Con.{Con}
+use Rattle.scasp_cert.specs.Certificate.{Certificate}
+use Rattle.scasp_cert.specs.Trees.{Tree, Trees, Branch, Branches, pos_tree, neg_tree, loop_tree, seen_tree, test_tree, no_tree, tree, split, void, leaf, head, no_branch, branch, listed}
+use Rattle.scasp_hint.specs.AskedRows.{RowsNormal}
+
+abbrev mutual
+  pub constraints_by : Tree → List Con
+  constraints_by (pos_tree a rule ts children) = constraints_below children
+  constraints_by (neg_tree a covers) = constraints_in covers
+  constraints_by (loop_tree lit at) = []
+  constraints_by (seen_tree lit at) = []
+  constraints_by (test_tree c hint) = c ∷ []
+
+  pub constraints_below : Trees → List Con
+  constraints_below no_tree = []
+  constraints_below (tree t ts) = constraints_by t ++ constraints_below ts
+
+  pub constraints_at : Branch → List Con
+  constraints_at (split c first second) = c ∷ constraints_at first ++ constraints_at second
+  constraints_at (void hint) = []
+  constraints_at (leaf item children) = constraints_below children
+  constraints_at (head children) = constraints_below children
+
+  pub constraints_in : Branches → List Con
+  constraints_in no_branch = []
+  constraints_in (branch rule b bs) = constraints_at b ++ constraints_in bs
+
+abbrev pub constraints_of : Certificate → List Con
+constraints_of c = c.given ++ (constraints_below (listed c.trees) ++ flat_map (λ k. constraints_at k.1) c.checks)
+
+-- every row that stands in the certificate is in normal form
+abbrev pub HasNormalRows : Certificate → Type 0
+HasNormalRows c = RowsNormal (constraints_of c)
