@@ -1,1 +1,2 @@
 pub mod FallLemmas
+pub mod Walks

@@ -20,3 +20,4 @@ pub mod Falls
 pub mod ExampleWords
 pub mod LoopExamples
 pub mod TermExamples
+pub mod NumberExamples

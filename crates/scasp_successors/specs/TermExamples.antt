@@ -3,10 +3,10 @@ use Rattle.std.specs.Prelude.{◌≡◌, List, [], ◌∷◌, None}
 use Rattle.std.proofs.Common.{refl}
 use Rattle.scasp_acceptance.specs.ExampleWords.{program}
 use Rattle.scasp_cert.specs.Certificate.{Certificate}
-use Rattle.scasp_cert.specs.Trees.{Tree, pos_tree, neg_tree, split, void, leaf, listed, covering}
+use Rattle.scasp_cert.specs.Trees.{Tree, pos_tree, neg_tree, loop_tree, split, void, leaf, listed, covering}
 use Rattle.scasp_lines.specs.Samples.{atom, one, constant, is_true, is_not, rule, ask, answer, by_fact}
 use Rattle.scasp_rows.specs.PlainRows.{is_met}
-use Rattle.scasp_syntax.specs.Tm.{Tm, var, app, nil}
+use Rattle.scasp_syntax.specs.Tm.{Tm, var, app, nil, cons}
 use Rattle.scasp_syntax.specs.declared.atom.Atom.{Atom}
 use Rattle.scasp_syntax.specs.declared.clause.Item.{Item}
 use Rattle.scasp_syntax.specs.declared.clause.Item.TheVariants.{Call, Equal}
@@ -17,7 +17,7 @@ use Rattle.scasp_syntax.specs.declared.hint.Hint.TheVariants as hint
 use Rattle.scasp_syntax.specs.declared.program.Program.{Program}
 use Rattle.scasp_syntax.specs.declared.term.Term.TheVariants.{Var, App}
 use Rattle.scasp_unify.specs.Unification.{unifier}
-use Rattle.scasp_successors.specs.ExampleWords.{problem, events}
+use Rattle.scasp_successors.specs.ExampleWords.{problem, events, calls_of}
 use Rattle.scasp_successors.specs.Machine.{answered, ended, spent, first_event}
 
 abbrev p : Tm → Atom
@@ -95,6 +95,11 @@ forall_over_facts : events (problem facts []) (ask (Call (is_not bare))) 60 1
 unfolding first_event is_met unifier
 forall_over_facts = refl
 
+-- an answer for each way through the two splits, and the end
+forall_over_facts_calls : calls_of (events (problem facts []) (ask (Call (is_not bare))) 60 6) ≡ 13 ∷ 22 ∷ 26 ∷ 35 ∷ 39 ∷ 40 ∷ []
+unfolding first_event is_met unifier
+forall_over_facts_calls = refl
+
 -- ---- p(X) :- X = f(X). ?- p(Y).
 
 abbrev inside : Program
@@ -139,3 +144,40 @@ closed_domain_only : events (problem domain []) (ask (Call (is_not bare))) 60 2
     ) ∷ (ended, 4) ∷ []
 unfolding first_event is_met unifier
 closed_domain_only = refl
+
+-- ---- p(X) :- not q(X). q(X) :- not p(X). ?- p(X), not p(Y). The two are to be apart.
+
+abbrev ask_two : Query
+ask_two = record { body = Call (is_true (p (var 0))) ∷ Call (is_not (p (var 1))) ∷ []; names = None ∷ None ∷ [] }
+
+abbrev even : Program
+even =
+    program (rule 1 (p (var 0)) (Call (is_not (q (var 0))) ∷ []) ∷ rule 1 (q (var 0)) (Call (is_not (p (var 0))) ∷ []) ∷ [])
+    (ask_two ∷ []) refl
+
+opposites_are_apart : events (problem even []) ask_two 60 1
+    ≡ (
+      answered
+          (record {
+            query = 1;
+            terms = cons (var 0) (one (var 1));
+            given = con.Neq (Var 1) (Var 0) ∷ [];
+            sample = nil;
+            trees =
+                pos_tree (p (var 0)) 1 (one (var 0))
+                    (listed (neg_tree (q (var 0)) (covering ((2, leaf 1 (listed (loop_tree (is_true (p (var 0))) 1 ∷ []))) ∷ [])) ∷ []))
+                ∷ neg_tree (p (var 1))
+                (covering
+                ((
+                  1,
+                  leaf 1 (listed (pos_tree (q (var 1)) 2 (one (var 1)) (listed (loop_tree (is_not (p (var 1))) 6 ∷ [])) ∷ [])),
+                ) ∷ []))
+                ∷ [];
+            checks = [];
+            clashes = [];
+            map = [];
+          }),
+      8,
+    ) ∷ []
+unfolding first_event is_met unifier
+opposites_are_apart = refl
