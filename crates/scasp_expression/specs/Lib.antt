@@ -1,0 +1,4 @@
+pub mod Sums
+pub mod Values
+pub mod Expressions
+pub mod Examples
