@@ -1,0 +1,4 @@
+pub mod Judging
+pub mod KnownLemmas
+pub mod Counting
+pub mod NameClashLemmas

@@ -1,0 +1,38 @@
+//! Whether two constraints are equal.
+ghost use Rattle.std.specs.Prelude.{◌≡◌, IfOk, ◌&&◌};
+ghost use Rattle.scasp_acceptance.specs.SameConstraint.{same_con, same_term};
+
+use scasp_list::Memory;
+use scasp_syntax::{Con, Term, same};
+use std::alloc::Global;
+
+/// Two pairs of terms, each with its other one.
+fn same_sides(
+    alloc: Global,
+    left: &Term,
+    right: &Term,
+    other_left: &Term,
+    other_right: &Term,
+) -> Result<bool, Memory>
+    ensures { IfOk result (λ answer. answer ≡ (same_term left.now other_left.now && same_term right.now other_right.now)) }
+{
+    if !same(alloc, left, other_left)? {
+        return Ok(false);
+    }
+    same(alloc, right, other_right)
+}
+
+/// Whether two constraints are equal. It takes memory for the arguments that are still to be compared, and no machine stack.
+pub fn same_con(alloc: Global, first: &Con, second: &Con) -> Result<bool, Memory>
+    ensures { IfOk result (λ answer. answer ≡ same_con first.now second.now) }
+{
+    match (first, second) {
+        (Con::Eq(t, u), Con::Eq(a, b)) => same_sides(alloc, t, u, a, b),
+        (Con::Neq(t, u), Con::Neq(a, b)) => same_sides(alloc, t, u, a, b),
+        (Con::NotShape(x, f, n), Con::NotShape(y, g, m)) => Ok(x == y && f == g && n == m),
+        (Con::Num(t), Con::Num(a)) => same(alloc, t, a),
+        (Con::NotNum(t), Con::NotNum(a)) => same(alloc, t, a),
+        (Con::Row(r), Con::Row(q)) => Ok(r.is_same(q)),
+        _ => Ok(false),
+    }
+}
