@@ -1,0 +1,50 @@
+-- Reading constraints.
+use Rattle.std.specs.Prelude.{ℕ, nat_lt, List, [], ◌∷◌, codes, None}
+use Rattle.scasp_num.specs.Arithmetic.{◌>>=◌}
+use Rattle.scasp_syntax.specs.Tm.{Tm, var, num, app, nil}
+use Rattle.scasp_syntax.specs.declared.term.Term.{Term}
+use Rattle.scasp_syntax.specs.declared.term.Term.TheVariants.{Var, Num, App}
+use Rattle.scasp_syntax.specs.declared.con.Con.{Con}
+use Rattle.scasp_syntax.specs.declared.con.Con.TheVariants as con
+use Rattle.scasp_answer_lines.specs.Tokens.{Token, variable}
+use Rattle.scasp_answer_lines.specs.Readers.{Parsed, keyed, both, between, any_of, only, number_at}
+use Rattle.scasp_answer_lines.specs.Names.{name_at}
+use Rattle.scasp_answer_lines.specs.Terms.{term_at}
+use Rattle.scasp_answer_lines.specs.Rows.{row_at}
+
+abbrev pub term_of : Tm → Term
+term_of (var x) = Var x
+term_of (num q) = Num q
+term_of (app f ts) = App f ts
+
+-- the shape `f/2` with a number of arguments
+abbrev pub shape_at : (List ℕ → ℕ) → List Token → Parsed (ℕ × ℕ)
+shape_at place = both (name_at place) (codes "/") (only (λ n. nat_lt 0 n) number_at)
+
+-- `V0 \= f/2`
+abbrev pub not_shape_at : (List ℕ → ℕ) → List Token → Parsed Con
+not_shape_at place (variable x ∷ ts) = keyed (codes " \\= ") (shape_at place) (λ s. con.NotShape x s.0 s.1) ts
+not_shape_at place _ = None
+
+-- the disequation of two terms; of a variable and a constant it is a shape
+abbrev pub unequal : Tm → Tm → Con
+unequal (var x) (app f nil) = con.NotShape x f 0
+unequal t s = con.Neq (term_of t) (term_of s)
+
+-- what stands behind the first of two terms
+abbrev pub related_to : (List ℕ → ℕ) → Tm → List Token → Parsed Con
+related_to place t =
+    any_of (
+    keyed (codes " = ") (term_at place) (λ s. con.Eq (term_of t) (term_of s))
+    ∷ keyed (codes " \\= ") (term_at place) (unequal t)
+    ∷ [])
+
+abbrev pub con_at : (List ℕ → ℕ) → List Token → Parsed Con
+con_at place =
+    any_of (
+    keyed [] row_at con.Row
+    ∷ not_shape_at place
+    ∷ (λ ts. term_at place ts >>= (λ r. related_to place r.0 r.1))
+    ∷ keyed [] (between (codes "num(") (term_at place) (codes ")")) (λ t. con.Num (term_of t))
+    ∷ keyed [] (between (codes "not num(") (term_at place) (codes ")")) (λ t. con.NotNum (term_of t))
+    ∷ [])

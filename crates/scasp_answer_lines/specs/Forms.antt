@@ -1,0 +1,84 @@
+-- The forms of lines: how each is read.
+use Rattle.std.specs.Prelude.{ℕ, ◌==◌, Bool, true, false, List, [], ◌∷◌, codes, Option, None, Some}
+use Rattle.scasp_num.specs.Arithmetic.{◌>>=◌}
+use Rattle.scasp_syntax.specs.declared.atom.Pred.{Pred}
+use Rattle.scasp_syntax.specs.declared.hint.Hint.{Hint}
+use Rattle.scasp_syntax.specs.declared.predicate_map.PredMap.{PredMap}
+use Rattle.scasp_cert.specs.declared.certificate.Clash.{Clash}
+use Rattle.scasp_answer_lines.specs.Tokens.{Token, minus, tokens_in}
+use Rattle.scasp_answer_lines.specs.Readers.{Parsed, keyed, both, alone, any_of, only, number_at, Form, form, by_form, nothing_more}
+use Rattle.scasp_answer_lines.specs.Names.{name_at}
+use Rattle.scasp_answer_lines.specs.Terms.{list_at, atom_at, lit_at}
+use Rattle.scasp_answer_lines.specs.Constraints.{con_at}
+use Rattle.scasp_answer_lines.specs.Hints.{hint_at}
+use Rattle.scasp_answer_lines.specs.Reasons.{reason_at}
+use Rattle.scasp_answer_lines.specs.Lines.{ended, stopped, spent, overflow, Line, header_line, ending_line, rejected_line, answer_line, given_line, sample_line, tree_line, check_line, clash_line, map_line, end_line, pos_line, neg_line, loop_line, seen_line, test_line, rule_line, split_line, void_line, leaf_line, head_line}
+
+-- `Q.N`
+abbrev pub place_at : List Token → Parsed (ℕ × ℕ)
+place_at = both number_at (codes ".") number_at
+
+abbrev pub pred_of : Bool → ℕ × ℕ → Pred
+pred_of negative p = record { minus = negative; name = p.0; arity = p.1 }
+
+abbrev pub clash_of : ℕ × (ℕ × Hint) → Clash
+clash_of r = record { first = r.0; second = r.1.0; hint = r.1.1 }
+
+abbrev pub map_of : Pred × (ℕ × Bool) → PredMap
+map_of r = record { pred = r.0; level = r.1.0; plus = r.1.1 }
+
+abbrev pub unsigned_pred_at : (List ℕ → ℕ) → Bool → List Token → Parsed Pred
+unsigned_pred_at place negative =
+    keyed [] (both (name_at place) (codes "/") number_at) (pred_of negative)
+
+-- `p/1`, `-p/1`
+abbrev pub pred_at : (List ℕ → ℕ) → List Token → Parsed Pred
+pred_at place (minus ∷ ts) = unsigned_pred_at place true ts
+pred_at place ts = unsigned_pred_at place false ts
+
+abbrev pub level_sign_at : List Token → Parsed Bool
+level_sign_at = any_of (alone (codes "+") true ∷ alone (codes "-") false ∷ [])
+
+-- the form whose first word is followed by a blank and then by this
+abbrev pub spaced : {A : Type 0} → List ℕ → (List Token → Parsed A) → (A → Line) → Form Line
+spaced first reads make = form first (keyed (codes " ") reads make)
+
+-- the forms; `place` is the number of each text in the table of names
+abbrev pub forms : (List ℕ → ℕ) → List (Form Line)
+forms place =
+    spaced (codes "scasp") (only (λ v. v == 1) number_at) header_line
+    ∷ spaced (codes "ended") number_at (ending_line ended)
+    ∷ spaced (codes "stopped") number_at (ending_line stopped)
+    ∷ spaced (codes "spent") number_at (ending_line spent)
+    ∷ spaced (codes "overflow") number_at (ending_line overflow)
+    ∷ spaced (codes "rejected") (both place_at (codes " ") (both number_at (codes " ") reason_at)) (λ r. rejected_line r.0.0 r.0.1 r.1.0 r.1.1)
+    ∷ spaced (codes "answer") (both place_at (codes " ") (list_at place)) (λ r. answer_line r.0.0 r.0.1 r.1)
+    ∷ spaced (codes "given") (con_at place) given_line
+    ∷ spaced (codes "sample") (list_at place) sample_line
+    ∷ form (codes "tree") (nothing_more tree_line)
+    ∷ spaced (codes "check") number_at check_line
+    ∷ spaced (codes "clash") (both number_at (codes " ") (both number_at (codes " ") hint_at)) (λ r. clash_line (clash_of r))
+    ∷ spaced (codes "map") (both (pred_at place) (codes " ") (both number_at (codes " ") level_sign_at)) (λ r. map_line (map_of r))
+    ∷ form (codes "end") (nothing_more end_line)
+    ∷ spaced (codes "pos") (both (atom_at place) (codes " rule ") (both number_at (codes " ") (list_at place))) (λ r. pos_line r.0 r.1.0 r.1.1)
+    ∷ spaced (codes "neg") (atom_at place) neg_line
+    ∷ spaced (codes "loop") (both (lit_at place) (codes " at ") number_at) (λ r. loop_line r.0 r.1)
+    ∷ spaced (codes "seen") (both (lit_at place) (codes " at ") number_at) (λ r. seen_line r.0 r.1)
+    ∷ spaced (codes "test") (both (con_at place) (codes " ") hint_at) (λ r. test_line r.0 r.1)
+    ∷ spaced (codes "rule") number_at rule_line
+    ∷ spaced (codes "split") (con_at place) split_line
+    ∷ spaced (codes "void") hint_at void_line
+    ∷ spaced (codes "leaf") number_at leaf_line
+    ∷ form (codes "head") (nothing_more head_line)
+    ∷ []
+
+unfoldable pub line_at : (List ℕ → ℕ) → List Token → Parsed Line
+line_at place ts = by_form (forms place) ts
+
+abbrev pub nothing_behind : Line → List Token → Option Line
+nothing_behind l [] = Some l
+nothing_behind l (t ∷ ts) = None
+
+-- the line that these bytes are, blanks aside
+unfoldable pub line_in : (List ℕ → ℕ) → List ℕ → Option Line
+line_in place bytes = tokens_in bytes >>= (λ ts. line_at place ts >>= (λ r. nothing_behind r.0 r.1))

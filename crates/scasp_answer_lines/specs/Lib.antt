@@ -1,0 +1,12 @@
+pub mod Tokens
+pub mod Readers
+pub mod Names
+pub mod Terms
+pub mod Rows
+pub mod Constraints
+pub mod Hints
+pub mod Reasons
+pub mod Lines
+pub mod Forms
+pub mod Bounds
+pub mod Examples

@@ -1,0 +1,3 @@
+mod TreeLines
+mod OtherLines
+mod BlockLines
