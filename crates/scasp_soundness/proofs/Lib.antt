@@ -24,3 +24,4 @@ pub mod ExampleLemmas
 pub mod GatherLemmas
 pub mod OwnRowLemmas
 pub mod PromiseLemmas
+pub mod SeenRows

@@ -1,10 +1,11 @@
 -- Where the rows that stand in a certificate are in normal form, all are that its acceptance speaks of.
-use Rattle.std.proofs.Common.{ℕ, List, [], ◌∷◌, ◌++◌, map, subst, inl, inr}
+use Rattle.std.proofs.Common.{◌≡◌, ℕ, true, List, [], ◌∷◌, ◌++◌, map}
 use Rattle.std.specs.List.{Contains, flat_map}
 use Rattle.std.proofs.lemmas.List.Elements.{Contains-append_left, Contains-append_right}
 use Rattle.scasp_list.specs.Each.{Each}
 use Rattle.scasp_list.proofs.EachLemmas.{Each-map, Each-append}
-use Rattle.scasp_list.proofs.MemberLemmas.{Contains-none, Contains-here, Contains-there, Contains-cases}
+use Rattle.scasp_list.proofs.MemberLemmas.{Contains-none, Contains-here, Contains-there, list_all-member}
+use Rattle.scasp_num.proofs.NormalTests.{normal-decided}
 use Rattle.scasp_syntax.specs.Flat.{flat_after, number_test, unseen}
 use Rattle.scasp_syntax.specs.WellFormed.{HasNormalRow}
 use Rattle.scasp_syntax.specs.declared.clause.Item.{Item}
@@ -19,7 +20,7 @@ use Rattle.scasp_hint.specs.AskedRows.{RowsNormal}
 use Rattle.scasp_lines.specs.Lines.{lines}
 use Rattle.scasp_lines.specs.Walk.{Line}
 use Rattle.scasp_acceptance.specs.Normality.{AreRowsNormal, ItemNormal, LineNormal, on_node, on_case, on_part}
-use Rattle.scasp_soundness.specs.OwnRows.{constraints_by, constraints_below, constraints_at, constraints_in, HasNormalRows}
+use Rattle.scasp_soundness.specs.OwnRows.{constraints_by, constraints_below, constraints_at, constraints_in, is_con_normal, has_normal_rows}
 use Rattle.scasp_soundness.proofs.GatherLemmas.{Gathers, lines-passed}
 
 -- ---- lists of constraints
@@ -28,6 +29,14 @@ use Rattle.scasp_soundness.proofs.GatherLemmas.{Gathers, lines-passed}
 abbrev ConNormal : Con → Type 0
 ConNormal c = RowsNormal (c ∷ [])
 
+con-normal : (c : Con) → is_con_normal c ≡ true → ConNormal c
+con-normal (con.Row r) h = ((normal-decided r).0 h, tt)
+con-normal (con.Eq t u) h = tt
+con-normal (con.Neq t u) h = tt
+con-normal (con.NotShape x f n) h = tt
+con-normal (con.Num t) h = tt
+con-normal (con.NotNum t) h = tt
+
 cons-normal : (c : Con) (cs : List Con) → ConNormal c → RowsNormal cs → RowsNormal (c ∷ cs)
 cons-normal (con.Row r) cs h k = (h.0, k)
 cons-normal (con.Eq t u) cs h k = k
@@ -35,20 +44,6 @@ cons-normal (con.Neq t u) cs h k = k
 cons-normal (con.NotShape x f n) cs h k = k
 cons-normal (con.Num t) cs h k = k
 cons-normal (con.NotNum t) cs h k = k
-
-first-normal : (c : Con) (cs : List Con) → RowsNormal (c ∷ cs) → ConNormal c × RowsNormal cs
-first-normal (con.Row r) cs h = ((h.0, tt), h.1)
-first-normal (con.Eq t u) cs h = (tt, h)
-first-normal (con.Neq t u) cs h = (tt, h)
-first-normal (con.NotShape x f n) cs h = (tt, h)
-first-normal (con.Num t) cs h = (tt, h)
-first-normal (con.NotNum t) cs h = (tt, h)
-
-member-normal : (cs : List Con) → RowsNormal cs → (c : Con) → Contains cs c → ConNormal c
-member-normal [] h c i = absurd (Contains-none c i)
-member-normal (k ∷ cs) h c i =
-    let p = first-normal k cs h in
-    elim (Contains-cases k cs c i) [ inl e ↦ subst ConNormal e p.0 | inr j ↦ member-normal cs p.1 c j ]
 
 from-members : (cs : List Con) → ((c : Con) → Contains cs c → ConNormal c) → RowsNormal cs
 from-members [] f = tt
@@ -106,10 +101,10 @@ each-from : (P : Line → Type 0) (ls : List Line) → ((l : Line) → Contains 
 each-from P [] f = tt
 each-from P (l ∷ ls) f = (f l (Contains-here l ls), each-from P ls (λ k i. f k (Contains-there l ls k i)))
 
-pub rows-normal : (p : Program) (c : Certificate) → HasNormalRows c → AreRowsNormal p c
+pub rows-normal : (p : Program) (c : Certificate) → has_normal_rows c ≡ true → AreRowsNormal p c
 rows-normal p c h =
     let within : List Con = constraints_below (listed c.trees) ++ flat_map (λ k. constraints_at k.1) c.checks in
-    let each = member-normal (c.given ++ within) h in
+    let each : (k : Con) → Contains (c.given ++ within) k → ConNormal k = λ k i. con-normal k (list_all-member is_con_normal (c.given ++ within) k h i) in
     let passed = lines-passed on_part constraints_by constraints_below constraints_at constraints_in constraints-gather ConNormal p c
     (λ k i. each k (Contains-append_right c.given within k i)) in
     record {

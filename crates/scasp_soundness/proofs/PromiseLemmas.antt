@@ -1,16 +1,16 @@
 -- An accepted certificate keeps all of its promise, where the rows that stand in it are in normal form.
-use Rattle.std.proofs.Common.{Bool}
+use Rattle.std.proofs.Common.{◌≡◌, Bool, true}
 use Rattle.scasp_syntax.specs.declared.program.Program.{Program}
 use Rattle.scasp_cert.specs.Certificate.{Certificate}
 use Rattle.scasp_acceptance.specs.Accepted.{AcceptsWhere}
 use Rattle.scasp_soundness.specs.Kept.{KeepsPromise}
-use Rattle.scasp_soundness.specs.OwnRows.{HasNormalRows}
+use Rattle.scasp_soundness.specs.OwnRows.{has_normal_rows}
 use Rattle.scasp_soundness.proofs.ClosedLemmas.{closed-above}
 use Rattle.scasp_soundness.proofs.GoodLemmas.{accepted-good}
 use Rattle.scasp_soundness.proofs.OwnRowLemmas.{rows-normal}
 use Rattle.scasp_soundness.proofs.RightLemmas.{right-good}
 
-pub keeps-promise : (b : Bool) (p : Program) (c : Certificate) → HasNormalRows c → AcceptsWhere b p c → KeepsPromise p c
+pub keeps-promise : (b : Bool) (p : Program) (c : Certificate) → has_normal_rows c ≡ true → AcceptsWhere b p c → KeepsPromise p c
 keeps-promise b p c n h =
     let normal = rows-normal p c n in
     record {

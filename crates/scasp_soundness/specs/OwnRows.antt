@@ -1,11 +1,12 @@
 -- The constraints that stand in a certificate: those that are given, and those of its tests and splits. Each row of the product's types is
 -- in normal form, so those of the certificate that a `Cert` is are.
-use Rattle.std.specs.Prelude.{List, [], ◌∷◌, ◌++◌}
-use Rattle.std.specs.List.{flat_map}
+use Rattle.std.specs.Prelude.{Bool, true, List, [], ◌∷◌, ◌++◌}
+use Rattle.std.specs.List.{flat_map, list_all}
+use Rattle.scasp_num.specs.Linear.{is_normal}
 use Rattle.scasp_syntax.specs.declared.con.Con.{Con}
+use Rattle.scasp_syntax.specs.declared.con.Con.TheVariants as con
 use Rattle.scasp_cert.specs.Certificate.{Certificate}
 use Rattle.scasp_cert.specs.Trees.{Tree, Trees, Branch, Branches, pos_tree, neg_tree, loop_tree, seen_tree, test_tree, no_tree, tree, split, void, leaf, head, no_branch, branch, listed}
-use Rattle.scasp_hint.specs.AskedRows.{RowsNormal}
 
 abbrev mutual
   pub constraints_by : Tree → List Con
@@ -32,6 +33,18 @@ abbrev mutual
 abbrev pub constraints_of : Certificate → List Con
 constraints_of c = c.given ++ (constraints_below (listed c.trees) ++ flat_map (λ k. constraints_at k.1) c.checks)
 
+-- the constraint's row, if it is one, is in normal form
+abbrev pub is_con_normal : Con → Bool
+is_con_normal (con.Row r) = is_normal r
+is_con_normal (con.Eq t u) = true
+is_con_normal (con.Neq t u) = true
+is_con_normal (con.NotShape x f n) = true
+is_con_normal (con.Num t) = true
+is_con_normal (con.NotNum t) = true
+
+abbrev pub are_normal : List Con → Bool
+are_normal cs = list_all is_con_normal cs
+
 -- every row that stands in the certificate is in normal form
-abbrev pub HasNormalRows : Certificate → Type 0
-HasNormalRows c = RowsNormal (constraints_of c)
+abbrev pub has_normal_rows : Certificate → Bool
+has_normal_rows c = are_normal (constraints_of c)

@@ -23,7 +23,7 @@ ghost use Rattle.scasp_soundness.specs.Carriers.{Carrier};
 ghost use Rattle.scasp_soundness.specs.Examples.{alone, aside, circle, even, fact, looped, q};
 ghost use Rattle.scasp_soundness.specs.Good.{Good, GoodRight, HasClosedDomains, holds_by, query_values, residual_over};
 ghost use Rattle.scasp_soundness.specs.Kept.{KeepsPromise};
-ghost use Rattle.scasp_soundness.specs.OwnRows.{HasNormalRows};
+ghost use Rattle.scasp_soundness.specs.OwnRows.{has_normal_rows};
 ghost use Rattle.scasp_soundness.specs.Premises.{IsAt, Premises};
 ghost use Rattle.scasp_acceptance.specs.Accepted.{AcceptsWhere};
 ghost use Rattle.scasp_acceptance.specs.Normality.{AreRowsNormal};
@@ -92,12 +92,12 @@ pub fn closed_domains_exist()
 /// The rows of each program are in normal form; so where those that stand in a certificate are, all are that its
 /// acceptance speaks of.
 pub fn rows_are_normal()
-    ensures { (p : ThisProgram) (c : Certificate) → HasNormalRows c → AreRowsNormal p c }
+    ensures { (p : ThisProgram) (c : Certificate) → IsTrue (has_normal_rows c) → AreRowsNormal p c }
 {}
 
 /// An accepted certificate, whose rows are in normal form as those of each `Cert` are, keeps all of its promise.
 pub fn accepted_keeps_its_promise()
-    ensures { (b : Bool) (p : ThisProgram) (c : Certificate) → HasNormalRows c → AcceptsWhere b p c → KeepsPromise p c }
+    ensures { (b : Bool) (p : ThisProgram) (c : Certificate) → IsTrue (has_normal_rows c) → AcceptsWhere b p c → KeepsPromise p c }
 {}
 
 /// By the definition alone: of `p :- p.` neither the one line that p holds by rule 1, nor that line with a loop below it,

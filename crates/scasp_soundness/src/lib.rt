@@ -2,3 +2,6 @@
 #![tactic(auto)]
 
 pub mod laws;
+mod rows;
+
+pub use rows::see_rows;
