@@ -1,0 +1,4 @@
+pub mod Atoms
+pub mod Items
+pub mod Bodies
+pub mod Examples
