@@ -181,3 +181,22 @@ opposites_are_apart : events (problem even []) ask_two 60 1
     ) ∷ []
 unfolding first_event is_met unifier
 opposites_are_apart = refl
+
+-- ---- p(X) :- bare. bare :- s. ?- not p(a), not bare. The second `not bare` stands outside the case in which the first was shown.
+
+abbrev s : Atom
+s = atom 9 nil
+
+abbrev ask_scoped : Query
+ask_scoped = record { body = Call (is_not (p a)) ∷ Call (is_not bare) ∷ []; names = [] }
+
+abbrev scoped : Program
+scoped = program (rule 1 (p (var 0)) (Call (is_true bare) ∷ []) ∷ rule 0 bare (Call (is_true s) ∷ []) ∷ []) (ask_scoped ∷ []) refl
+
+abbrev not_bare : Tree
+not_bare = neg_tree bare (covering ((2, leaf 1 (listed (neg_tree s (covering []) ∷ []))) ∷ []))
+
+case_is_out_of_scope : events (problem scoped []) ask_scoped 60 2
+    ≡ (answered (answer (neg_tree (p a) (covering ((1, leaf 1 (listed (not_bare ∷ []))) ∷ [])) ∷ not_bare ∷ []) []), 8) ∷ (ended, 8) ∷ []
+unfolding first_event is_met unifier
+case_is_out_of_scope = refl
