@@ -11,7 +11,7 @@ use crate::cover::{Cover, covering};
 use crate::opening::{Opening, open_head};
 use crate::place::Place;
 use scasp_list::Memory;
-use scasp_syntax::{Atom, Clause, Duplicate, FlatItems, flat};
+use scasp_syntax::{Atom, Clause, DeepCopy, FlatItems, flat};
 use scasp_unify::Binding;
 use std::alloc::Global;
 
@@ -70,7 +70,7 @@ fn body_behind(
 {
     Ok(Body {
         items: flat(alloc, clause)?,
-        head: clause.head.duplicate(alloc)?,
+        head: clause.head.copy(alloc)?,
         is_check,
         vars: clause.vars,
         values: bound.share()?,

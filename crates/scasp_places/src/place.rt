@@ -6,7 +6,7 @@ ghost use Rattle.scasp_places.specs.View.{place_of};
 use crate::chain::Chain;
 use scasp_list::Memory;
 use scasp_name::NameId;
-use scasp_syntax::{Atom, Con, Duplicate};
+use scasp_syntax::{Atom, Con, DeepCopy};
 use scasp_unify::Binding;
 use std::alloc::Global;
 
@@ -94,7 +94,7 @@ impl Place {
     ) -> Result<Place, Memory>
         ensures { IfOk result (λ made. place_of made ≡ below_literal at positive atom.now (place_of self.now)) }
     {
-        let atom = atom.duplicate(alloc)?;
+        let atom = atom.copy(alloc)?;
         let above = self.above.with(alloc, Ancestor { at, positive, atom })?;
         Ok(Place {
             opened: self.opened.share()?,

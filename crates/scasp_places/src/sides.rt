@@ -12,7 +12,7 @@ use crate::scope::is_universal;
 use crate::substitution::{Replaced, under};
 use scasp_list::Memory;
 use scasp_name::NameId;
-use scasp_syntax::{Con, Duplicate, Term};
+use scasp_syntax::{Con, DeepCopy, Term};
 use scasp_unify::Binding;
 use std::alloc::Global;
 
@@ -244,7 +244,7 @@ fn plain_sides(
 {
     let negation = negated(alloc, here.hidden, constraint)?;
     Ok(Sides {
-        first: side_of(alloc, bounds, constraint.duplicate(alloc)?, here)?,
+        first: side_of(alloc, bounds, constraint.copy(alloc)?, here)?,
         second: side_of(alloc, bounds, negation, here)?,
         next,
     })
