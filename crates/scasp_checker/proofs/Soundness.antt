@@ -30,7 +30,7 @@ use Rattle.scasp_sound.specs.MapLevels.{level_of, plus_of, covered, NoneLeft}
 use Rattle.scasp_sound.specs.Support.{Founded, Supports, Joins}
 use Rattle.scasp_sound.proofs.JoinLemmas.{joined}
 use Rattle.scasp_sound.proofs.LevelInduction.{levelled-stable}
-use Rattle.scasp_sound.proofs.ListLemmas.{Contains-here, Contains-there, Contains-map, Contains-from_map, Contains-filter, Contains-from_filter, list_all-from, list_any-from, list_any-member}
+use Rattle.scasp_list.proofs.MemberLemmas.{Contains-here, Contains-there, Contains-map, Contains-from_map, Contains-filter, Contains-from_filter, list_all-from, list_any-from, list_any-member}
 use Rattle.scasp_sound.proofs.MapKeeping.{left-keeps}
 use Rattle.scasp_sound.proofs.SupportLemmas.{Supports-founded}
 use Rattle.scasp_checker.specs.Accepted.{Accepts, AreAccepted}

@@ -16,7 +16,7 @@ use Rattle.scasp_sound.specs.Support.{Supports}
 use Rattle.scasp_sound.proofs.FoundedLemmas.{founded-more}
 use Rattle.scasp_sound.proofs.HeadLemmas.{rules_for-has, rules_for-from}
 use Rattle.scasp_sound.proofs.KeepingLemmas.{KeepsLevels}
-use Rattle.scasp_sound.proofs.ListLemmas.{Contains-here, Contains-map, Contains-flat_map, Contains-filter, Contains-from_filter, list_any-from, list_any-member}
+use Rattle.scasp_list.proofs.MemberLemmas.{Contains-here, Contains-map, Contains-flat_map, Contains-filter, Contains-from_filter, list_any-from, list_any-member}
 use Rattle.scasp_sound.proofs.ReductLemmas.{least_model-head}
 use Rattle.scasp_sound.proofs.SupportLemmas.{stable-supported}
 

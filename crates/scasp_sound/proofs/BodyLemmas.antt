@@ -9,7 +9,7 @@ use Rattle.scasp_syntax.proofs.SameLemmas.{atom_decided}
 use Rattle.scasp_model.specs.Atoms.{among, has_all}
 use Rattle.scasp_model.specs.Programs.{positive_atoms, is_blocked, is_positive}
 use Rattle.scasp_sound.specs.Support.{negated_atoms}
-use Rattle.scasp_sound.proofs.ListLemmas.{Contains-here, Contains-there}
+use Rattle.scasp_list.proofs.MemberLemmas.{Contains-here, Contains-there}
 
 -- the literal's atom is in x, or behind `not` it is not in s
 abbrev pub fires : List Atom → List Atom → Lit → Bool

@@ -4,7 +4,7 @@ use Rattle.std.specs.List.{Contains}
 use Rattle.scasp_syntax.specs.declared.atom.Atom.{Atom}
 use Rattle.scasp_model.specs.Programs.{head_is, rules_for}
 use Rattle.scasp_model.specs.declared.program.GroundClause.{GroundClause}
-use Rattle.scasp_sound.proofs.ListLemmas.{Contains-filter, Contains-from_filter}
+use Rattle.scasp_list.proofs.MemberLemmas.{Contains-filter, Contains-from_filter}
 
 module _ (test : Atom → Bool) (g : List GroundClause) (c : GroundClause) (a : Atom) where
   pub rules_for-has : Contains g c → c.head ≡ Some a → test a ≡ true → Contains (rules_for test g) c

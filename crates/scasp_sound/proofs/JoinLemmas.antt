@@ -15,7 +15,7 @@ use Rattle.scasp_model.proofs.AtomLemmas.{among-append, among-within, has_all_fr
 use Rattle.scasp_sound.specs.Support.{Supports, Joins}
 use Rattle.scasp_sound.proofs.BodyLemmas.{fires}
 use Rattle.scasp_sound.proofs.FoundedLemmas.{founded-within}
-use Rattle.scasp_sound.proofs.ListLemmas.{list_all-from, list_all-member, list_any-from, list_any-none_from, list_any-none_member, Contains-filter, Contains-from_filter}
+use Rattle.scasp_list.proofs.MemberLemmas.{list_all-from, list_all-member, list_any-from, list_any-none_from, list_any-none_member, Contains-filter, Contains-from_filter}
 use Rattle.scasp_sound.proofs.ReductLemmas.{ClosedBy, least-closed, stable-closed, least-within, least_model-head}
 use Rattle.scasp_sound.proofs.ResidualLemmas.{left, residual-has, residual-from, known_false-not, left-true, fires-known}
 

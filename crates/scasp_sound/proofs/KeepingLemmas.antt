@@ -10,7 +10,7 @@ use Rattle.scasp_model.specs.Levels.{keeps_literal, keeps_rule, keeps_levels}
 use Rattle.scasp_model.specs.Programs.{head_is}
 use Rattle.scasp_model.specs.Residual.{is_known, is_known_true, is_known_false, residual_of, residual}
 use Rattle.scasp_model.specs.declared.program.GroundClause.{GroundClause}
-use Rattle.scasp_sound.proofs.ListLemmas.{Contains-from_filter, list_all-from, list_all-member}
+use Rattle.scasp_list.proofs.MemberLemmas.{Contains-from_filter, list_all-from, list_all-member}
 use Rattle.scasp_sound.proofs.ResidualLemmas.{left, residual-from}
 
 -- what the test says: no literal of a body is above the head, those of its level keep signs, and there is no denial

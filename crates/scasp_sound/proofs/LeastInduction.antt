@@ -9,7 +9,7 @@ use Rattle.scasp_model.specs.Atoms.{among, has_all}
 use Rattle.scasp_model.specs.Least.{with_head, with_heads, rounds, least_model}
 use Rattle.scasp_model.specs.declared.program.DefiniteRule.{DefiniteRule}
 use Rattle.scasp_model.proofs.AtomLemmas.{among-append, among-within}
-use Rattle.scasp_sound.proofs.ListLemmas.{Contains-here, Contains-there}
+use Rattle.scasp_list.proofs.MemberLemmas.{Contains-here, Contains-there}
 
 module _ (rs : List DefiniteRule) (P : Atom → Type 0) (rule : (r : DefiniteRule) → Contains rs r → ((b : Atom) → among r.body b ≡ true → P b) → P r.head) where
   with_head-keeps : (present got : List Atom) (r : DefiniteRule) → Contains rs r → ((a : Atom) → among present a ≡ true → P a) → ((a : Atom) → among got a ≡ true → P a) → (a : Atom) → among (with_head present got r) a ≡ true → P a

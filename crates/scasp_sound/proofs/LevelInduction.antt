@@ -15,7 +15,7 @@ use Rattle.scasp_sound.proofs.BelowLemmas.{rules_below}
 use Rattle.scasp_sound.proofs.JoinLemmas.{joined}
 use Rattle.scasp_sound.proofs.KeepingLemmas.{KeepsLevels, KeepsLevels-from}
 use Rattle.scasp_sound.proofs.LevelLemmas.{next-stable}
-use Rattle.scasp_sound.proofs.ListLemmas.{Contains-none, Contains-cases}
+use Rattle.scasp_list.proofs.MemberLemmas.{Contains-none, Contains-cases}
 use Rattle.scasp_sound.proofs.SameLists.{filter-all, filter-none}
 
 head-below : (level : Atom → ℕ) (g : List GroundClause) (c : GroundClause) (a : Atom) → Contains g c → c.head ≡ Some a → level a < above_heads level g

@@ -13,7 +13,7 @@ use Rattle.scasp_sound.proofs.BelowLemmas.{rules_below, lacked, lacked-from, kno
 use Rattle.scasp_sound.proofs.HeadLemmas.{rules_for-from}
 use Rattle.scasp_sound.proofs.JoinLemmas.{joined}
 use Rattle.scasp_sound.proofs.KeepingLemmas.{KeepsLevels}
-use Rattle.scasp_sound.proofs.ListLemmas.{Contains-from_filter}
+use Rattle.scasp_list.proofs.MemberLemmas.{Contains-from_filter}
 use Rattle.scasp_sound.proofs.ReadingLemmas.{residual_of-known, residual_of-read, at_level-from}
 use Rattle.scasp_sound.proofs.SameLists.{taken, taken-same}
 use Rattle.scasp_sound.proofs.SignLemmas.{KeepsSigns}

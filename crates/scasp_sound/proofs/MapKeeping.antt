@@ -23,7 +23,7 @@ use Rattle.scasp_model.specs.Programs.{head_is}
 use Rattle.scasp_model.specs.Residual.{is_known, is_known_false, residual_of, residual}
 use Rattle.scasp_model.specs.declared.program.GroundClause.{GroundClause}
 use Rattle.scasp_sound.proofs.KeepingLemmas.{residual-keeps}
-use Rattle.scasp_sound.proofs.ListLemmas.{Contains-none, Contains-from_map, Contains-from_flat_map}
+use Rattle.scasp_list.proofs.MemberLemmas.{Contains-none, Contains-from_map, Contains-from_flat_map}
 use Rattle.scasp_sound.proofs.ResidualLemmas.{left, residual-has}
 use Rattle.scasp_sound.specs.MapLevels.{level_of, plus_of, NoneLeft}
 

@@ -10,7 +10,7 @@ use Rattle.scasp_model.specs.Programs.{rules_for}
 use Rattle.scasp_model.specs.Residual.{is_known, is_known_true, is_known_false, residual_of}
 use Rattle.scasp_model.specs.Stable.{is_true_in}
 use Rattle.scasp_model.specs.declared.program.GroundClause.{GroundClause}
-use Rattle.scasp_sound.proofs.ListLemmas.{Contains-none, Contains-single, Contains-from_flat_map, list_any-none_member}
+use Rattle.scasp_list.proofs.MemberLemmas.{Contains-none, Contains-single, Contains-from_flat_map, list_any-none_member}
 use Rattle.scasp_sound.proofs.SameLists.{filter-same, list_any-same}
 
 not-not : (b : Bool) → not (not b) ≡ b

@@ -16,7 +16,7 @@ use Rattle.scasp_model.specs.declared.program.GroundClause.{GroundClause}
 use Rattle.scasp_model.proofs.AtomLemmas.{among-within}
 use Rattle.scasp_model.proofs.LeastLemmas.{least_model-closed, rounds-within}
 use Rattle.scasp_sound.proofs.BodyLemmas.{fires, fires-from, fires-parts, fires-wider}
-use Rattle.scasp_sound.proofs.ListLemmas.{Contains-none, Contains-here, Contains-there, Contains-cases, Contains-single, Contains-flat_map, Contains-from_flat_map, list_all-from, list_all-member}
+use Rattle.scasp_list.proofs.MemberLemmas.{Contains-none, Contains-here, Contains-there, Contains-cases, Contains-single, Contains-flat_map, Contains-from_flat_map, list_all-from, list_all-member}
 
 -- the test of `is_closed`
 abbrev gives : List Atom → DefiniteRule → Bool

@@ -9,7 +9,7 @@ use Rattle.scasp_model.specs.Residual.{is_known_true, is_known_false, is_known, 
 use Rattle.scasp_model.specs.Stable.{is_true_in}
 use Rattle.scasp_model.specs.declared.program.GroundClause.{GroundClause}
 use Rattle.scasp_sound.proofs.BodyLemmas.{fires}
-use Rattle.scasp_sound.proofs.ListLemmas.{Contains-none, Contains-here, Contains-single, Contains-flat_map, Contains-from_flat_map}
+use Rattle.scasp_list.proofs.MemberLemmas.{Contains-none, Contains-here, Contains-single, Contains-flat_map, Contains-from_flat_map}
 
 -- the clause without the literals that are known true
 abbrev pub left : List Atom → List Atom → GroundClause → GroundClause

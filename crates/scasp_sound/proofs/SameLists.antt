@@ -2,7 +2,7 @@
 use Rattle.std.proofs.Common.{◌≡◌, ◌∷◌, ◌++◌, Bool, true, false, cond, List, [], refl, inl, inr}
 use Rattle.std.specs.List.{Contains, list_any, filter, flat_map}
 use Rattle.std.proofs.lemmas.Bool.{cases_Bool}
-use Rattle.scasp_sound.proofs.ListLemmas.{Contains-here, Contains-there}
+use Rattle.scasp_list.proofs.MemberLemmas.{Contains-here, Contains-there}
 
 module _ {X : Type 0} (p q : X → Bool) where
   pub filter-same : (xs : List X) → ((x : X) → Contains xs x → p x ≡ q x) → filter p xs ≡ filter q xs

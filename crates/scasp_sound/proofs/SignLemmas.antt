@@ -15,7 +15,7 @@ use Rattle.scasp_model.specs.declared.program.GroundClause.{GroundClause}
 use Rattle.scasp_model.proofs.AtomLemmas.{among-append, among-within, has_all_from, SameAtoms-from_all}
 use Rattle.scasp_sound.proofs.BodyLemmas.{fires}
 use Rattle.scasp_sound.proofs.HeadLemmas.{rules_for-has, rules_for-from}
-use Rattle.scasp_sound.proofs.ListLemmas.{list_all-from, list_all-member, list_any-none_from}
+use Rattle.scasp_list.proofs.MemberLemmas.{list_all-from, list_all-member, list_any-none_from}
 use Rattle.scasp_sound.proofs.ReductLemmas.{ClosedBy, least-closed, least-within, least_model-head}
 
 -- each atom of x is in y

@@ -12,7 +12,8 @@ use Rattle.scasp_model.specs.Stable.{Stable}
 use Rattle.scasp_model.specs.declared.program.GroundClause.{GroundClause}
 use Rattle.scasp_model.proofs.AtomLemmas.{has_all_from, same_atom-self, SameAtoms-from_all}
 use Rattle.scasp_sound.proofs.HeadLemmas.{rules_for-from}
-use Rattle.scasp_sound.proofs.ListLemmas.{list_all-fails, list_any-from, count-lt}
+use Rattle.scasp_list.proofs.MemberLemmas.{list_any-from}
+use Rattle.scasp_sound.proofs.ListLemmas.{list_all-fails, count-lt}
 use Rattle.scasp_sound.proofs.ReductLemmas.{least_model-head}
 use Rattle.scasp_sound.proofs.SignLemmas.{Within, KeepsSigns, next-within, whole-stable}
 

@@ -15,7 +15,7 @@ use Rattle.scasp_sound.specs.Support.{BodiesWithin, Founded, Supports}
 use Rattle.scasp_sound.proofs.BodyLemmas.{negated-in}
 use Rattle.scasp_sound.proofs.FoundedLemmas.{stable-founded}
 use Rattle.scasp_sound.proofs.ReductLemmas.{stable-closed}
-use Rattle.scasp_sound.proofs.ListLemmas.{list_all-from, list_all-member, list_any-member, list_any-none_member}
+use Rattle.scasp_list.proofs.MemberLemmas.{list_all-from, list_all-member, list_any-member, list_any-none_member}
 
 -- what a test says of each member, it says of each atom among them
 pub all-among : (test : Atom → Bool) (xs : List Atom) (a : Atom) → list_all test xs ≡ true → among xs a ≡ true → test a ≡ true

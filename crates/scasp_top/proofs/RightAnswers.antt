@@ -19,7 +19,7 @@ use Rattle.scasp_graph.proofs.MapLemmas.{empty_map_holds}
 use Rattle.scasp_reader.specs.Propositional.{has_plain_head, is_plain_call, are_plain_calls, has_no_argument, is_propositional_rule, is_propositional_query, are_propositional}
 use Rattle.scasp_reader.specs.Reading.{Reading, program_in}
 use Rattle.scasp_reader.proofs.Propositions.{reading-propositional}
-use Rattle.scasp_sound.proofs.ListLemmas.{list_all-from, list_all-member}
+use Rattle.scasp_list.proofs.MemberLemmas.{list_all-from, list_all-member}
 use Rattle.scasp_written.specs.Machine.{Outcome, answered, ended, spent, overflowed}
 use Rattle.scasp_top.specs.Runs.{Meets, IsRight, AnswersRightly, AnswersAreRight}
 use Rattle.scasp_top.specs.declared.program_run.TheConstants.{BUDGET}
