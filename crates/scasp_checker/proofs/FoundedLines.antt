@@ -25,10 +25,10 @@ use Rattle.scasp_cert.specs.Trees.{Tree, Trees, pos_tree, neg_tree, loop_tree, s
 use Rattle.scasp_sound.specs.Support.{Founded}
 use Rattle.scasp_sound.proofs.FoundedLemmas.{founded-positive}
 use Rattle.scasp_list.proofs.MemberLemmas.{Contains-none, Contains-here, Contains-there, Contains-cases, Contains-map, Contains-from_map, Contains-flat_map, Contains-filter, list_any-member}
-use Rattle.scasp_sound.proofs.DomainLemmas.{within}
+use Rattle.scasp_sound.proofs.DomainLemmas.{within, choices-has}
 use Rattle.scasp_checker.specs.Accepted.{IsAccepted, AreAccepted, IsByRule}
 use Rattle.scasp_checker.proofs.Calls.{IsCalls, accepted_calls, are_calls, flat-calls, tests-calls, literals-calls, lit_under, positive-under, atoms-positive}
-use Rattle.scasp_checker.proofs.GroundTerms.{choices-has, map-ground, atom_under-ground}
+use Rattle.scasp_checker.proofs.GroundTerms.{map-ground, atom_under-ground}
 
 slice-contains : {X : Type 0} → (xs : List X) (n : ℕ) (x : X) → slice_get xs n ≡ Some x → Contains xs x
 slice-contains [] n x e = cc

@@ -1,13 +1,10 @@
--- Terms without variables, and lists of them as values of variables.
-use Rattle.std.proofs.Common.{◌≡◌, true, List, [], ◌∷◌, length, map, refl, ap, sym, subst}
-use Rattle.std.specs.List.{Contains, list_all}
+-- Terms without variables.
+use Rattle.std.proofs.Common.{◌≡◌, true, map, refl, ap}
 use Rattle.std.proofs.lemmas.Bool.{and_parts}
 use Rattle.scasp_syntax.specs.Instances.{atom_under}
-use Rattle.scasp_syntax.specs.Same.{same_tm}
 use Rattle.scasp_syntax.specs.Tm.{Tm, Tms, var, num, app, nil, cons, items}
 use Rattle.scasp_syntax.specs.Values.{Sub, under, all_under, is_ground, are_ground}
 use Rattle.scasp_syntax.specs.declared.atom.Atom.{Atom}
-use Rattle.scasp_syntax.proofs.SameLemmas.{tm_decided}
 use Rattle.scasp_syntax.proofs.ValueLemmas.{all_under-all_under}
 use Rattle.scasp_model.specs.Grounding.{choices}
 use Rattle.scasp_list.proofs.MemberLemmas.{Contains-map, Contains-flat_map, list_any-member, Contains-here}
@@ -41,16 +38,3 @@ atom_under-ground s a g =
 pub atom_under-atom_under : (r s : Sub) (a : Atom) → atom_under r (atom_under s a) ≡ atom_under (λ x. under r (s x)) a
 atom_under-atom_under r s a =
     ap (λ (ts : Tms). let b : Atom = record { minus = a.minus; name = a.name; args = ts } in b) (all_under-all_under r s a.args)
-
-within-contains : (d : List Tm) (t : Tm) → within d t ≡ true → Contains d t
-within-contains d t h =
-    let q = list_any-member (same_tm t) d h in
-    subst (λ (u : Tm). Contains d u) (sym ((tm_decided t q.0).0 q.2)) q.1
-
--- members of the domain are among the ways of giving that many variables values
-pub choices-has : (d ts : List Tm) → list_all (within d) ts ≡ true → Contains (choices d (length ts)) ts
-choices-has d [] h = Contains-here [] []
-choices-has d (t ∷ ts) h =
-    let p = and_parts (within d t) (list_all (within d) ts) h in
-    Contains-flat_map (λ u. map (λ us. u ∷ us) (choices d (length ts))) d t (t ∷ ts) (within-contains d t p.0)
-    (Contains-map (λ us. t ∷ us) (choices d (length ts)) ts (choices-has d ts p.1))

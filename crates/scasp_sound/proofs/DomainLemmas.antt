@@ -1,17 +1,30 @@
 -- Domains that have given terms.
-use Rattle.std.proofs.Common.{◌≡◌, ◌⊎◌, Bool, true, false, ◌&&◌, not, cond, List, [], ◌∷◌, ap, refl, subst, inl, inr}
+use Rattle.std.proofs.Common.{◌≡◌, ◌⊎◌, Bool, true, false, ◌&&◌, not, cond, List, [], ◌∷◌, length, map, ap, refl, sym, subst, inl, inr}
 use Rattle.std.specs.List.{Contains, list_all, list_any}
 use Rattle.std.proofs.lemmas.Bool.{and_parts, and_from, or_left, or_right}
 use Rattle.scasp_syntax.specs.Same.{same_tm}
 use Rattle.scasp_syntax.specs.Tm.{Tm}
 use Rattle.scasp_syntax.specs.Values.{is_ground}
 use Rattle.scasp_syntax.proofs.SameLemmas.{tm_decided}
-use Rattle.scasp_model.specs.Grounding.{is_domain}
-use Rattle.scasp_list.proofs.MemberLemmas.{Contains-here, Contains-there, Contains-cases}
+use Rattle.scasp_model.specs.Grounding.{is_domain, choices}
+use Rattle.scasp_list.proofs.MemberLemmas.{Contains-here, Contains-there, Contains-cases, Contains-map, Contains-flat_map, list_any-member}
 
 -- the term is one of the domain
 abbrev pub within : List Tm → Tm → Bool
 within d t = list_any (same_tm t) d
+
+pub within-contains : (d : List Tm) (t : Tm) → within d t ≡ true → Contains d t
+within-contains d t h =
+    let q = list_any-member (same_tm t) d h in
+    subst (λ (u : Tm). Contains d u) (sym ((tm_decided t q.0).0 q.2)) q.1
+
+-- members of the domain are among the ways of giving that many variables values
+pub choices-has : (d ts : List Tm) → list_all (within d) ts ≡ true → Contains (choices d (length ts)) ts
+choices-has d [] h = Contains-here [] []
+choices-has d (t ∷ ts) h =
+    let p = and_parts (within d t) (list_all (within d) ts) h in
+    Contains-flat_map (λ u. map (λ us. u ∷ us) (choices d (length ts))) d t (t ∷ ts) (within-contains d t p.0)
+    (Contains-map (λ us. t ∷ us) (choices d (length ts)) ts (choices-has d ts p.1))
 
 -- the domain with those of the terms that it lacks
 abbrev pub grown : List Tm → List Tm → List Tm

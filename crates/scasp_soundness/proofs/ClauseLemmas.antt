@@ -1,15 +1,14 @@
 -- The instances of a clause depend on the values of its own variables alone.
-use Rattle.std.proofs.Common.{◌&&◌, ◌≡◌, ◌∙◌, ℕ, zero, suc, ◌<◌, true, nat_eq, nat_lt, List, [], ◌∷◌, ◌++◌, length, map, Option, Some, None, refl, ap, sym, subst, arith}
+use Rattle.std.proofs.Common.{◌&&◌, ◌≡◌, ◌∙◌, ℕ, zero, suc, ◌<◌, true, nat_eq, nat_lt, List, [], ◌∷◌, ◌++◌, length, map, Option, Some, None, refl, ap, subst, arith}
 use Rattle.std.specs.List.{Contains, list_all, list_any, flat_map, filter}
 use Rattle.std.proofs.lemmas.Bool.{and_parts, and_from}
 use Rattle.std.proofs.lemmas.Bool.Decides.{Decides-eqb}
 use Rattle.scasp_num.specs.Linear.{is_normal}
-use Rattle.scasp_list.proofs.MemberLemmas.{Contains-here, Contains-map, Contains-flat_map, Contains-filter, list_any-member, list_all-member}
+use Rattle.scasp_list.proofs.MemberLemmas.{Contains-map, Contains-flat_map, Contains-filter, list_any-member, list_all-member}
 use Rattle.scasp_num.specs.declared.linear.Coeff.{Coeff}
 use Rattle.scasp_syntax.specs.Constraints.{is_number}
 use Rattle.scasp_syntax.specs.Instances.{atom_under, head_under}
 use Rattle.scasp_syntax.specs.RowTruth.{row_holds}
-use Rattle.scasp_syntax.specs.Same.{same_tm}
 use Rattle.scasp_syntax.specs.Tm.{Tm, Tms, var, num, app, nil, cons}
 use Rattle.scasp_syntax.specs.Values.{Sub, under, all_under, giving}
 use Rattle.scasp_syntax.specs.View.{tm_of}
@@ -21,23 +20,9 @@ use Rattle.scasp_syntax.specs.declared.clause.Item.{Item}
 use Rattle.scasp_syntax.specs.declared.clause.Item.TheVariants as item
 use Rattle.scasp_syntax.specs.declared.con.Con.TheVariants as con
 use Rattle.scasp_syntax.specs.declared.program.Program.{Program}
-use Rattle.scasp_syntax.proofs.SameLemmas.{tm_decided}
 use Rattle.scasp_lines.proofs.KnownLemmas.{agree-con}
-use Rattle.scasp_sound.proofs.DomainLemmas.{within}
+use Rattle.scasp_sound.proofs.DomainLemmas.{within, choices-has}
 use Rattle.scasp_model.specs.Grounding.{choices, ground_program, instance_of, instances, is_test_true, literal_under}
-
-pub within-contains : (d : List Tm) (t : Tm) → within d t ≡ true → Contains d t
-within-contains d t h =
-    let q = list_any-member (same_tm t) d h in
-    subst (λ (u : Tm). Contains d u) (sym ((tm_decided t q.0).0 q.2)) q.1
-
--- members of the domain are among the ways of giving that many variables values
-choices-has : (d ts : List Tm) → list_all (within d) ts ≡ true → Contains (choices d (length ts)) ts
-choices-has d [] h = Contains-here [] []
-choices-has d (t ∷ ts) h =
-    let p = and_parts (within d t) (list_all (within d) ts) h in
-    Contains-flat_map (λ u. map (λ us. u ∷ us) (choices d (length ts))) d t (t ∷ ts) (within-contains d t p.0)
-    (Contains-map (λ us. t ∷ us) (choices d (length ts)) ts (choices-has d ts p.1))
 
 pub giving-map : (v : Sub) (ts : List Tm) (x : ℕ) → x < length ts → giving (map (under v) ts) x ≡ under v (giving ts x)
 giving-map v [] x l = absurd (omega (arith, l))

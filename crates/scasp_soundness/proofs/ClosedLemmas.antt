@@ -18,7 +18,7 @@ use Rattle.scasp_cert.specs.Certificate.{Certificate}
 use Rattle.scasp_cert.specs.Flat.{is_flat, is_flat_term, is_variable}
 use Rattle.scasp_cert.specs.Instances.{Said}
 use Rattle.scasp_cert.specs.Trees.{pos_tree, neg_tree, loop_tree, seen_tree, test_tree}
-use Rattle.scasp_sound.proofs.DomainLemmas.{within, grown, grown-domain, grown-has, grown-from}
+use Rattle.scasp_sound.proofs.DomainLemmas.{within, within-contains, grown, grown-domain, grown-has, grown-from}
 use Rattle.scasp_lines.specs.Known.{is_known, are_known}
 use Rattle.scasp_lines.specs.Lines.{free_of, lines, setting}
 use Rattle.scasp_lines.specs.Opened.{knows, well, IsInstance}
@@ -31,7 +31,7 @@ use Rattle.scasp_acceptance.specs.Wholes.{whole_of, scope}
 use Rattle.scasp_acceptance.proofs.ListLemmas.{Each-member}
 use Rattle.scasp_acceptance.proofs.ScopeLemmas.{scoped}
 use Rattle.scasp_soundness.specs.Good.{HasClosedDomains}
-use Rattle.scasp_soundness.proofs.ClauseLemmas.{below-same, within-contains}
+use Rattle.scasp_soundness.proofs.ClauseLemmas.{below-same}
 use Rattle.scasp_soundness.proofs.ListedLemmas.{terms_on, listed_terms, line-lists}
 use Rattle.scasp_soundness.proofs.ReachLemmas.{reached}
 use Rattle.scasp_soundness.proofs.SayingLemmas.{domain-ground}

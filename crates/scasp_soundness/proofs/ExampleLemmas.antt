@@ -1,5 +1,6 @@
 -- What small certificates promise, by the definition alone.
-use Rattle.std.proofs.Common.{◌≡◌, Bool, true, false, ◌||◌, List, [], ◌∷◌, Some, refl, ap, sym, subst, inl, inr, arith}
+use Rattle.std.proofs.Common.{◌≡◌, ◌∙◌, Bool, true, false, ◌||◌, not, cond, List, [], ◌∷◌, ◌++◌, Some, refl, ap, sym, subst, inl, inr, arith}
+use Rattle.std.specs.List.{Contains}
 use Rattle.std.proofs.lemmas.Bool.{true≢false, false≢true, or_cases}
 use Rattle.scasp_syntax.specs.Same.{same_atom}
 use Rattle.scasp_syntax.specs.Tm.{Tm, app, nil}
@@ -9,11 +10,13 @@ use Rattle.scasp_syntax.proofs.SameLemmas.{atom_decided}
 use Rattle.scasp_model.specs.Atoms.{among}
 use Rattle.scasp_model.specs.Examples.{rule as ground_rule}
 use Rattle.scasp_model.specs.Grounding.{ground_program}
+use Rattle.scasp_model.specs.Least.{least_model}
 use Rattle.scasp_model.specs.Stable.{Stable}
+use Rattle.scasp_model.specs.declared.program.GroundClause.{GroundClause}
 use Rattle.scasp_sound.specs.Support.{Founded, by_rule, Joins}
 use Rattle.scasp_sound.proofs.JoinLemmas.{joined}
 use Rattle.scasp_sound.proofs.SupportLemmas.{Supports-founded}
-use Rattle.scasp_soundness.specs.Examples.{p, q, r, circle, alone, looped, fact, even, aside, loop}
+use Rattle.scasp_soundness.specs.Examples.{p, q, r, circle, alone, looped, fact, doubted, denied, even, aside, loop, odd, unchecked, odd_loop}
 use Rattle.scasp_soundness.specs.Good.{Good, GoodRight}
 
 -- each variable stands for one constant
@@ -41,15 +44,22 @@ fact-right = (
   λ v meets d is closed. ([], nothing),
 )
 
--- r holds by a rule without a body
-r-founded : (d : List Tm) (a : Atom) → among (r ∷ []) a ≡ true → Founded (ground_program d even) [] a
-r-founded d a h =
-    elim (or_cases (same_atom a r) false h) [
+-- that p is false leaves nothing of `p.`, in whose stable model it is
+pub denied-bad : Good doubted denied → ⊥
+denied-bad good = false≢true (((good constants refl [] refl refl).joins [] nothing).least_of_reduct p)
+
+-- an atom holds by a rule without a body
+fact-founded : (g : List GroundClause) (x : Atom) → Contains g (ground_rule (Some x) []) → (a : Atom) → among (x ∷ []) a ≡ true → Founded g [] a
+fact-founded g x i a h =
+    elim (or_cases (same_atom a x) false h) [
       | inl e ↦
-          subst (λ (x : Atom). Founded (ground_program d even) [] x) (sym ((atom_decided a r).0 e))
-          (by_rule r (ground_rule (Some r) []) (record { listed = (2, omega arith, refl); head = refl; negated = refl }) (λ b i. absurd (false≢true i)))
+          subst (λ (y : Atom). Founded g [] y) (sym ((atom_decided a x).0 e))
+          (by_rule x (ground_rule (Some x) []) (record { listed = i; head = refl; negated = refl }) (λ b j. absurd (false≢true j)))
       | inr k ↦ absurd (false≢true k)
     ]
+
+fact-supports : (g : List GroundClause) (x : Atom) → Contains g (ground_rule (Some x) []) → Joins g (x ∷ []) []
+fact-supports g x i = joined g (x ∷ []) [] (Supports-founded g (x ∷ []) (fact-founded g x i))
 
 pub loop-stable : Stable loop (q ∷ [])
 loop-stable = record { least_of_reduct = λ a. refl; no_violation = refl }
@@ -62,7 +72,28 @@ even-right = (
         query = _;
         asked = refl;
         holds = refl;
-        joins = joined (ground_program d even) (r ∷ []) [] (Supports-founded (ground_program d even) (r ∷ []) (r-founded d));
+        joins = fact-supports (ground_program d even) r (2, omega arith, refl);
       },
   λ v meets d is closed. (q ∷ [], loop-stable),
 )
+
+-- ---- an odd loop
+
+pub odd-good : Good odd unchecked
+odd-good = λ v meets d is closed.
+    record { apart = λ a t. refl; query = _; asked = refl; holds = refl; joins = fact-supports (ground_program d odd) q (1, omega arith, refl) }
+
+-- p is in the least model of the reduct exactly where it is not in the model
+turned : (b : Bool) → among (least_model (cond (b || false) [] (record { head = p; body = [] } ∷ []) ++ [])) p ≡ not b
+turned true = refl
+turned false = refl
+
+never-its_negation : (b : Bool) → b ≡ not b → ⊥
+never-its_negation true e = true≢false e
+never-its_negation false e = false≢true e
+
+odd-none : (m : List Atom) → Stable odd_loop m → ⊥
+odd-none m s = never-its_negation (among m p) (s.least_of_reduct p ∙ turned (among m p))
+
+pub odd-not_right : GoodRight odd unchecked → ⊥
+odd-not_right right = let left = right.1 constants refl [] refl refl in odd-none left.0 left.1

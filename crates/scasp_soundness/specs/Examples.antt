@@ -14,7 +14,7 @@ use Rattle.scasp_model.specs.Levelled.{levelled_model}
 use Rattle.scasp_model.specs.declared.program.GroundClause.{GroundClause}
 use Rattle.scasp_cert.specs.Certificate.{Certificate}
 use Rattle.scasp_cert.specs.Flat.{is_flat}
-use Rattle.scasp_cert.specs.Trees.{pos_tree, loop_tree, listed}
+use Rattle.scasp_cert.specs.Trees.{pos_tree, neg_tree, loop_tree, no_branch, listed}
 use Rattle.scasp_sound.specs.MapLevels.{level_of, plus_of, covered}
 use Rattle.scasp_lines.specs.ClosedDomainOnly.{certificate as never_closed}
 use Rattle.scasp_lines.specs.Said.{true_atoms, false_atoms}
@@ -111,6 +111,40 @@ map_kept = refl
 
 map_broken : map_faults even (covered aside) [] ≡ 1 ∷ 2 ∷ []
 map_broken = refl
+
+-- ---- p. ?- not p. The one line `neg p`
+
+abbrev pub doubted : Program
+doubted = program (rule 0 p [] ∷ []) (ask (Call (is_not p)) ∷ []) refl
+
+abbrev pub denied : Certificate
+denied = answer (neg_tree p no_branch ∷ []) []
+
+denied_false : (v : Sub) (d : List Tm) → false_atoms doubted denied v d ≡ p ∷ []
+denied_false v d = refl
+
+denied_leaves : (v : Sub) (d : List Tm) → residual_over doubted denied v d ≡ []
+denied_leaves v d = refl
+
+-- ---- p :- not p. q. ?- q. The certificate speaks of q alone
+
+abbrev pub odd : Program
+odd = program (rule 0 p (Call (is_not p) ∷ []) ∷ rule 0 q [] ∷ []) (ask (Call (is_true q)) ∷ []) refl
+
+abbrev pub unchecked : Certificate
+unchecked = answer (by_fact q 2 ∷ []) []
+
+unchecked_accepted : faults odd unchecked ≡ []
+unchecked_accepted = refl
+
+abbrev pub odd_loop : List GroundClause
+odd_loop = ground_rule (Some p) (lit false p ∷ []) ∷ []
+
+odd_left : (v : Sub) (d : List Tm) → residual_over odd unchecked v d ≡ odd_loop
+odd_left v d = refl
+
+odd_broken : map_faults odd (covered unchecked) unchecked.map ≡ 1 ∷ []
+odd_broken = refl
 
 -- ---- flat or not
 

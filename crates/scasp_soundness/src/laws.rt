@@ -20,7 +20,7 @@ ghost use Rattle.scasp_lines.specs.Said.{false_atoms, is_closed_over, true_atoms
 ghost use Rattle.scasp_lines.specs.Scopes.{excludes_no_parts};
 ghost use Rattle.scasp_lines.specs.Walk.{Line, of_case, of_node};
 ghost use Rattle.scasp_soundness.specs.Carriers.{Carrier};
-ghost use Rattle.scasp_soundness.specs.Examples.{alone, aside, circle, even, fact, looped, q};
+ghost use Rattle.scasp_soundness.specs.Examples.{alone, aside, circle, denied, doubted, even, fact, looped, odd, q, unchecked};
 ghost use Rattle.scasp_soundness.specs.Good.{Good, GoodRight, HasClosedDomains, holds_by, query_values, residual_over};
 ghost use Rattle.scasp_soundness.specs.Kept.{KeepsPromise};
 ghost use Rattle.scasp_soundness.specs.OwnRows.{has_normal_rows};
@@ -101,12 +101,15 @@ pub fn accepted_keeps_its_promise()
 {}
 
 /// By the definition alone: of `p :- p.` neither the one line that p holds by rule 1, nor that line with a loop below it,
-/// is good. The first is right for `p.`; and for an even loop beside a fact r, so is the line of r: it leaves the loop, of
-/// which q is a stable model.
+/// is good; nor, of the fact p, that it does not hold. The first is right for `p.`; and for an even loop beside a fact r,
+/// so is the line of r: it leaves the loop, of which q is a stable model. For an odd loop beside a fact, the fact's line is
+/// good and not right: what it leaves has no stable model.
 pub fn small_certificates()
     ensures alone { Good circle alone → ⊥ }
     ensures looped { Good circle looped → ⊥ }
+    ensures denied { Good doubted denied → ⊥ }
     ensures fact { GoodRight fact alone }
     ensures even { GoodRight even aside }
     ensures model { (v : Sub) (d : List Tm) → Stable (residual_over even aside v d) (q ∷ []) }
+    ensures odd { Good odd unchecked × (GoodRight odd unchecked → ⊥) }
 {}

@@ -1,4 +1,4 @@
-use Rattle.scasp_soundness.proofs.ExampleLemmas.{alone-bad, looped-bad, fact-right, even-right, loop-stable}
+use Rattle.scasp_soundness.proofs.ExampleLemmas.{alone-bad, looped-bad, denied-bad, fact-right, even-right, loop-stable, odd-good, odd-not_right}
 use Rattle.scasp_soundness.proofs.laws.small_certificates.Goals as goal
 
 pub returns-clause-alone : goal.returns-clause-alone
@@ -15,3 +15,9 @@ returns-clause-even c = even-right
 
 pub returns-clause-model : goal.returns-clause-model
 returns-clause-model c = λ v d. loop-stable
+
+pub returns-clause-denied : goal.returns-clause-denied
+returns-clause-denied c = denied-bad
+
+pub returns-clause-odd : goal.returns-clause-odd
+returns-clause-odd c = (odd-good, odd-not_right)
