@@ -1,0 +1,5 @@
+//! Tests of the crates that read a program's text.
+#![tactic(auto)]
+
+#[cfg(test)]
+mod texts;

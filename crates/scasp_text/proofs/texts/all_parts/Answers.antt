@@ -1,0 +1,17 @@
+use Rattle.std.proofs.Common.{◌≡◌, ◌-◌, Ok, Err, sym, ap, ◌∙◌}
+use Rattle.std.proofs.lemmas.Result.{err_from_is_err_and}
+use Rattle.scasp_expression.proofs.ChainLemmas.{Does_stops}
+use Rattle.scasp_text.specs.Texts.{next_part, part_count, with_part, parts_within, parts}
+use Rattle.scasp_text.proofs.PartLemmas.{parts_last, parts_more, parts_stops}
+use Rattle.scasp_text.proofs.texts.all_parts.Goals as goal
+
+pub loop-left-preserved : goal.loop-left-preserved
+loop-left-preserved c =
+    let p = c.loop-left.parts in
+    let s = c.loop-left.reader in
+    let t = c.next_part.new.reader in
+    let left = c.loop-left.left in
+    let is_next = ap (λ n. next_part n s) (sym c.count.ensures) ∙ c.in_ok-part.ensures in
+    ap (λ q. parts_within (left - 1) q t) c.in_ok-push.ensures
+    ∙ sym (parts_more left c.loop-left-test.true p s c.in_ok-part.part t is_next (sym c.is_end.ensures ∙ c.if-is_end.false))
+    ∙ c.loop-left.invariant
