@@ -81,4 +81,4 @@ nothing_behind l (t ∷ ts) = None
 
 -- the line that these bytes are, blanks aside
 unfoldable pub line_in : (List ℕ → ℕ) → List ℕ → Option Line
-line_in place bytes = tokens_in bytes >>= (λ ts. line_at place ts >>= (λ r. nothing_behind r.0 r.1))
+line_in place bytes = line_at place (tokens_in bytes) >>= (λ r. nothing_behind r.0 r.1)
