@@ -1,5 +1,5 @@
 -- The greatest numbers of answer files.
-use Rattle.std.specs.Prelude.{ℕ, ◌^◌, nat_lt, Bool, true, ◌&&◌}
+use Rattle.std.specs.Prelude.{ℕ, ◌-◌, ◌^◌, nat_lt, Bool, true, ◌&&◌, if◌then◌else◌, ℤ, negsuc}
 use Rattle.std.specs.List.{list_all}
 use Rattle.scasp_num.specs.Arithmetic.{in_range}
 use Rattle.scasp_num.specs.Linear.{Linear}
@@ -19,6 +19,14 @@ is_place n = nat_lt n (2 ^ 63)
 -- any other number that is no integer of arithmetic
 abbrev pub is_count : ℕ → Bool
 is_count n = nat_lt n (2 ^ 64)
+
+-- What is too large is read as one value that is too large, so that what is read has a bound: a variable, a level and a line so, and an
+-- integer of arithmetic as the one below -M.
+abbrev pub bounded_place : ℕ → ℕ
+bounded_place n = if is_place n then n else 2 ^ 64 - 1
+
+abbrev pub bounded_integer : ℤ → ℤ
+bounded_integer z = if in_range z then z else negsuc (2 ^ 127 - 1)
 
 abbrev mutual
   pub term_fits : Tm → Bool

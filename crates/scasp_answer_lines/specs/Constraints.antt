@@ -1,15 +1,17 @@
 -- Reading constraints.
-use Rattle.std.specs.Prelude.{ℕ, nat_lt, List, [], ◌∷◌, codes, None}
+use Rattle.std.specs.Prelude.{ℕ, nat_lt, List, [], ◌∷◌, codes, None, if◌then◌else◌, ◌&&◌}
 use Rattle.scasp_num.specs.Arithmetic.{◌>>=◌}
 use Rattle.scasp_syntax.specs.Tm.{Tm, var, num, app, nil}
 use Rattle.scasp_syntax.specs.declared.term.Term.{Term}
 use Rattle.scasp_syntax.specs.declared.term.Term.TheVariants.{Var, Num, App}
 use Rattle.scasp_syntax.specs.declared.con.Con.{Con}
 use Rattle.scasp_syntax.specs.declared.con.Con.TheVariants as con
+use Rattle.scasp_num.specs.Linear.{Linear}
+use Rattle.scasp_answer_lines.specs.Bounds.{is_place, is_count, row_fits}
 use Rattle.scasp_answer_lines.specs.Tokens.{Token, variable}
 use Rattle.scasp_answer_lines.specs.Readers.{Parsed, keyed, both, between, any_of, only, number_at}
 use Rattle.scasp_answer_lines.specs.Names.{name_at}
-use Rattle.scasp_answer_lines.specs.Terms.{term_at}
+use Rattle.scasp_answer_lines.specs.Terms.{unfit, term_at}
 use Rattle.scasp_answer_lines.specs.Rows.{row_at}
 
 abbrev pub term_of : Tm → Term
@@ -17,13 +19,23 @@ term_of (var x) = Var x
 term_of (num q) = Num q
 term_of (app f ts) = App f ts
 
+-- stands for each row and each shape with a number that is too large
+abbrev pub unfit_con : Con
+unfit_con = con.Eq (term_of unfit) (term_of unfit)
+
+abbrev pub row_con : Linear → Con
+row_con r = if row_fits r then con.Row r else unfit_con
+
+abbrev pub shape_con : ℕ → ℕ × ℕ → Con
+shape_con x s = if is_place x && is_count s.1 then con.NotShape x s.0 s.1 else unfit_con
+
 -- the shape `f/2` with a number of arguments
 abbrev pub shape_at : (List ℕ → ℕ) → List Token → Parsed (ℕ × ℕ)
 shape_at place = both (name_at place) (codes "/") (only (λ n. nat_lt 0 n) number_at)
 
 -- `V0 \= f/2`
 abbrev pub not_shape_at : (List ℕ → ℕ) → List Token → Parsed Con
-not_shape_at place (variable x ∷ ts) = keyed (codes " \\= ") (shape_at place) (λ s. con.NotShape x s.0 s.1) ts
+not_shape_at place (variable x ∷ ts) = keyed (codes " \\= ") (shape_at place) (shape_con x) ts
 not_shape_at place _ = None
 
 -- the disequation of two terms; of a variable and a constant it is a shape
@@ -42,7 +54,7 @@ related_to place t =
 abbrev pub con_at : (List ℕ → ℕ) → List Token → Parsed Con
 con_at place =
     any_of (
-    keyed [] row_at con.Row
+    keyed [] row_at row_con
     ∷ not_shape_at place
     ∷ (λ ts. term_at place ts >>= (λ r. related_to place r.0 r.1))
     ∷ keyed [] (between (codes "num(") (term_at place) (codes ")")) (λ t. con.Num (term_of t))

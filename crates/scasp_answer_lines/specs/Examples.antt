@@ -150,3 +150,24 @@ large_fraction = refl
 large_row : fits (codes "given V1+V0+340282366920938463463374607431768211456 #< 0") ≡ Some false
 unfolding line_in line_at tokens_in past_text terms_at line_fits gcd gcd_within
 large_row = refl
+
+large_shape : fits (codes "split V0 \\= p/18446744073709551616") ≡ Some false
+unfolding line_in line_at tokens_in past_text terms_at line_fits
+large_shape = refl
+
+large_step : fits (codes "void rows [1*18446744073709551616+1*0]") ≡ Some false × (fits (codes "void rows [1*18446744073709551615+1*0]") ≡ Some true)
+unfolding line_in line_at tokens_in past_text line_fits
+large_step = (refl, refl)
+
+large_level : fits (codes "map p/18446744073709551616 0 +") ≡ Some false × (fits (codes "map p/18446744073709551615 9223372036854775807 +") ≡ Some true)
+unfolding line_in line_at tokens_in past_text line_fits
+large_level = (refl, refl)
+
+large_variable : fits (codes "sample [V9223372036854775808]") ≡ Some false × (fits (codes "sample [V9223372036854775807]") ≡ Some true)
+unfolding line_in line_at tokens_in past_text terms_at line_fits
+large_variable = (refl, refl)
+
+-- M, and one more, with a sign too
+large_integers : fits (codes "sample [-170141183460469231731687303715884105727]") ≡ Some true × (fits (codes "sample [-170141183460469231731687303715884105728]") ≡ Some false)
+unfolding line_in line_at tokens_in past_text terms_at line_fits gcd gcd_within
+large_integers = (refl, refl)

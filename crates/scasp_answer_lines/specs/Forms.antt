@@ -1,10 +1,11 @@
 -- The forms of lines: how each is read.
-use Rattle.std.specs.Prelude.{ℕ, ◌==◌, Bool, true, false, List, [], ◌∷◌, codes, Option, None, Some}
+use Rattle.std.specs.Prelude.{ℕ, ◌^◌, ◌==◌, if◌then◌else◌, Bool, true, false, List, [], ◌∷◌, codes, Option, None, Some}
 use Rattle.scasp_num.specs.Arithmetic.{◌>>=◌}
 use Rattle.scasp_syntax.specs.declared.atom.Pred.{Pred}
 use Rattle.scasp_syntax.specs.declared.hint.Hint.{Hint}
 use Rattle.scasp_syntax.specs.declared.predicate_map.PredMap.{PredMap}
 use Rattle.scasp_cert.specs.declared.certificate.Clash.{Clash}
+use Rattle.scasp_answer_lines.specs.Bounds.{is_count, bounded_place}
 use Rattle.scasp_answer_lines.specs.Tokens.{Token, minus, tokens_in}
 use Rattle.scasp_answer_lines.specs.Readers.{Parsed, keyed, both, alone, any_of, only, number_at, Form, form, by_form, nothing_more}
 use Rattle.scasp_answer_lines.specs.Names.{name_at}
@@ -22,10 +23,12 @@ abbrev pub pred_of : Bool → ℕ × ℕ → Pred
 pred_of negative p = record { minus = negative; name = p.0; arity = p.1 }
 
 abbrev pub clash_of : ℕ × (ℕ × Hint) → Clash
-clash_of r = record { first = r.0; second = r.1.0; hint = r.1.1 }
+clash_of r = record { first = bounded_place r.0; second = bounded_place r.1.0; hint = r.1.1 }
 
 abbrev pub map_of : Pred × (ℕ × Bool) → PredMap
-map_of r = record { pred = r.0; level = r.1.0; plus = r.1.1 }
+map_of r =
+    if is_count r.0.arity then record { pred = r.0; level = bounded_place r.1.0; plus = r.1.1 }
+    else record { pred = record r.0 { arity = 0 }; level = bounded_place (2 ^ 63); plus = r.1.1 }
 
 abbrev pub unsigned_pred_at : (List ℕ → ℕ) → Bool → List Token → Parsed Pred
 unsigned_pred_at place negative =
@@ -81,4 +84,4 @@ nothing_behind l (t ∷ ts) = None
 
 -- the line that these bytes are, blanks aside
 unfoldable pub line_in : (List ℕ → ℕ) → List ℕ → Option Line
-line_in place bytes = tokens_in bytes >>= (λ ts. line_at place ts >>= (λ r. nothing_behind r.0 r.1))
+line_in place bytes = line_at place (tokens_in bytes) >>= (λ r. nothing_behind r.0 r.1)

@@ -1,4 +1,5 @@
 pub mod Tokens
+pub mod View
 pub mod Readers
 pub mod Names
 pub mod Terms

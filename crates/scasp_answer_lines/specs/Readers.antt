@@ -1,5 +1,5 @@
 -- Reading from the front of tokens.
-use Rattle.std.specs.Prelude.{ℕ, zero, suc, ◌==◌, Bool, true, false, if◌then◌else◌, List, [], ◌∷◌, bytes_eq, Option, None, Some, option_map, unwrap_or, ℤ, pos, neg_ℤ}
+use Rattle.std.specs.Prelude.{ℕ, zero, suc, ◌==◌, Bool, true, false, if◌then◌else◌, List, [], ◌∷◌, bytes_eq, Option, None, Some, option_map, ℤ, pos, neg_ℤ}
 use Rattle.scasp_num.specs.Arithmetic.{◌>>=◌}
 use Rattle.scasp_answer_lines.specs.Tokens.{Token, word, digits, minus, plus, star, comma, bar, paren, close, bracket, unbracket, sign, tokens_in}
 
@@ -31,7 +31,7 @@ past (t ∷ front) (u ∷ ts) = if same_token t u then past front ts else None
 
 -- the tokens behind those of the text
 unfoldable pub past_text : List ℕ → List Token → Option (List Token)
-past_text text ts = past (unwrap_or (tokens_in text) []) ts
+past_text text ts = past (tokens_in text) ts
 
 -- the text, and then what is read, put together
 abbrev pub keyed : {A B : Type 0} → List ℕ → (List Token → Parsed A) → (A → B) → List Token → Parsed B

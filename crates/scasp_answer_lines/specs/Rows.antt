@@ -5,7 +5,7 @@ use Rattle.scasp_num.specs.Linear.{Linear, is_normal}
 use Rattle.scasp_num.specs.declared.linear.Coeff.{Coeff}
 use Rattle.scasp_num.specs.declared.linear.Op.{Op}
 use Rattle.scasp_num.specs.declared.linear.Op.TheVariants as op
-use Rattle.scasp_answer_lines.specs.Bounds.{row_fits}
+use Rattle.scasp_answer_lines.specs.Bounds.{bounded_place, bounded_integer, row_fits}
 use Rattle.scasp_answer_lines.specs.Tokens.{Token, variable, digits, minus, plus, star}
 use Rattle.scasp_answer_lines.specs.Readers.{Parsed, alone, any_of, only}
 
@@ -15,7 +15,7 @@ Sum = List Coeff × ℤ
 
 abbrev pub with_summand : ℕ → ℤ → Parsed Sum → Parsed Sum
 with_summand x c None = None
-with_summand x c (Some r) = Some ((record { x = x; c = c } ∷ r.0.0, r.0.1), r.1)
+with_summand x c (Some r) = Some ((record { x = bounded_place x; c = bounded_integer c } ∷ r.0.0, r.0.1), r.1)
 
 abbrev mutual
   -- what stands behind a summand: summands and then a constant, each with its sign
@@ -27,7 +27,7 @@ abbrev mutual
   pub more_signed : Bool → List Token → Parsed Sum
   more_signed negative (variable x ∷ ts) = with_summand x (signed negative 1) (more_at ts)
   more_signed negative (digits n ∷ star ∷ variable x ∷ ts) = if nat_lt 1 n then with_summand x (signed negative n) (more_at ts) else None
-  more_signed negative (digits n ∷ ts) = if n == 0 then None else Some (([], signed negative n), ts)
+  more_signed negative (digits n ∷ ts) = if n == 0 then None else Some (([], bounded_integer (signed negative n)), ts)
   more_signed negative _ = None
 
 abbrev pub zero_alone : List Token → Parsed Sum

@@ -7,6 +7,7 @@ use Rattle.scasp_syntax.specs.declared.atom.Lit.{Lit}
 use Rattle.scasp_cert.specs.Text.Terms.{is_pair}
 use Rattle.scasp_answer_lines.specs.Tokens.{Token, word, quoted, variable, digits, fraction, minus, comma, bar, paren, close, bracket, unbracket}
 use Rattle.scasp_answer_lines.specs.Readers.{Parsed, keyed, between, any_of}
+use Rattle.scasp_answer_lines.specs.Bounds.{bounded_place}
 use Rattle.scasp_answer_lines.specs.Names.{name_of, name_at}
 
 -- An open bracket: what stands in front of it, and the terms before that on the level around.
@@ -35,21 +36,27 @@ abbrev pub constant : Option ℕ → Option Tm
 constant None = None
 constant (Some f) = called f []
 
-abbrev pub whole : ℤ → Option Tm
-whole n = option_map num (number n (pos 1))
+-- stands for each number and each variable that is too large
+abbrev pub unfit : Tm
+unfit = var (bounded_place (2 ^ 63))
 
--- n/d, where that is how a number is written. Of one with an integer that is too large only its digits are judged: it is some
--- number that is too large, in lowest terms or not.
+abbrev pub variable_term : ℕ → Tm
+variable_term x = var (bounded_place x)
+
+abbrev pub whole : ℤ → Option Tm
+whole n = if in_range n then option_map num (number n (pos 1)) else Some unfit
+
+-- n/d, where that is how a number is written. Of one with an integer that is too large only its digits are judged.
 abbrev pub quotient : ℤ → ℕ → Option Tm
 quotient n d =
     if nat_lt 1 d
-    then (if in_range n && in_range (pos d) then option_map num (number n (pos d)) else whole (pos (2 ^ 127)))
+    then (if in_range n && in_range (pos d) then option_map num (number n (pos d)) else Some unfit)
     else None
 
 abbrev mutual
   -- a term is to begin; `before` are those before it on its level
   pub wants : (List ℕ → ℕ) → List Bracket → List Tm → List Token → Parsed (List Tm)
-  wants place opens before (variable x ∷ ts) = ends place opens before (Some (var x)) ts
+  wants place opens before (variable x ∷ ts) = ends place opens before (Some (variable_term x)) ts
   wants place opens before (digits n ∷ ts) = ends place opens before (whole (pos n)) ts
   wants place opens before (fraction n d ∷ ts) = ends place opens before (quotient (pos n) d) ts
   wants place opens before (minus ∷ digits n ∷ ts) = if n == 0 then None else ends place opens before (whole (neg_ℤ (pos n))) ts

@@ -1,8 +1,13 @@
 -- The tokens of a line: each has one spelling.
-use Rattle.std.specs.Prelude.{ℕ, zero, suc, ◌+◌, ◌-◌, ◌*◌, ◌==◌, Bool, true, false, not, ◌&&◌, ◌||◌, if◌then◌else◌, List, [], ◌∷◌, ◌++◌, length, drop, fold, flat_map, codes, decimal, Option, None, Some, option_map, take_while}
+use Rattle.std.specs.Prelude.{ℕ, zero, suc, ◌+◌, ◌-◌, ◌^◌, ◌==◌, min, Bool, true, false, not, ◌&&◌, ◌||◌, if◌then◌else◌, List, [], ◌∷◌, ◌++◌, length, take, drop, flat_map, codes, decimal, Option, None, Some}
+use Rattle.std.specs.List.{take_while}
 use Rattle.std.specs.Str.{is_utf8}
-use Rattle.std.specs.Char.{is_ascii_lowercase, is_ascii_digit}
-use Rattle.scasp_cert.specs.Text.Names.{is_word_byte, is_plain, escaped}
+use Rattle.scasp_cert.specs.Text.Names.{is_plain, escaped}
+use Rattle.scasp_lexis.specs.Bytes.{is_lower, is_digit, is_name_byte, farther}
+use Rattle.scasp_lexis.specs.Numbers.{digits_value}
+use Rattle.scasp_lexis.specs.Quoted.{is_escape, text_of}
+use Rattle.scasp_answer_lines.specs.declared.token.QuoteStep.{QuoteStep}
+use Rattle.scasp_answer_lines.specs.declared.token.QuoteStep.TheVariants.{Inside, Closing, Unwritten}
 
 -- A word is a lower-case letter with letters, digits and `_` behind it; a quoted text is one that needs its quotes.
 pub data Token : Type 0 where
@@ -21,6 +26,7 @@ pub data Token : Type 0 where
   bracket : Token
   unbracket : Token
   sign : ℕ → Token
+  bad : Token  -- a byte at which no token begins as it is printed
 
 unfoldable pub token_text : Token → List ℕ
 token_text (word w) = w
@@ -38,20 +44,9 @@ token_text close = codes ")"
 token_text bracket = codes "["
 token_text unbracket = codes "]"
 token_text (sign b) = b ∷ []
+token_text bad = []
 
 -- ---- the token at the front of bytes
-
-abbrev pub value_of : List ℕ → ℕ
-value_of ds = fold (λ n d. n * 10 + (d - 48)) 0 ds
-
--- the digits are how a number is written: there are some, and no 0 stands in front
-abbrev pub is_numeral : List ℕ → Bool
-is_numeral [] = false
-is_numeral (d ∷ []) = true
-is_numeral (d ∷ e ∷ ds) = not (d == 48)
-
-abbrev pub digits_at : List ℕ → List ℕ
-digits_at bytes = take_while is_ascii_digit bytes
 
 -- a token, and how many bytes behind its first belong to it
 pub record Front : Type 0 where
@@ -61,39 +56,57 @@ pub record Front : Type 0 where
 abbrev pub front : Token → ℕ → Front
 front t more = record { token = t; more = more }
 
--- the token that is made of a number, where the digits are how it is written
-abbrev pub number_front : List ℕ → (ℕ → Token) → ℕ → Option Front
-number_front ds make more = if is_numeral ds then Some (front (make (value_of ds)) more) else None
+-- the number that the digits spell, or the largest of 128 bits where that is larger: no line may have either
+abbrev pub value_of : List ℕ → ℕ
+value_of ds = min (digits_value 0 ds) (2 ^ 128 - 1)
 
--- the digits, or the fraction that they begin: a slash and digits stand behind them; `more` are those behind the first digit
-abbrev pub fraction_front : List ℕ → ℕ → List ℕ → Option Front
-fraction_front ds more [] = number_front ds digits more
-fraction_front ds more (b ∷ bs) =
-    if (b == 47) && not (length (digits_at bs) == 0)
-    then (if is_numeral ds then number_front (digits_at bs) (fraction (value_of ds)) (more + 1 + length (digits_at bs)) else None)
-    else number_front ds digits more
+-- the digits are how a number is written: there are some, and no 0 stands in front
+abbrev pub is_numeral : List ℕ → Bool
+is_numeral [] = false
+is_numeral (d ∷ []) = true
+is_numeral (d ∷ e ∷ ds) = not (d == 48)
 
--- the byte that is written as a backslash and this byte
-abbrev pub unescaped : ℕ → Option ℕ
-unescaped c = if (c == 39) || (c == 92) then Some c else (if c == 110 then Some 10 else (if c == 116 then Some 9 else None))
+abbrev pub digits_at : List ℕ → List ℕ
+digits_at bytes = take_while is_digit bytes
 
-abbrev pub with_front : Option ℕ → Option (List ℕ) → Option (List ℕ)
-with_front None text = None
-with_front (Some c) text = option_map (λ t. c ∷ t) text
+-- the digits behind a slash
+abbrev pub digits_below : List ℕ → List ℕ
+digits_below [] = []
+digits_below (b ∷ bs) = if b == 47 then digits_at bs else []
 
--- the text up to the closing quote; the first byte may stand behind a backslash
-abbrev pub unquoted : Bool → List ℕ → Option (List ℕ)
-unquoted is_escaped [] = None
-unquoted true (b ∷ bs) = with_front (unescaped b) (unquoted false bs)
-unquoted false (b ∷ bs) =
-    if b == 39 then Some []
-    else (if b == 92 then unquoted true bs
-    else (if (b == 9) || (b == 10) then None else option_map (λ text. b ∷ text) (unquoted false bs)))
+-- digits, and where others stand behind a slash the fraction
+abbrev pub number_front : List ℕ → List ℕ → Front
+number_front ds [] = if is_numeral ds then front (digits (value_of ds)) (length ds - 1) else front bad 0
+number_front ds (e ∷ es) =
+    if is_numeral ds && is_numeral (e ∷ es) then front (fraction (value_of ds) (value_of (e ∷ es))) (length ds + length (e ∷ es)) else front bad 0
 
-abbrev pub quoted_front : Option (List ℕ) → Option Front
-quoted_front None = None
-quoted_front (Some text) =
-    if is_utf8 text && not (is_plain text) then Some (front (quoted text) (length (flat_map escaped text) + 1)) else None
+-- `V`, and the number of a variable
+abbrev pub variable_front : List ℕ → Front
+variable_front ds = if is_numeral ds then front (variable (value_of ds)) (length ds) else front bad 0
+
+-- What a byte between quotes does, where it may stand behind a backslash. A tab and a line feed are written with one, and so are a
+-- quote and a backslash; no other byte is.
+abbrev pub quote_step : Bool → ℕ → QuoteStep
+quote_step true b = if is_escape b then Inside false else Unwritten
+quote_step false b = if b == 39 then Closing else (if (b == 9) || (b == 10) then Unwritten else Inside (b == 92))
+
+-- the bytes before the quote that ends the text, from those behind this byte
+abbrev pub length_by : QuoteStep → (Bool → Option ℕ) → Option ℕ
+length_by (Inside is_escaped) behind = farther 1 (behind is_escaped)
+length_by Closing behind = Some 0
+length_by Unwritten behind = None
+
+-- the bytes before the quote that ends a text, where one does; the first byte may stand behind a backslash
+abbrev pub quoted_length : Bool → List ℕ → Option ℕ
+quoted_length is_escaped [] = None
+quoted_length is_escaped (b ∷ bs) = length_by (quote_step is_escaped b) (λ e. quoted_length e bs)
+
+-- a quote, the bytes of a text that needs quotes, and a quote
+abbrev pub between_quotes : List ℕ → Front
+between_quotes bytes = if is_utf8 bytes && not (is_plain bytes) then front (quoted (text_of bytes)) (length bytes + 1) else front bad 0
+
+abbrev pub quoted_front : List ℕ → Front
+quoted_front bs = elim (quoted_length false bs) [ None ↦ front bad 0 | Some n ↦ between_quotes (take n bs) ]
 
 abbrev pub sign_token : ℕ → Token
 sign_token b =
@@ -101,23 +114,28 @@ sign_token b =
     else (if b == 124 then bar else (if b == 40 then paren else (if b == 41 then close
     else (if b == 91 then bracket else (if b == 93 then unbracket else sign b))))))))
 
+abbrev pub word_front : List ℕ → Front
+word_front text = front (word text) (length text - 1)
+
 -- the token that begins with this byte, with these bytes behind it: the longest
-abbrev pub token_at : ℕ → List ℕ → Option Front
-token_at b bs =
-    let ds = digits_at bs in
-    let word_bytes = take_while is_word_byte bs in
-    if is_ascii_lowercase b then Some (front (word (b ∷ word_bytes)) (length word_bytes))
-    else (if is_ascii_digit b then fraction_front (b ∷ ds) (length ds) (drop (length ds) bs)
-    else (if b == 86 then number_front ds variable (length ds)
-    else (if b == 39 then quoted_front (unquoted false bs)
-    else Some (front (sign_token b) 0))))
+abbrev pub front_at : ℕ → List ℕ → Front
+front_at b bs =
+    if is_lower b then word_front (take_while is_name_byte (b ∷ bs))
+    else (if is_digit b then number_front (digits_at (b ∷ bs)) (digits_below (drop (length (digits_at (b ∷ bs))) (b ∷ bs)))
+    else (if b == 86 then variable_front (digits_at bs)
+    else (if b == 39 then quoted_front bs
+    else front (sign_token b) 0)))
+
+-- the token at the front of bytes
+abbrev pub first_front : List ℕ → Option Front
+first_front [] = None
+first_front (b ∷ bs) = Some (front_at b bs)
 
 -- the tokens of bytes of which so many at the front belong to the token before
-abbrev pub tokens_from : ℕ → List ℕ → Option (List Token)
-tokens_from n [] = Some []
+abbrev pub tokens_from : ℕ → List ℕ → List Token
+tokens_from n [] = []
 tokens_from (suc n) (b ∷ bs) = tokens_from n bs
-tokens_from zero (b ∷ bs) =
-    elim (token_at b bs) [ None ↦ None | Some f ↦ option_map (λ ts. f.token ∷ ts) (tokens_from f.more bs) ]
+tokens_from zero (b ∷ bs) = (front_at b bs).token ∷ tokens_from (front_at b bs).more bs
 
-unfoldable pub tokens_in : List ℕ → Option (List Token)
+unfoldable pub tokens_in : List ℕ → List Token
 tokens_in bytes = tokens_from 0 bytes

@@ -1,0 +1,22 @@
+-- The tokens of bytes, one front after the other.
+use Rattle.std.proofs.Common.{◌≡◌, ℕ, zero, suc, ◌+◌, List, [], ◌∷◌, drop, None, Some, refl, ap, ◌∙◌, add-one}
+use Rattle.scasp_answer_lines.specs.Tokens.{Front, front_at, first_front, tokens_from, tokens_in}
+
+pub tokens-skip : (n : ℕ) (bytes : List ℕ) → tokens_from n bytes ≡ tokens_in (drop n bytes)
+unfolding tokens_in
+tokens-skip zero [] = refl
+tokens-skip (suc n) [] = refl
+tokens-skip zero (b ∷ bs) = refl
+tokens-skip (suc n) (b ∷ bs) = tokens-skip n bs
+
+pub tokens-none : (bytes : List ℕ) → first_front bytes ≡ None → tokens_in bytes ≡ []
+unfolding tokens_in
+tokens-none [] e = refl
+tokens-none (b ∷ bs) e = cc
+
+pub tokens-front : (bytes : List ℕ) (f : Front) → first_front bytes ≡ Some f → tokens_in bytes ≡ f.token ∷ tokens_in (drop (f.more + 1) bytes)
+unfolding tokens_in
+tokens-front [] f e = cc
+tokens-front (b ∷ bs) f e =
+    let same : front_at b bs ≡ f = cc in
+    ap (λ g. g.token ∷ tokens_from g.more bs) same ∙ ap (λ ts. f.token ∷ ts) (tokens-skip f.more bs) ∙ rw add-one refl

@@ -1,0 +1,27 @@
+use Rattle.std.proofs.Common.{◌≡◌, ℕ, ◌+◌, Bool, true, false, List, length, refl, sym, ap, ◌∙◌}
+use Rattle.std.specs.Str.{IsUtf8, is_utf8}
+use Rattle.std.proofs.lemmas.Str.{IsUtf8-from_is_utf8, is_utf8-from_IsUtf8}
+use Rattle.scasp_cert.specs.Text.Names.{is_plain}
+use Rattle.scasp_lexis.specs.Quoted.{text_of}
+use Rattle.scasp_answer_lines.specs.Tokens.{quoted, bad, front, between_quotes}
+use Rattle.scasp_answer_lines.proofs.quotes.between_quotes.Goals as goal
+
+taken : (bytes : List ℕ) → IsUtf8 bytes → is_plain bytes ≡ false → front (quoted (text_of bytes)) (length bytes + 1) ≡ between_quotes bytes
+taken bytes u p = let e = is_utf8-from_IsUtf8 bytes u in rw (e, p) refl
+
+refused : (bytes : List ℕ) → ¬ (IsUtf8 bytes) → front bad 0 ≡ between_quotes bytes
+refused bytes n = by (is_utf8 bytes) refl
+  where
+    by : (t : Bool) → is_utf8 bytes ≡ t → front bad 0 ≡ between_quotes bytes
+    by true e = absurd (n (IsUtf8-from_is_utf8 bytes e))
+    by false e = rw e refl
+
+pub returns-in-Ok-2-clause-front : goal.returns-in-Ok-2-clause-front
+returns-in-Ok-2-clause-front c =
+    let bytes = c.args.bytes.now in
+    let same = c.in-Ok.ensures.cases.0 in
+    ap (λ t. front (quoted (text_of t)) (length bytes + 1)) same
+    ∙ taken bytes c.in-Ok.ensures.cases.1 (ap is_plain (sym same) ∙ sym c.is_plain.ensures ∙ c.if-is_plain.false)
+
+pub returns-in-Err-clause-front : goal.returns-in-Err-clause-front
+returns-in-Err-clause-front c = refused c.args.bytes.now c.in-Err.ensures.cases.0

@@ -1,0 +1,39 @@
+-- The tokens that the code has, as values.
+use Rattle.std.specs.Prelude.{ℕ, List, [], ◌∷◌, Option, None, Some}
+use Rattle.scasp_lexis.specs.Quoted.{text_of}
+use Rattle.scasp_answer_lines.specs.declared.token.Token.{Token as ThisToken}
+use Rattle.scasp_answer_lines.specs.declared.token.Token.TheVariants as this
+use Rattle.scasp_answer_lines.specs.declared.token.Front.{Front as ThisFront}
+use Rattle.scasp_answer_lines.specs.Tokens.{Token, word, quoted, variable, digits, fraction, minus, plus, star, comma, bar, paren, close, bracket, unbracket, sign, bad, Front, front, tokens_in}
+
+abbrev pub token_of : ThisToken → Token
+token_of (this.Word text) = word text.now
+token_of (this.Quoted bytes) = quoted (text_of bytes.now)
+token_of (this.Variable x) = variable x
+token_of (this.Digits n) = digits n
+token_of (this.Fraction n d) = fraction n d
+token_of this.Minus = minus
+token_of this.Plus = plus
+token_of this.Star = star
+token_of this.Comma = comma
+token_of this.Bar = bar
+token_of this.Paren = paren
+token_of this.Close = close
+token_of this.Bracket = bracket
+token_of this.Unbracket = unbracket
+token_of (this.Sign b) = sign b
+token_of this.Bad = bad
+
+abbrev pub front_of : ThisFront → Front
+front_of f = front (token_of f.token) f.more
+
+-- ---- the tokens that are left
+
+-- the next token, and those of the bytes behind it; without a next one none is left
+abbrev pub tokens_of : Option ThisToken → List ℕ → List Token
+tokens_of None bytes = []
+tokens_of (Some t) bytes = token_of t ∷ tokens_in bytes
+
+abbrev pub first_token : List Token → Option Token
+first_token [] = None
+first_token (t ∷ ts) = Some t

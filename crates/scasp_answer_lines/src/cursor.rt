@@ -1,0 +1,70 @@
+//! The tokens of a line, one after the other.
+ghost use Rattle.std.specs.Prelude.{◌≡◌, drop, IsTrue, true};
+ghost use Rattle.std.specs.Option.{option_map};
+ghost use Rattle.scasp_answer_lines.specs.Tokens.{tokens_in};
+ghost use Rattle.scasp_answer_lines.specs.View.{token_of, first_token};
+
+use crate::front::first_front;
+use crate::token::Token;
+use std::marker::Model;
+
+/// The tokens that are left of a line. The next one is kept; the others are made as they are taken.
+#[derive(Drop)]
+pub struct Cursor<'a> {
+    next: Option<Token<'a>>,
+    rest: &'a [u8],
+}
+
+impl<'a> Model for Cursor<'a> {
+    ghost use Rattle.std.specs.Prelude.{List};
+    ghost use Rattle.scasp_answer_lines.specs.Tokens.{Token};
+    ghost use Rattle.scasp_answer_lines.specs.View.{tokens_of};
+
+    ghost Value = { List Token };
+
+    ghost view = { λ c. tokens_of c.next c.rest.now };
+}
+
+impl<'a> Cursor<'a> {
+    /// The tokens of the bytes.
+    pub fn new(bytes: &'a [u8]) -> Cursor<'a>
+        ensures { result ≡ tokens_in bytes.now }
+    {
+        match first_front(bytes) {
+            None => Cursor {
+                next: None,
+                rest: bytes,
+            },
+            Some(front) => Cursor {
+                next: Some(front.token),
+                rest: &bytes[front.more + 1..],
+            },
+        }
+    }
+
+    /// The same tokens once more.
+    pub fn again(&self) -> Cursor<'a>
+        ensures { result ≡ self.now }
+    {
+        Cursor {
+            next: self.next,
+            rest: self.rest,
+        }
+    }
+
+    /// The next token, which is not taken.
+    pub fn next(&self) -> Option<Token<'a>>
+        ensures { option_map token_of result ≡ first_token self.now }
+    {
+        self.next
+    }
+
+    /// Takes the next token.
+    pub fn take(&mut self)
+        ensures { self.new ≡ drop 1 self.old }
+    {
+        if self.next.is_some() {
+            *self = Cursor::new(self.rest);
+        }
+    }
+}

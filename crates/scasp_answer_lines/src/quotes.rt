@@ -1,0 +1,66 @@
+//! Texts in quotes.
+ghost use Rattle.std.specs.Prelude.{◌≡◌, ◌<◌, ◌≤◌, ◌+◌, false, length, IfSome};
+ghost use Rattle.scasp_answer_lines.specs.Tokens.{quote_step, quoted_length, between_quotes, quoted_front};
+ghost use Rattle.scasp_answer_lines.specs.View.{front_of};
+
+use crate::token::{Front, QuoteStep, Token};
+use crate::words::is_plain;
+use std::str;
+
+const BAD: Front<'static> = Front {
+    token: Token::Bad,
+    more: 0,
+};
+
+fn quote_step(is_escaped: bool, byte: u8) -> QuoteStep
+    ensures { result ≡ quote_step is_escaped byte }
+{
+    match (is_escaped, byte) {
+        (true, b'\'' | b'\\' | b'n' | b't') => QuoteStep::Inside(false),
+        (true, _) => QuoteStep::Unwritten,
+        (false, b'\'') => QuoteStep::Closing,
+        (false, b'\t' | b'\n') => QuoteStep::Unwritten,
+        (false, _) => QuoteStep::Inside(byte == b'\\'),
+    }
+}
+
+/// The number of bytes before the quote that ends the text, where one does.
+fn quoted_len(bytes: &[u8]) -> Option<usize>
+    ensures length { result ≡ quoted_length false bytes.now }
+    ensures within { IfSome result (λ n. n < length bytes.now) }
+{
+    let mut is_escaped = false;
+    for (at, byte) in bytes.iter().enumerate() {
+        match quote_step(is_escaped, *byte) {
+            QuoteStep::Inside(next) => is_escaped = next,
+            QuoteStep::Closing => return Some(at),
+            QuoteStep::Unwritten => return None,
+        }
+    }
+    None
+}
+
+fn between_quotes(bytes: &[u8]) -> Front<'_>
+    ensures front { front_of result ≡ between_quotes bytes.now }
+    ensures within { result.more ≤ length bytes.now + 1 }
+{
+    match str::from_utf8(bytes) {
+        Ok(text) if is_plain(text) => BAD,
+        Ok(text) => Front {
+            token: Token::Quoted(text),
+            more: bytes.len() + 1,
+        },
+        Err(_) => BAD,
+    }
+}
+
+/// The token of a quote and the bytes behind it.
+pub fn quoted_front(bytes: &[u8]) -> Front<'_>
+    ensures front { front_of result ≡ quoted_front bytes.now }
+    ensures within { result.more ≤ length bytes.now }
+{
+    match quoted_len(bytes) {
+        None => BAD,
+        Some(len) => between_quotes(&bytes[..len]),
+    }
+}
