@@ -23,7 +23,6 @@ abbrev pub reason_of : HintFault → Reason
 reason_of fault.Step = reason.HintStep
 reason_of fault.Overflow = reason.HintOverflow
 reason_of fault.NotReached = reason.HintNotReached
-reason_of fault.Memory = reason.HintNotReached
 
 -- the fault of a hint, as a refusal
 abbrev pub fault_at : ℕ → Option HintFault → List Refusal

@@ -57,12 +57,12 @@ use Rattle.scasp_hint.specs.declared.fault.HintFault.{HintFault}
 abbrev pub Strict : Linear → Type 0
 Strict a = IsNormal a × (a.op ≡ op.Lt)
 
-less-strict : (x : ℕ) (t : Tm) (row : Linear) → Some row ≡ less x t → Strict row
+pub less-strict : (x : ℕ) (t : Tm) (row : Linear) → Some row ≡ less x t → Strict row
 less-strict x (var y) row e = (normal_of-IsNormal (record { x = x; value = one } ∷ record { x = y; value = minus_one } ∷ []) zero_number op.Lt row e, normal_of-op (record { x = x; value = one } ∷ record { x = y; value = minus_one } ∷ []) zero_number op.Lt row e)
 less-strict x (num q) row e = (normal_of-IsNormal (record { x = x; value = one } ∷ []) (negation_of q) op.Lt row e, normal_of-op (record { x = x; value = one } ∷ []) (negation_of q) op.Lt row e)
 less-strict x (app f ts) row e = cc
 
-more-strict : (x : ℕ) (t : Tm) (row : Linear) → Some row ≡ more x t → Strict row
+pub more-strict : (x : ℕ) (t : Tm) (row : Linear) → Some row ≡ more x t → Strict row
 more-strict x (var y) row e = (normal_of-IsNormal (record { x = x; value = minus_one } ∷ record { x = y; value = one } ∷ []) zero_number op.Lt row e, normal_of-op (record { x = x; value = minus_one } ∷ record { x = y; value = one } ∷ []) zero_number op.Lt row e)
 more-strict x (num q) row e = (normal_of-IsNormal (record { x = x; value = minus_one } ∷ []) q op.Lt row e, normal_of-op (record { x = x; value = minus_one } ∷ []) q op.Lt row e)
 more-strict x (app f ts) row e = cc

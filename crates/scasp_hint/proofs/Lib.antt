@@ -2,9 +2,12 @@ pub mod AskedLemmas
 pub mod Entailment
 pub mod ExactLemmas
 pub mod ForcedLemmas
+pub mod FoundAnswers
 pub mod FoundLemmas
 pub mod HintRanges
+pub mod PlainRows
 pub mod RowItems
+pub mod RunCalls
 pub mod RunLemmas
 pub mod SatisfyingLemmas
 pub mod ShownLemmas

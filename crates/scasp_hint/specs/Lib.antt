@@ -5,3 +5,4 @@ pub mod Finding
 pub mod Satisfying
 pub mod Showing
 pub mod Sides
+pub mod Verdicts

@@ -1,4 +1,5 @@
--- Whether a list of constraints has a valuation, as a test that no bound on integers cuts short. No code runs it.
+-- Whether a list of constraints has a valuation, as a test that no bound on integers cuts short. No code runs it: a hint
+-- that is found, or none, tells its answer.
 use Rattle.std.specs.Prelude.{◌≡◌, ℕ, Bool, false, ◌&&◌, ◌||◌, not, List, [], ◌∷◌, ◌++◌}
 use Rattle.std.specs.List.{list_all, list_any}
 use Rattle.scasp_num.specs.Number.{Number}

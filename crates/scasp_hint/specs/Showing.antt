@@ -1,7 +1,6 @@
 -- When a hint shows that a list of constraints has no valuation.
 use Rattle.std.specs.Prelude.{ℕ, zero, suc, ◌==◌, Bool, false, ◌||◌, if◌then◌else◌, List, [], ◌∷◌, ◌++◌, length, slice_get, Option, None, Some, Result, Ok, Err, ⊤}
 use Rattle.scasp_num.specs.declared.hints.Step.{Step}
-use Rattle.scasp_num.specs.Number.{InRange}
 use Rattle.scasp_list.specs.Each.{Each}
 use Rattle.scasp_num.specs.Linear.{Linear}
 use Rattle.scasp_rows.specs.Points.{is_false}

@@ -3,9 +3,13 @@
 
 mod asked;
 mod fault;
+mod finding;
 pub mod laws;
+mod showing;
 mod sides;
 
 pub use asked::{Asked, RowsView};
-pub use fault::HintFault;
+pub use fault::{HintErr, HintFault};
+pub use finding::{find, is_satisfiable};
+pub use showing::unsat;
 pub use sides::Sides;

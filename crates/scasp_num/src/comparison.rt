@@ -39,7 +39,7 @@ impl Op {
     }
 
     /// Whether a sum compares in the same way as its negation.
-    pub(crate) fn is_symmetric(self) -> bool
+    pub fn is_symmetric(self) -> bool
         ensures { result ≡ is_symmetric self }
     {
         match self {

@@ -61,11 +61,11 @@ impl Model for Row {
 }
 
 impl Row {
-    ghost use Rattle.std.specs.Prelude.{◌↔◌, ℕ, ℤ, IfOk, Option, pos, ◌<ℤ◌, ◌+ℤ◌, ◌*ℤ◌, ◌≢◌, List};
-    ghost use Rattle.scasp_num.specs.Linear.{IsNormal, Meets, Compares, weighted, negation, put_of, join_of, Gives, replaced, coefficient};
+    ghost use Rattle.std.specs.Prelude.{◌↔◌, ℕ, ℤ, IfOk, false, Option, pos, ◌<ℤ◌, ◌+ℤ◌, ◌*ℤ◌, ◌≢◌, List};
+    ghost use Rattle.scasp_num.specs.Linear.{IsNormal, Meets, Compares, weighted, is_symmetric, negation, put_of, join_of, Gives, replaced, coefficient};
     ghost use Rattle.scasp_num.specs.Sums.{normal_of, IsTimes, AreTimes, SumHolds};
     ghost use Rattle.scasp_num.specs.Number.{InRange, Number};
-    ghost use Rattle.scasp_num.specs.Values.{Holds, with_value};
+    ghost use Rattle.scasp_num.specs.Values.{Holds, numerator_under, with_value};
     ghost use Rattle.scasp_num.specs.declared.linear.Coeff.{Coeff};
 
     /// The normal form of the sum of the pairs, each its number times its variable, and of the constant. The
@@ -147,6 +147,18 @@ impl Row {
         let coeffs = negated(alloc, negate, terms)?;
         let constant = negated_if(negate, self.constant());
         Ok(Row::from_normal(coeffs, constant, op.opposite()))
+    }
+
+    /// The row that says of the same sum that it compares by `op`, which is `<` or `=<`: these keep all signs.
+    pub fn compared(&self, op: Op) -> Result<Row, Memory>
+        requires { is_symmetric op ≡ false }
+        ensures value { IfOk result (λ row. row ≡ record { coeffs = self.now.coeffs; constant = self.now.constant; op = op }) }
+        ensures holds { IfOk result
+            (λ row. (v : ℕ → Number) → Holds v row ↔ Compares op (numerator_under v self.now)) }
+        ensures normal { IfOk result IsNormal }
+    {
+        let coeffs = self.coeffs().clone()?;
+        Ok(Row::from_normal(coeffs, self.constant(), op))
     }
 
     pub(crate) fn from_normal(coeffs: Coeffs, constant: i128, op: Op) -> Self

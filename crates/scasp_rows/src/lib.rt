@@ -15,6 +15,7 @@ mod state;
 mod steps;
 mod verdict;
 
+pub use rows::is_false;
 pub use samples::{Point, RowLists, are_disequations, sample};
 pub use steps::{StepErr, step};
 pub use verdict::{LinErr, Verdict, eliminate, is_free_of_disequations};

@@ -18,7 +18,7 @@ pub(crate) fn is_constant(row: &Row) -> bool
 }
 
 /// Whether the row has no variable, and is met by no point.
-pub(crate) fn is_false(row: &Row) -> bool
+pub fn is_false(row: &Row) -> bool
     ensures { result ≡ is_false row.now }
 {
     is_constant(row) && !row.op().compares(row.constant())

@@ -631,7 +631,7 @@ fn changes(rt: HostRuntime) -> Result<(), Fail> {
     Ok(())
 }
 
-/// The row `V1+6 #=< 0` and its negation `-V1-6 #< 0`; and lists, by all that they have.
+/// The row `V1+6 #=< 0`, its negation `-V1-6 #< 0` and the row `V1+6 #< 0`; and lists, by all that they have.
 #[test]
 fn negation_and_lists(rt: HostRuntime) -> Result<(), Fail> {
     let given = pairs(rt.alloc(), &[(1, (1, 1))])?;
@@ -640,6 +640,8 @@ fn negation_and_lists(rt: HostRuntime) -> Result<(), Fail> {
     assert!(rt;
         has_terms(&negation, &[(1, -1)]) && negation.constant() == -6 && negation.op() == Op::Lt
     );
+    let below = row.compared(Op::Lt)?;
+    assert!(rt; has_terms(&below, &[(1, 1)]) && below.constant() == 6 && below.op() == Op::Lt);
     let mut rows = Rows::new(rt.alloc());
     rows.push(row)?;
     rows.push(negation)?;

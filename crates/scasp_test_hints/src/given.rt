@@ -1,0 +1,103 @@
+//! Lists of constraints and hints as they are written in the tables.
+use scasp_name::NameId;
+use scasp_num::{Op, Rat, RatPair, RatPairs, Row, Step, StepLists, Steps};
+use scasp_syntax::{Con, Hint, Term, Terms};
+use std::alloc::Global;
+use std::test::Fail;
+
+/// A variable, a whole number, or a name with its arguments.
+pub enum Written {
+    V(u64),
+    N(i128),
+    F(u64, &'static [Written]),
+}
+
+/// A constraint.
+pub enum Told {
+    Equal(Written, Written),
+    Differ(Written, Written),
+    NoShape(u64, u64, u64),
+    Number(u64),
+    NoNumber(u64),
+    Compared(&'static [(u64, i128)], i128, Op),
+}
+
+/// A step: the multiplier and the number of the first row, and those of the second one.
+pub type Summed = (i128, u64, i128, u64);
+
+/// A hint.
+pub enum Tried {
+    ByTerms,
+    ByRows(&'static [Summed]),
+    BySame(u64, &'static [&'static [Summed]]),
+}
+
+pub fn term(alloc: Global, given: &Written) -> Result<Term, Fail> {
+    match given {
+        Written::V(x) => Ok(Term::Var(*x)),
+        Written::N(value) => Ok(Term::Num(Rat::new(*value, 1)?)),
+        Written::F(name, listed) => {
+            let mut args = Terms::new(alloc);
+            for argument in *listed {
+                args.push(term(alloc, argument)?)?;
+            }
+            Ok(Term::App(NameId::new(*name), args))
+        }
+    }
+}
+
+pub fn row(alloc: Global, terms: &[(u64, i128)], constant: i128, op: Op) -> Result<Row, Fail> {
+    let mut pairs = RatPairs::new(alloc);
+    for (x, c) in terms {
+        let value = Rat::new(*c, 1)?;
+        pairs.push(RatPair { x: *x, value })?;
+    }
+    let made = Row::normal(alloc, &pairs, &Rat::new(constant, 1)?, op)?;
+    Ok(made)
+}
+
+fn constraint(alloc: Global, given: &Told) -> Result<Con, Fail> {
+    match given {
+        Told::Equal(left, right) => Ok(Con::Eq(term(alloc, left)?, term(alloc, right)?)),
+        Told::Differ(left, right) => Ok(Con::Neq(term(alloc, left)?, term(alloc, right)?)),
+        Told::NoShape(x, name, arity) => Ok(Con::NotShape(*x, NameId::new(*name), *arity)),
+        Told::Number(x) => Ok(Con::Num(Term::Var(*x))),
+        Told::NoNumber(x) => Ok(Con::NotNum(Term::Var(*x))),
+        Told::Compared(terms, constant, op) => Ok(Con::Row(row(alloc, terms, *constant, *op)?)),
+    }
+}
+
+pub fn constraints(alloc: Global, given: &[Told]) -> Result<Vec<Con>, Fail> {
+    let mut all = Vec::new(alloc);
+    for told in given {
+        all.push(constraint(alloc, told)?)?;
+    }
+    Ok(all)
+}
+
+fn steps(alloc: Global, given: &[Summed]) -> Result<Steps, Fail> {
+    let mut all = Steps::new(alloc);
+    for (a, p, b, q) in given {
+        all.push(Step {
+            a: *a,
+            p: *p,
+            b: *b,
+            q: *q,
+        })?;
+    }
+    Ok(all)
+}
+
+pub fn hint(alloc: Global, given: &Tried) -> Result<Hint, Fail> {
+    match given {
+        Tried::ByTerms => Ok(Hint::Terms),
+        Tried::ByRows(listed) => Ok(Hint::Rows(steps(alloc, listed)?)),
+        Tried::BySame(number, lists) => {
+            let mut all = StepLists::new(alloc);
+            for listed in *lists {
+                all.push(steps(alloc, listed)?)?;
+            }
+            Ok(Hint::Same(*number, all))
+        }
+    }
+}
