@@ -1,0 +1,5 @@
+pub mod TermLemmas
+pub mod DueLemmas
+pub mod AboveLemmas
+pub mod ContextLemmas
+pub mod NormalLemmas

@@ -1,0 +1,4 @@
+pub mod DueView
+pub mod Seen
+pub mod Above
+pub mod Wholes
