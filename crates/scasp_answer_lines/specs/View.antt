@@ -1,5 +1,5 @@
 -- The tokens that the code has, as values.
-use Rattle.std.specs.Prelude.{ℕ, List, [], ◌∷◌, Option, None, Some}
+use Rattle.std.specs.Prelude.{◌≡◌, ℕ, Bool, true, false, List, [], ◌∷◌, Option, None, Some}
 use Rattle.scasp_lexis.specs.Quoted.{text_of}
 use Rattle.scasp_answer_lines.specs.declared.token.Token.{Token as ThisToken}
 use Rattle.scasp_answer_lines.specs.declared.token.Token.TheVariants as this
@@ -37,3 +37,8 @@ tokens_of (Some t) bytes = token_of t ∷ tokens_in bytes
 abbrev pub first_token : List Token → Option Token
 first_token [] = None
 first_token (t ∷ ts) = Some t
+
+-- the tokens were next, and these stand behind them; or they were not
+abbrev pub Passes : Bool → Option (List Token) → List Token → Type 0
+Passes true behind ts = behind ≡ Some ts
+Passes false behind ts = behind ≡ None

@@ -1,10 +1,12 @@
 //! The tokens of a line, one after the other.
-ghost use Rattle.std.specs.Prelude.{◌≡◌, drop, IsTrue, true};
+ghost use Rattle.std.specs.Prelude.{◌≡◌, ◌∷◌, [], drop};
 ghost use Rattle.std.specs.Option.{option_map};
 ghost use Rattle.scasp_answer_lines.specs.Tokens.{tokens_in};
-ghost use Rattle.scasp_answer_lines.specs.View.{token_of, first_token};
+ghost use Rattle.scasp_answer_lines.specs.Readers.{past, past_text};
+ghost use Rattle.scasp_answer_lines.specs.View.{token_of, first_token, Passes};
 
 use crate::front::first_front;
+use crate::same::is_same;
 use crate::token::Token;
 use std::marker::Model;
 
@@ -66,5 +68,34 @@ impl<'a> Cursor<'a> {
         if self.next.is_some() {
             *self = Cursor::new(self.rest);
         }
+    }
+
+    /// Takes the next token where it is this one, and tells whether it was.
+    fn takes(&mut self, token: Token<'_>) -> bool
+        ensures { Passes result (past (token_of token.entry ∷ []) self.old) self.new }
+    {
+        match self.next() {
+            None => false,
+            Some(next) if is_same(token, next) => {
+                self.take();
+                true
+            }
+            Some(_) => false,
+        }
+    }
+
+    /// Takes the tokens of the text where they are next, and tells whether they were. Where they were not, some of
+    /// them may have been taken.
+    pub fn past(&mut self, text: &[u8]) -> bool
+        ensures { Passes result (past_text text.now self.old) self.new }
+    {
+        let mut front = Cursor::new(text);
+        while let Some(token) = front.next() {
+            if !self.takes(token) {
+                return false;
+            }
+            front.take();
+        }
+        true
     }
 }

@@ -5,6 +5,7 @@ mod cursor;
 mod front;
 mod numbers;
 mod quotes;
+mod same;
 mod token;
 mod words;
 
