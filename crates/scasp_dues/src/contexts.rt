@@ -6,7 +6,7 @@ ghost use Rattle.scasp_dues.specs.Seen.{seen};
 
 use scasp_list::Memory;
 use scasp_places::{Chain, Entry, new_parts};
-use scasp_syntax::{Con, Cons, Duplicate, Term};
+use scasp_syntax::{Con, Cons, DeepCopy, Term};
 use std::alloc::Global;
 
 /// Puts the constraint that an entry brings at the end.
@@ -24,7 +24,7 @@ fn push_constraint(alloc: Global, entry: &Entry, list: &mut Cons) -> Result<(), 
             let parts = new_parts(alloc, *first, *size)?;
             list.push(Con::Eq(Term::Var(*of), Term::App(*name, parts)))
         }
-        Entry::Assumed(constraint) => list.push(constraint.duplicate(alloc)?),
+        Entry::Assumed(constraint) => list.push(constraint.copy(alloc)?),
     }
 }
 
@@ -47,7 +47,7 @@ pub fn context(alloc: Global, given: &[Con], opened: &Chain<Entry>) -> Result<Co
 {
     let mut list = Cons::new(alloc);
     for constraint in given {
-        list.push(constraint.duplicate(alloc)?)?;
+        list.push(constraint.copy(alloc)?)?;
     }
     let mut left = entries(alloc, opened)?;
     while let Some(entry) = left.pop() {
