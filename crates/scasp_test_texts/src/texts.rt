@@ -1,6 +1,7 @@
 //! Whole texts: how many clauses and queries are read, or the first fault with its place.
 use scasp_name::Names;
 use scasp_phrase::{Count, Fault, Kind, Stop};
+use scasp_program::read_program;
 use scasp_text::read_text;
 use std::alloc::Global;
 use std::process::Abort;
@@ -166,6 +167,25 @@ fn limits_are_met(rt: HostRuntime) -> Result<(), Fail> {
         let text = built(alloc, front, piece, count, back)?;
         let read = outcome(&rt, alloc, text.as_slice())?;
         assert_eq!(rt; read, wanted, "{front}{piece}");
+    }
+    Ok(())
+}
+
+#[test]
+fn programs_have_their_denials(rt: HostRuntime) -> Result<(), Fail> {
+    let alloc = rt.alloc();
+    let rows: [(&str, usize, usize); 5] = [
+        ("p :- q. ?- p.", 1, 1),
+        ("p :- q, not -r(X). -q. ?- p.", 4, 1),
+        ("-p. ?- -p.", 2, 1),
+        ("p. ?- not -s(a).", 2, 1),
+        ("-p(X) :- -p(X), -p(X,Y). ?- -p(a).", 3, 1),
+    ];
+    for (text, clauses, queries) in rows {
+        let names = Names::new(alloc)?;
+        let (program, _names) = read_program(alloc, text.as_bytes(), names)?;
+        assert_eq!(rt; program.clauses.len(), clauses, "{text}");
+        assert_eq!(rt; program.queries.len(), queries, "{text}");
     }
     Ok(())
 }

@@ -1,0 +1,7 @@
+pub mod Keeping
+pub mod TermKeeping
+pub mod SumKeeping
+pub mod ValueKeeping
+pub mod ItemKeeping
+pub mod ClauseKeeping
+pub mod DenialLemmas

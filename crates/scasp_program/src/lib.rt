@@ -1,0 +1,8 @@
+//! A program's text read as a program: well formed, with the generated denials behind its clauses.
+#![tactic(auto)]
+
+mod denials;
+pub mod laws;
+mod reading;
+
+pub use reading::read_program;
