@@ -1,0 +1,73 @@
+//! Above each variable of terms and constraints.
+ghost use Rattle.std.specs.Prelude.{◌≡◌, suc, IfOk};
+ghost use Rattle.scasp_acceptance.specs.PairLists.{above, above_all, above_con, above_cons, above_terms};
+ghost use Rattle.scasp_syntax.specs.View.{tm_of};
+
+use scasp_list::Memory;
+use scasp_num::Coeff;
+use scasp_syntax::{Con, Term, Terms};
+
+/// Above the variable; past the range of numbers it is want of memory.
+fn behind(x: u64) -> Result<u64, Memory>
+    ensures { IfOk result (λ number. number ≡ suc x) }
+{
+    x.checked_add(1).ok_or(Memory)
+}
+
+/// Above each variable of the term.
+#[cycle(above)]
+fn above(term: &Term) -> Result<u64, Memory>
+    ensures { IfOk result (λ number. number ≡ above (tm_of term.now)) }
+{
+    match term {
+        Term::Var(x) => behind(*x),
+        Term::Num(_) => Ok(0),
+        Term::App(_, args) => above_all(args),
+    }
+}
+
+/// Above each variable of the terms.
+#[cycle(above)]
+pub fn above_all(terms: &Terms) -> Result<u64, Memory>
+    ensures { IfOk result (λ number. number ≡ above_all terms.now) }
+{
+    let mut number = 0u64;
+    for term in terms.as_slice() {
+        number = number.max(above(term)?);
+    }
+    Ok(number)
+}
+
+/// Above each variable of the coefficients.
+fn above_terms(coeffs: &[Coeff]) -> Result<u64, Memory>
+    ensures { IfOk result (λ number. number ≡ above_terms coeffs.now) }
+{
+    let mut number = 0u64;
+    for k in coeffs {
+        number = number.max(behind(k.x)?);
+    }
+    Ok(number)
+}
+
+/// Above each variable of the constraint.
+pub fn above_con(constraint: &Con) -> Result<u64, Memory>
+    ensures { IfOk result (λ number. number ≡ above_con constraint.now) }
+{
+    match constraint {
+        Con::Eq(left, right) | Con::Neq(left, right) => Ok(above(left)?.max(above(right)?)),
+        Con::NotShape(x, _, _) => behind(*x),
+        Con::Num(term) | Con::NotNum(term) => above(term),
+        Con::Row(row) => above_terms(row.coeffs().as_slice()),
+    }
+}
+
+/// Above each variable of the constraints.
+pub fn above_cons(constraints: &[Con]) -> Result<u64, Memory>
+    ensures { IfOk result (λ number. number ≡ above_cons constraints.now) }
+{
+    let mut number = 0u64;
+    for constraint in constraints {
+        number = number.max(above_con(constraint)?);
+    }
+    Ok(number)
+}

@@ -1,0 +1,70 @@
+//! Pairs of literals.
+ghost use Rattle.std.specs.Prelude.{◌≡◌, ◌++◌, IfOk, OnOk};
+ghost use Rattle.scasp_acceptance.specs.PairLists.{equal_args, pair_list};
+ghost use Rattle.scasp_disjoint.specs.Raised.{raising_by, told_of};
+ghost use Rattle.scasp_syntax.specs.Values.{all_under};
+
+use crate::above::{above_all, above_cons};
+use crate::raising::{Raising, push_raised};
+use scasp_dues::context;
+use scasp_list::Memory;
+use scasp_places::{Chain, Entry, under};
+use scasp_syntax::{Atom, Con, Cons, Terms, copy};
+use std::alloc::Global;
+
+/// A positive or a negated literal on a line, with what opened above it.
+#[derive(Drop)]
+pub struct Saying {
+    pub at: u64,
+    pub positive: bool,
+    pub atom: Atom,
+    pub opened: Chain<Entry>,
+}
+
+/// Puts the equations at the end that make the first terms equal to the others, which are raised, as far as there are both.
+fn push_equations(
+    alloc: Global,
+    raising: &Raising,
+    first: &Terms,
+    second: &Terms,
+    list: &mut Cons,
+) -> Result<(), Memory>
+    ensures { OnOk result (list.new ≡ list.old ++ equal_args first.now (all_under (raising_by raising.now) second.now)) }
+{
+    let others = second.as_slice();
+    for (place, term) in first.as_slice().iter().enumerate() {
+        if place >= others.len() {
+            return Ok(());
+        }
+        let left = copy(alloc, term)?;
+        let right = under(alloc, &others[place], raising)?;
+        list.push(Con::Eq(left, right))?;
+    }
+    Ok(())
+}
+
+/// The list of constraints that two literals meet where they have one atom: the context of the first, that of the second
+/// with its variables raised above the first, and that the two atoms are one.
+pub fn pair_list(
+    alloc: Global,
+    free: u64,
+    given: &[Con],
+    first: &Saying,
+    second: &Saying,
+) -> Result<Cons, Memory>
+    ensures { IfOk result (λ made. made ≡ pair_list free given.now (told_of first.now) (told_of second.now)) }
+{
+    let mut list = context(alloc, given, &first.opened)?;
+    let by = above_cons(list.as_slice())?.max(above_all(&first.atom.args)?);
+    let raising = Raising { free, by };
+    let behind = context(alloc, &[], &second.opened)?;
+    push_raised(alloc, &raising, behind.as_slice(), &mut list)?;
+    push_equations(
+        alloc,
+        &raising,
+        &first.atom.args,
+        &second.atom.args,
+        &mut list,
+    )?;
+    Ok(list)
+}
