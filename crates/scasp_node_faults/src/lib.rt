@@ -1,0 +1,14 @@
+//! What is wrong at a line of a node or a void case of a certificate.
+#![tactic(auto)]
+
+mod constraints;
+mod counted;
+mod dues;
+mod literals;
+mod voids;
+
+pub use constraints::accept_test;
+pub use counted::common_of;
+pub use dues::{asks_constraint, asks_literal, asks_negated, asks_positive, is_due, is_fact_due};
+pub use literals::{accept_literal, accept_loop, accept_negated, accept_positive, accept_seen};
+pub use voids::accept_void;
