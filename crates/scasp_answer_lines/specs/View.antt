@@ -4,6 +4,7 @@ use Rattle.scasp_lexis.specs.Quoted.{text_of}
 use Rattle.scasp_answer_lines.specs.declared.token.Token.{Token as ThisToken}
 use Rattle.scasp_answer_lines.specs.declared.token.Token.TheVariants as this
 use Rattle.scasp_answer_lines.specs.declared.token.Front.{Front as ThisFront}
+use Rattle.scasp_answer_lines.specs.Readers.{Parsed}
 use Rattle.scasp_answer_lines.specs.Tokens.{Token, word, quoted, variable, digits, fraction, minus, plus, star, comma, bar, paren, close, bracket, unbracket, sign, bad, Front, front, tokens_in}
 
 abbrev pub token_of : ThisToken → Token
@@ -42,3 +43,8 @@ first_token (t ∷ ts) = Some t
 abbrev pub Passes : Bool → Option (List Token) → List Token → Type 0
 Passes true behind ts = behind ≡ Some ts
 Passes false behind ts = behind ≡ None
+
+-- what is read, and the tokens behind it; or nothing is read
+abbrev pub Gives : {A : Type 0} → Option A → Parsed A → List Token → Type 0
+Gives (Some x) read ts = read ≡ Some (x, ts)
+Gives None read ts = read ≡ None

@@ -2,8 +2,8 @@
 ghost use Rattle.std.specs.Prelude.{◌≡◌, ◌∷◌, [], drop};
 ghost use Rattle.std.specs.Option.{option_map};
 ghost use Rattle.scasp_answer_lines.specs.Tokens.{tokens_in};
-ghost use Rattle.scasp_answer_lines.specs.Readers.{past, past_text};
-ghost use Rattle.scasp_answer_lines.specs.View.{token_of, first_token, Passes};
+ghost use Rattle.scasp_answer_lines.specs.Readers.{number_at, past, past_text};
+ghost use Rattle.scasp_answer_lines.specs.View.{token_of, first_token, Gives, Passes};
 
 use crate::front::first_front;
 use crate::same::is_same;
@@ -97,5 +97,18 @@ impl<'a> Cursor<'a> {
             front.take();
         }
         true
+    }
+
+    /// Takes a number, where one is next.
+    pub fn number(&mut self) -> Option<u128>
+        ensures { Gives result (number_at self.old) self.new }
+    {
+        match self.next() {
+            Some(Token::Digits(number)) => {
+                self.take();
+                Some(number)
+            }
+            _ => None,
+        }
     }
 }
