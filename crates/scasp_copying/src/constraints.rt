@@ -11,7 +11,7 @@ use crate::reading::{read, read_term};
 use scasp_list::Memory;
 use scasp_name::NameId;
 use scasp_num::{Coeff, Row, RowErr};
-use scasp_syntax::{Con, Duplicate, Term, Terms, VarList};
+use scasp_syntax::{Con, DeepCopy, Term, Terms, VarList};
 use scasp_unify::{Binding, resolved_row};
 use std::alloc::Global;
 
@@ -94,8 +94,8 @@ pub fn not_shaped(alloc: Global, term: &Term, name: NameId, arity: u64) -> Resul
         Term::Var(x) => Ok(Con::NotShape(*x, name, arity)),
         Term::Num(value) => Ok(Con::Eq(Term::Num(*value), Term::Num(*value))),
         Term::App(shape, args) => {
-            let left = term.duplicate(alloc)?;
-            let right = term.duplicate(alloc)?;
+            let left = term.copy(alloc)?;
+            let right = term.copy(alloc)?;
             if *shape == name && args.len() as u64 == arity {
                 Ok(Con::Neq(left, right))
             } else {

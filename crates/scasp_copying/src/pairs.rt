@@ -8,7 +8,7 @@ ghost use Rattle.scasp_successors.specs.Pairs.{all_pairs_of, from_first, pair, p
 use crate::reading::read;
 use scasp_list::Memory;
 use scasp_states::{Pair, Pairs};
-use scasp_syntax::{Duplicate, Term, Terms, copy};
+use scasp_syntax::{DeepCopy, Term, Terms, copy};
 use scasp_unify::Binding;
 use std::alloc::Global;
 

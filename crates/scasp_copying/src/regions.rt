@@ -5,7 +5,7 @@ ghost use Rattle.scasp_successors.specs.Regions.{asked_with, before, context, eq
 
 use scasp_list::Memory;
 use scasp_states::{Cover, Line, State, Task, Tasks};
-use scasp_syntax::{Con, Cons, Duplicate, Term};
+use scasp_syntax::{Con, Cons, DeepCopy, Term};
 use scasp_unify::Binding;
 use std::alloc::Global;
 
@@ -69,7 +69,7 @@ pub fn before(tasks: Tasks, state: State) -> Result<State, Memory>
 fn equation(alloc: Global, binding: &Binding) -> Result<Con, Memory>
     ensures { IfOk result (λ made. made ≡ equation binding.now) }
 {
-    Ok(Con::Eq(Term::Var(binding.x), binding.term.duplicate(alloc)?))
+    Ok(Con::Eq(Term::Var(binding.x), binding.term.copy(alloc)?))
 }
 
 fn equations(alloc: Global, bindings: &[Binding]) -> Result<Cons, Memory>
@@ -87,7 +87,7 @@ pub fn push_copies(alloc: Global, constraints: &[Con], list: &mut Cons) -> Resul
     ensures { OnOk result (list.new ≡ list.old ++ constraints.now) }
 {
     for constraint in constraints {
-        list.push(constraint.duplicate(alloc)?)?;
+        list.push(constraint.copy(alloc)?)?;
     }
     Ok(())
 }

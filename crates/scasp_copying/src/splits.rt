@@ -6,7 +6,7 @@ use crate::constraints::push_all_vars;
 use scasp_list::Memory;
 use scasp_name::NameId;
 use scasp_states::Parting;
-use scasp_syntax::{Con, Duplicate, Term, Terms, VarList, copy};
+use scasp_syntax::{Con, DeepCopy, Term, Terms, VarList, copy};
 use scasp_unify::Binding;
 use std::alloc::Global;
 
@@ -15,8 +15,8 @@ fn parting(alloc: Global, constraint: &Con, other: Con) -> Result<Parting, Memor
     ensures { IfOk result (λ made. made ≡ parting constraint.now other) }
 {
     Ok(Parting {
-        here: constraint.duplicate(alloc)?,
-        line: constraint.duplicate(alloc)?,
+        here: constraint.copy(alloc)?,
+        line: constraint.copy(alloc)?,
         there: other,
         parts_here: VarList::new(alloc),
         parts_there: VarList::new(alloc),
@@ -37,8 +37,8 @@ fn shape_parting(
     let mut vars = VarList::new(alloc);
     push_all_vars(parts, &mut vars)?;
     Ok(Parting {
-        here: constraint.duplicate(alloc)?,
-        line: constraint.duplicate(alloc)?,
+        here: constraint.copy(alloc)?,
+        line: constraint.copy(alloc)?,
         there: Con::NotShape(x, name, parts.len() as u64),
         parts_here: vars,
         parts_there: VarList::new(alloc),
