@@ -1,5 +1,5 @@
 -- The row 0 = 0.
-use Rattle.std.proofs.Common.{◌≡◌, pos, List, [], Option, None, Some, refl, ap, ◌∙◌}
+use Rattle.std.proofs.Common.{◌≡◌, pos, [], None, Some, refl, ap, ◌∙◌}
 use Rattle.scasp_num.specs.declared.linear.Op.TheVariants as op
 use Rattle.scasp_num.specs.Gcd.{gcd, gcd_within}
 use Rattle.scasp_num.specs.Number.{Number}

@@ -2,8 +2,7 @@
 --     item := ["not"] atom | term ("=" | "\=") term | expression relation expression
 -- An item that begins with a name is an atom, unless `=` or `\=` follows its term. One that begins with a variable or
 -- a number is an equation where one of these two follows the term, and else a comparison.
-use Rattle.std.specs.Prelude.{ℕ, ◌+◌, Bool, true, false, ◌&&◌, ◌||◌, pos, List, [], ◌∷◌, slice_get, if◌then◌else◌, Option, None, Some, option_map, is_some}
-use Rattle.scasp_num.specs.declared.linear.Op.{Op}
+use Rattle.std.specs.Prelude.{ℕ, ◌+◌, Bool, true, false, ◌&&◌, ◌||◌, pos, List, [], slice_get, if◌then◌else◌, Option, None, Some, option_map, is_some}
 use Rattle.scasp_num.specs.declared.linear.Op.TheVariants as op
 use Rattle.scasp_num.specs.Linear.{Linear}
 use Rattle.scasp_syntax.specs.Tm.{Tm, Tms, var, num, app, listed}

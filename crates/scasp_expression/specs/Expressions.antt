@@ -8,10 +8,10 @@ use Rattle.scasp_lexis.specs.declared.sign.Sign.TheVariants as sign
 use Rattle.scasp_lexis.specs.declared.token.Token.{Token}
 use Rattle.scasp_lexis.specs.declared.token.Token.TheVariants as token
 use Rattle.scasp_phrase.specs.declared.fault.Kind.TheVariants as kind
-use Rattle.scasp_phrase.specs.Steps.{State, Read, ◌>>=◌, give, stop_at, place_of, token_of, unexpected, take, taken, between}
+use Rattle.scasp_phrase.specs.Steps.{Read, ◌>>=◌, give, stop_at, place_of, token_of, unexpected, take, taken, between}
 use Rattle.scasp_phrase.specs.Names.{variable_at}
 use Rattle.scasp_phrase.specs.Constants.{number}
-use Rattle.scasp_phrase.specs.Terms.{inside, below}
+use Rattle.scasp_phrase.specs.Terms.{inside}
 use Rattle.scasp_expression.specs.declared.sums.Operation.{Operation}
 use Rattle.scasp_expression.specs.declared.sums.Operation.TheVariants as operation
 use Rattle.scasp_expression.specs.declared.values.Value.{Value}

@@ -1,15 +1,11 @@
 -- What is read of a text is well formed.
-use Rattle.std.proofs.Common.{◌≡◌, ℕ, zero, suc, ◌+◌, ◌≤◌, Bool, true, false, ◌&&◌, nat_le, nat_lt, if◌then◌else◌, List, [], ◌∷◌, ◌++◌, length, codes, Option, None, Some, Result, Ok, Err, refl, sym, ap, subst, ◌∙◌, length-append, arith}
+use Rattle.std.proofs.Common.{◌≡◌, ℕ, zero, suc, ◌+◌, Bool, true, false, nat_le, nat_lt, if◌then◌else◌, List, [], ◌∷◌, ◌++◌, length, codes, Option, None, Some, Result, Ok, Err, refl, sym, subst, length-append, arith}
 use Rattle.std.specs.List.{list_all}
 use Rattle.std.specs.Str.{bytes_eq}
 use Rattle.std.proofs.lemmas.Bool.{and_parts, and_from}
-use Rattle.scasp_name.specs.Texts.{with_text}
-use Rattle.scasp_syntax.specs.Tm.{Tm}
 use Rattle.scasp_syntax.specs.WellFormed.{is_item_below, is_head_below, is_clause_well_formed, is_query_well_formed, are_well_formed}
 use Rattle.scasp_syntax.specs.declared.atom.Atom.{Atom}
-use Rattle.scasp_syntax.specs.declared.clause.Clause.{Clause}
 use Rattle.scasp_syntax.specs.declared.clause.Item.{Item}
-use Rattle.scasp_syntax.specs.declared.clause.Query.{Query}
 use Rattle.scasp_lexis.specs.declared.sign.Sign.{Sign}
 use Rattle.scasp_lexis.specs.declared.sign.Sign.TheVariants as sign
 use Rattle.scasp_lexis.specs.declared.token.Token.{Token}
@@ -19,15 +15,15 @@ use Rattle.scasp_phrase.specs.declared.fault.Count.TheVariants as count
 use Rattle.scasp_phrase.specs.declared.fault.Fault.{Fault}
 use Rattle.scasp_phrase.specs.declared.fault.Kind.TheVariants as kind
 use Rattle.scasp_phrase.specs.Faults.{fault_at}
-use Rattle.scasp_phrase.specs.Steps.{State, Read, ◌>>=◌, give, stop_at, behind, place_of, token_of, start}
+use Rattle.scasp_phrase.specs.Steps.{State, ◌>>=◌, give, stop_at, behind, place_of, token_of, start}
 use Rattle.scasp_phrase.specs.Names.{interned}
 use Rattle.scasp_text.specs.declared.clauses.Part.{Part}
 use Rattle.scasp_text.specs.declared.clauses.Part.TheVariants as part
 use Rattle.scasp_text.specs.declared.texts.Parts.{Parts}
 use Rattle.scasp_text.specs.declared.texts.Reading.{Reading}
 use Rattle.scasp_text.specs.declared.texts.TheConstants.{BYTE_LIMIT, CLAUSE_LIMIT}
-use Rattle.scasp_text.specs.Clauses.{ended, with_body, headed, denial, name_of, named, query, clause_at_sign, clause_at, without_variables, clause}
-use Rattle.scasp_text.specs.Texts.{limited_clause, part_at, next_part, no_parts, part_count, with_part, is_end, parts_within, parts, settled, told, reading_of, read}
+use Rattle.scasp_text.specs.Clauses.{ended, with_body, headed, name_of, named, query, clause_at_sign, clause_at, without_variables, clause}
+use Rattle.scasp_text.specs.Texts.{part_at, next_part, no_parts, part_count, with_part, is_end, parts_within, parts, settled, told, reading_of, read}
 use Rattle.scasp_program.proofs.Keeping.{Post, Post_ok, Post_err, Post_then, Post_next, zero_least, Any, le_self, taken_keeps, expect_keeps, Lasts, AllOf, AllOf-lasts}
 use Rattle.scasp_program.proofs.TermKeeping.{AreBelow-lasts}
 use Rattle.scasp_program.proofs.ItemKeeping.{atom_keeps, IsAtom, IsItem, IsItem-lasts, body_keeps}

@@ -1,10 +1,10 @@
 -- The generated denials are well formed.
-use Rattle.std.proofs.Common.{◌≡◌, ℕ, zero, suc, ◌+◌, ◌≤◌, ◌<◌, Bool, true, false, ◌&&◌, List, [], ◌∷◌, ◌++◌, map, filter, refl, sym, ap, ◌∙◌, arith}
+use Rattle.std.proofs.Common.{◌≡◌, ℕ, zero, suc, ◌+◌, ◌≤◌, Bool, true, ◌&&◌, List, [], ◌∷◌, ◌++◌, map, filter, refl, ap, ◌∙◌, arith}
 use Rattle.std.specs.List.{list_all}
 use Rattle.std.proofs.lemmas.Bool.{and_parts, and_from, lt-ltb}
 use Rattle.scasp_syntax.specs.Denials.{variables_from, denial_of, generated_denials, with_denials}
 use Rattle.scasp_syntax.specs.Programs.{predicates_in}
-use Rattle.scasp_syntax.specs.Tm.{Tms, var, nil, cons, pushed}
+use Rattle.scasp_syntax.specs.Tm.{var, nil, cons, pushed}
 use Rattle.scasp_syntax.specs.WellFormed.{are_below, is_below, is_clause_well_formed, is_query_well_formed, are_well_formed}
 use Rattle.scasp_syntax.specs.declared.atom.Pred.{Pred}
 use Rattle.scasp_syntax.specs.declared.clause.Clause.{Clause}

@@ -1,5 +1,5 @@
 -- The items that are read are well formed, with the variables of their clause.
-use Rattle.std.proofs.Common.{◌≡◌, ℕ, zero, suc, ◌<◌, ◌≤◌, Bool, true, false, ◌&&◌, ◌||◌, nat_eq, nat_lt, if◌then◌else◌, List, [], ◌∷◌, ◌++◌, length, Option, None, Some, is_some, Result, Ok, Err, refl, sym, ap, subst, pos, arith}
+use Rattle.std.proofs.Common.{◌≡◌, ℕ, ◌<◌, ◌≤◌, Bool, true, false, ◌&&◌, nat_eq, nat_lt, if◌then◌else◌, List, [], ◌++◌, length, Option, None, Some, is_some, refl, sym, subst, arith}
 use Rattle.std.specs.Prelude.{option_and_then}
 use Rattle.std.specs.List.{Contains, list_all, list_any}
 use Rattle.std.proofs.lemmas.Bool.{and_parts, and_from, ltb-true, lt-ltb, eq-eqb}
@@ -22,7 +22,7 @@ use Rattle.scasp_lexis.specs.declared.sign.Sign.TheVariants as sign
 use Rattle.scasp_lexis.specs.declared.token.Token.{Token}
 use Rattle.scasp_lexis.specs.declared.token.Token.TheVariants as token
 use Rattle.scasp_phrase.specs.declared.fault.Kind.TheVariants as kind
-use Rattle.scasp_phrase.specs.Steps.{State, Read, ◌>>=◌, give, stop_at, unexpected, behind, place_of, token_of, separated}
+use Rattle.scasp_phrase.specs.Steps.{State, ◌>>=◌, give, stop_at, unexpected, behind, place_of, token_of}
 use Rattle.scasp_phrase.specs.Terms.{term, below}
 use Rattle.scasp_expression.specs.declared.sums.Sum.{Sum}
 use Rattle.scasp_expression.specs.declared.values.Value.{Value}
@@ -30,8 +30,8 @@ use Rattle.scasp_expression.specs.Sums.{row_of}
 use Rattle.scasp_expression.specs.Values.{united, made_at}
 use Rattle.scasp_body.specs.declared.atoms.TheConstants.{DEPTH_LIMIT}
 use Rattle.scasp_body.specs.declared.comparisons.Relation.{Relation}
-use Rattle.scasp_body.specs.Atoms.{atom_of, checked_atom, named_atom, atom_behind, atom}
-use Rattle.scasp_body.specs.Items.{term_of, call_of, equation_of, some_row, linear_of, equation_sign, relation, equation_behind, no_equation, term_behind, equation, call_behind, name_behind, named_item, literal, negative_item, row_between, right_side, relation_behind, comparison, begins_negation, begins_equation, unnamed_item, item_at_sign, item_at, item}
+use Rattle.scasp_body.specs.Atoms.{atom_of, checked_atom, atom_behind, atom}
+use Rattle.scasp_body.specs.Items.{term_of, call_of, equation_of, some_row, linear_of, equation_sign, relation, equation_behind, term_behind, equation, name_behind, named_item, literal, row_between, relation_behind, comparison, begins_negation, begins_equation, unnamed_item, item_at_sign, item_at, item}
 use Rattle.scasp_body.specs.Bodies.{counted_item, body}
 use Rattle.scasp_num.proofs.Kept.{normal_of-IsNormal}
 use Rattle.scasp_num.proofs.NormalTests.{normal-decided}

@@ -1,12 +1,12 @@
 -- What a step of a reader gives, where the variables of a clause only grow.
-use Rattle.std.proofs.Common.{◌≡◌, ℕ, zero, suc, ◌+◌, ◌<◌, ◌≤◌, Bool, true, false, if◌then◌else◌, List, [], ◌∷◌, ◌++◌, length, codes, Option, None, Some, Result, Ok, Err, refl, sym, ap, subst, ◌∙◌, length-append, arith}
+use Rattle.std.proofs.Common.{◌≡◌, ℕ, zero, suc, ◌+◌, ◌<◌, ◌≤◌, Bool, true, false, if◌then◌else◌, List, [], ◌∷◌, ◌++◌, length, codes, Option, None, Some, Result, Ok, Err, refl, ap, subst, length-append, arith}
 use Rattle.std.specs.List.{position_from}
 use Rattle.std.specs.Str.{bytes_eq}
 use Rattle.scasp_lexis.specs.declared.sign.Sign.{Sign}
 use Rattle.scasp_lexis.specs.declared.sign.Sign.TheVariants as sign
 use Rattle.scasp_phrase.specs.declared.fault.Fault.{Fault}
 use Rattle.scasp_phrase.specs.declared.fault.Kind.{Kind}
-use Rattle.scasp_phrase.specs.Steps.{State, Read, then_read, give, note, note_if, behind, token_of, is_sign, take, taken, expect, unexpected, set_list, between, series}
+use Rattle.scasp_phrase.specs.Steps.{State, Read, then_read, give, note_if, behind, token_of, is_sign, taken, expect, unexpected, between, series}
 use Rattle.scasp_phrase.specs.Names.{interned, known_variable, new_variable, with_variable, variable_at}
 
 -- Where something is given, the clause has at least n variables, and this holds of it at their number.

@@ -1,6 +1,6 @@
 -- The variables of sums and rows are among those that are written; and those ascend.
-use Rattle.std.proofs.Common.{◌≡◌, ℕ, ◌<◌, ◌≤◌, Bool, true, false, cond, if◌then◌else◌, ◌==◌, nat_lt, List, [], ◌∷◌, ◌++◌, length, map, Option, None, Some, ℤ, pos, int_div, refl, sym, ap, subst, ◌⊎◌, inl, inr, arith}
-use Rattle.std.specs.List.{Contains, filter, list_all, list_any}
+use Rattle.std.proofs.Common.{◌≡◌, ℕ, ◌<◌, Bool, true, false, cond, if◌then◌else◌, ◌==◌, nat_lt, List, [], ◌∷◌, ◌++◌, length, Option, None, Some, ℤ, pos, int_div, refl, subst, inl, inr, arith}
+use Rattle.std.specs.List.{Contains, filter, list_all}
 use Rattle.std.proofs.lemmas.Bool.{and_from, ltb-true, ltb-false, lt-ltb}
 use Rattle.std.proofs.lemmas.List.Elements.{Contains-append_left, Contains-append_right}
 use Rattle.scasp_list.specs.Each.{Each}
@@ -10,7 +10,7 @@ use Rattle.scasp_num.specs.declared.linear.Coeff.{Coeff}
 use Rattle.scasp_num.specs.declared.linear.Op.{Op}
 use Rattle.scasp_num.specs.declared.linear.RatPair.{RatPair}
 use Rattle.scasp_num.specs.Number.{Number}
-use Rattle.scasp_num.specs.Arithmetic.{◌>>=◌, lowest, sum_of, negation_of, difference_of}
+use Rattle.scasp_num.specs.Arithmetic.{◌>>=◌, lowest, sum_of, difference_of}
 use Rattle.scasp_num.specs.Linear.{Linear, is_zero, shares, normal_form, negated_if, divisor, is_negated}
 use Rattle.scasp_num.specs.Sums.{added, summed, multiple, whole, whole_number, normal_of}
 use Rattle.scasp_syntax.specs.WellFormed.{ascends}

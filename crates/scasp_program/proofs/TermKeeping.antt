@@ -1,5 +1,5 @@
 -- The variables of a term that is read are among the clause's.
-use Rattle.std.proofs.Common.{◌≡◌, ℕ, zero, suc, ◌≤◌, Bool, true, false, if◌then◌else◌, List, [], ◌∷◌, length, Option, None, Some, Result, Ok, Err, refl, arith}
+use Rattle.std.proofs.Common.{◌≡◌, ℕ, zero, suc, ◌≤◌, Bool, true, false, if◌then◌else◌, List, [], ◌∷◌, length, Option, None, Some, refl, arith}
 use Rattle.std.proofs.lemmas.Bool.{and_parts, and_from, ltb-true, lt-ltb}
 use Rattle.scasp_num.specs.Number.{Number}
 use Rattle.scasp_syntax.specs.Tm.{Tm, Tms, var, num, app, nil, cons, listed}
@@ -8,12 +8,12 @@ use Rattle.scasp_lexis.specs.declared.sign.Sign.{Sign}
 use Rattle.scasp_lexis.specs.declared.sign.Sign.TheVariants as sign
 use Rattle.scasp_lexis.specs.declared.token.Token.{Token}
 use Rattle.scasp_lexis.specs.declared.token.Token.TheVariants as token
-use Rattle.scasp_phrase.specs.Steps.{State, Read, give, stop_at, behind, place_of, token_of, is_sign, between}
+use Rattle.scasp_phrase.specs.Steps.{State, Read, give, stop_at, behind, place_of, token_of, is_sign}
 use Rattle.scasp_name.specs.Texts.{with_text}
 use Rattle.scasp_phrase.specs.declared.fault.Kind.TheVariants as kind
 use Rattle.scasp_phrase.specs.Constants.{noted_number, number_of, number, is_zero_number, quotient_at, divided, number_term, constant}
 use Rattle.scasp_phrase.specs.Terms.{inside, one_more, several, arguments_in, arguments, compound, list_of, elements, elements_if, list_in, variable_term, term_at_sign, term_at, term_with, term, below}
-use Rattle.scasp_program.proofs.Keeping.{Post, Post_ok, Post_err, Post_then, Any, le_self, taken_keeps, note_if_keeps, interned_keeps, Below, variable_at_keeps, Lasts, between_keeps, AllOf, AllOf-lasts, series_keeps}
+use Rattle.scasp_program.proofs.Keeping.{Post, Post_ok, Post_err, Post_then, Any, le_self, taken_keeps, note_if_keeps, Below, variable_at_keeps, Lasts, between_keeps, AllOf, AllOf-lasts, series_keeps}
 
 -- each variable of the term is below n
 abbrev pub IsBelow : ℕ → Tm → Type 0

@@ -1,5 +1,5 @@
 -- The variables of an expression that is read: they ascend, are among the clause's, and hold those of its sum.
-use Rattle.std.proofs.Common.{◌≡◌, ℕ, zero, suc, ◌<◌, ◌≤◌, Bool, true, false, if◌then◌else◌, List, [], ◌∷◌, length, Option, None, Some, option_map, Result, Ok, Err, refl, sym, subst, arith}
+use Rattle.std.proofs.Common.{◌≡◌, ℕ, zero, suc, ◌<◌, Bool, true, false, if◌then◌else◌, List, [], ◌∷◌, length, Option, None, Some, option_map, Ok, refl, subst, arith}
 use Rattle.std.specs.List.{Contains}
 use Rattle.scasp_list.specs.Each.{Each}
 use Rattle.scasp_list.proofs.EachLemmas.{Each-map}
@@ -17,7 +17,7 @@ use Rattle.scasp_expression.specs.declared.sums.Sum.{Sum}
 use Rattle.scasp_expression.specs.declared.values.Value.{Value}
 use Rattle.scasp_expression.specs.Sums.{constant_sum, variable_sum, negated_sum, worked}
 use Rattle.scasp_expression.specs.Values.{united, value_of, is_linear, made_at, combined, not_linear, operated, negated}
-use Rattle.scasp_expression.specs.Expressions.{variable_value, variable_factor, number_factor, bracket_in, factor_at_sign, factor_at, factor, operation_behind, repeated, factor_operation, product_operation, product, expression_with, expression}
+use Rattle.scasp_expression.specs.Expressions.{variable_value, bracket_in, factor_at_sign, factor_at, factor, operation_behind, repeated, factor_operation, product_operation, product, expression_with, expression}
 use Rattle.scasp_program.proofs.Keeping.{Post, Post_ok, Post_err, Post_then, Any, le_self, taken_keeps, note_if_keeps, Below, variable_at_keeps, Lasts, between_keeps}
 use Rattle.scasp_program.proofs.TermKeeping.{number_keeps}
 use Rattle.scasp_program.proofs.SumKeeping.{Ascending, united-Ascending, united-Each, united-left, united-right, Pairs, negated-Pairs, worked-Pairs, variable_sum-Pairs}

@@ -1,7 +1,7 @@
 -- Parts of a text: the end, one more, or a stop.
-use Rattle.std.proofs.Common.{◌≡◌, ℕ, zero, suc, ◌-◌, ◌<◌, Bool, true, false, List, [], length, Option, None, Some, Result, Ok, Err, refl, sym, ap, ◌∙◌, arith}
+use Rattle.std.proofs.Common.{◌≡◌, ℕ, zero, suc, ◌-◌, ◌<◌, true, false, length, Ok, Err, refl, sym, ap, arith}
 use Rattle.scasp_phrase.specs.declared.fault.Fault.{Fault}
-use Rattle.scasp_phrase.specs.Steps.{Read, State}
+use Rattle.scasp_phrase.specs.Steps.{State}
 use Rattle.scasp_text.specs.declared.clauses.Part.{Part}
 use Rattle.scasp_text.specs.declared.texts.Parts.{Parts}
 use Rattle.scasp_text.specs.Texts.{next_part, no_parts, part_count, with_part, is_end, parts_within, parts}

@@ -1,6 +1,6 @@
 -- Clauses, queries and directives.
 --     clause := atom [":-" body] "." | ":-" body "." | "?-" body "."
-use Rattle.std.specs.Prelude.{ℕ, List, [], ◌∷◌, ◌++◌, length, codes, if◌then◌else◌, Option, None, Some, Ok}
+use Rattle.std.specs.Prelude.{ℕ, List, [], ◌∷◌, ◌++◌, length, codes, if◌then◌else◌, Option, None, Some}
 use Rattle.std.specs.Str.{bytes_eq}
 use Rattle.scasp_syntax.specs.declared.atom.Atom.{Atom}
 use Rattle.scasp_syntax.specs.declared.clause.Item.{Item}

@@ -1,5 +1,5 @@
 -- Whole texts, computed: those that are refused, by place and kind, and one that is read.
-use Rattle.std.specs.Prelude.{◌≡◌, ℕ, true, false, List, [], ◌∷◌, codes, None, Some, Result, Ok, Err}
+use Rattle.std.specs.Prelude.{◌≡◌, ℕ, true, false, List, [], ◌∷◌, codes, None, Some, Ok, Err}
 use Rattle.std.proofs.Common.{refl}
 use Rattle.scasp_num.specs.Gcd.{gcd, gcd_within}
 use Rattle.scasp_num.specs.Arithmetic.{lowest}

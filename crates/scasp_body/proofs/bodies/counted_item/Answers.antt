@@ -1,4 +1,4 @@
-use Rattle.std.proofs.Common.{◌≡◌, ◌++◌, [], ◌∷◌, sym, ap, ◌∙◌}
+use Rattle.std.proofs.Common.{◌++◌, [], ◌∷◌, sym, ap, ◌∙◌}
 use Rattle.scasp_phrase.specs.declared.fault.Count.TheVariants as count
 use Rattle.scasp_phrase.specs.declared.fault.Kind.TheVariants as kind
 use Rattle.scasp_phrase.specs.Steps.{note_if, place_of}

@@ -1,8 +1,7 @@
-use Rattle.std.proofs.Common.{◌≡◌, pos, [], Some, None, sym, ap, ◌∙◌}
+use Rattle.std.proofs.Common.{◌≡◌, Some, None, ap}
 use Rattle.scasp_num.specs.declared.linear.Op.TheVariants as op
-use Rattle.scasp_num.specs.Arithmetic.{lowest}
 use Rattle.scasp_num.specs.Sums.{normal_of}
-use Rattle.scasp_body.proofs.ZeroRow.{zero_row-is, zero-is}
+use Rattle.scasp_body.proofs.ZeroRow.{zero_row-is}
 use Rattle.scasp_body.proofs.comparisons.zero_row.Goals as goal
 
 pub returns-in-Ok-normal : goal.returns-in-Ok-normal

@@ -1,10 +1,10 @@
-use Rattle.std.proofs.Common.{◌≡◌, Some, Ok, Err, sym, ap, ◌∙◌}
+use Rattle.std.proofs.Common.{◌≡◌, Some, Err, sym, ap, ◌∙◌}
 use Rattle.std.proofs.lemmas.Result.{err_from_is_err_and}
 use Rattle.scasp_phrase.specs.Steps.{place_of, token_of}
 use Rattle.scasp_phrase.specs.Terms.{below}
-use Rattle.scasp_expression.specs.Values.{operated, negated}
+use Rattle.scasp_expression.specs.Values.{operated}
 use Rattle.scasp_expression.specs.Expressions.{operation_behind, chain, factor_operation, product_operation, factor, product, expression}
-use Rattle.scasp_expression.proofs.ChainLemmas.{repeated_none, repeated_more, repeated_stops, Does_on, Does_stops, operation_on, expression_on, expression_stops}
+use Rattle.scasp_expression.proofs.ChainLemmas.{repeated_stops, Does_on, Does_stops, operation_on, expression_on, expression_stops}
 use Rattle.scasp_expression.proofs.expressions.+expression.Goals as goal
 
 pub expression-returns : goal.expression-returns

@@ -1,4 +1,4 @@
-use Rattle.std.proofs.Common.{◌≡◌, ap, sym, ◌∙◌}
+use Rattle.std.proofs.Common.{ap, sym, ◌∙◌}
 use Rattle.scasp_syntax.specs.Tm.{var, pushed}
 use Rattle.scasp_program.proofs.DenialLemmas.{variables-push}
 use Rattle.scasp_program.proofs.denials.variables.Goals as goal

@@ -1,8 +1,6 @@
-use Rattle.std.proofs.Common.{◌≡◌, ◌-◌, Ok, Err, sym, ap, ◌∙◌}
-use Rattle.std.proofs.lemmas.Result.{err_from_is_err_and}
-use Rattle.scasp_expression.proofs.ChainLemmas.{Does_stops}
-use Rattle.scasp_text.specs.Texts.{next_part, part_count, with_part, parts_within, parts}
-use Rattle.scasp_text.proofs.PartLemmas.{parts_last, parts_more, parts_stops}
+use Rattle.std.proofs.Common.{◌-◌, sym, ap, ◌∙◌}
+use Rattle.scasp_text.specs.Texts.{next_part, parts_within}
+use Rattle.scasp_text.proofs.PartLemmas.{parts_more}
 use Rattle.scasp_text.proofs.texts.all_parts.Goals as goal
 
 pub loop-left-preserved : goal.loop-left-preserved
