@@ -14,19 +14,38 @@ pub enum Line {
         children: u64,
     },
     /// A negated literal, and how many rules stand below it.
-    Neg { atom: Atom, rules: u64 },
+    Neg {
+        atom: Atom,
+        rules: u64,
+    },
     /// The literal repeats one that it stands below.
-    Loop { lit: Lit, literal: u64 },
+    Loop {
+        lit: Lit,
+        literal: u64,
+    },
     /// The literal repeats one that is done.
-    Seen { lit: Lit, literal: u64 },
+    Seen {
+        lit: Lit,
+        literal: u64,
+    },
     /// A constraint that holds.
     Test(Con),
     /// A rule under a negated literal with this atom, whose variables are numbered from `first` on.
-    Rule { atom: Atom, rule: u64, first: u64 },
+    Rule {
+        atom: Atom,
+        rule: u64,
+        first: u64,
+    },
     /// A clause that is checked.
-    Check { clause: u64, first: u64 },
+    Check {
+        clause: u64,
+        first: u64,
+    },
     /// A case parted by a constraint, as it stood then, with the new variables for the parts of a shape.
-    Split { constraint: Con, parts: VarList },
+    Split {
+        constraint: Con,
+        parts: VarList,
+    },
     /// A case that cannot be.
     Void,
     /// The item of this number, from 1, is false in the case, and those before it are true.

@@ -57,9 +57,15 @@ pub enum Task {
         aim: Aim,
     },
     /// The rule is not to give the atom.
-    Cover { atom: Atom, rule: u64 },
+    Cover {
+        atom: Atom,
+        rule: u64,
+    },
     /// The clause is to be met, and in each case its head may be called at the end.
-    Check { clause: u64, checks_head: bool },
+    Check {
+        clause: u64,
+        checks_head: bool,
+    },
     /// The cases of the clause begin; its variables are numbered from `first` on.
     Begin {
         clause: u64,

@@ -183,9 +183,11 @@ becomes_number_more sat x q s r h = by (is_universal r x)
   where
     weaker : (t : State) → size r < size t → size s < size t
     weaker t k = omega (arith, h, k)
+
     all_weaker : (ts : List State) → EachState (λ t. size r < size t) ts → EachState (λ t. size s < size t) ts
     all_weaker [] k = tt
     all_weaker (t ∷ ts) k = (weaker t k.0, all_weaker ts k.1)
+
     by : (b : Bool) → EachState (λ t. size s < size t) (if b then replaced_if sat r x (num q) else bound_if sat (bind r x (num q))).states
     by true = all_weaker (replaced_if sat r x (num q)).states (replaced_if_more sat r x (num q))
     by false = bound_if_more sat s (bind r x (num q)) (weaker (bind r x (num q)) (bind_more r x (num q)))
@@ -200,11 +202,14 @@ becomes_shape_more sat s x f n = by (is_universal s x)
   where
     t : Tm
     t = app f (new_parts (next_variable s) n)
+
     wider : (kind : Kind) (r : State) → size (with_new s kind (depth_of s x) n) < size r → size s < size r
     wider kind r k = omega (arith, with_new_more s kind (depth_of s x) n, k)
+
     all_wider : (kind : Kind) (ts : List State) → EachState (λ r. size (with_new s kind (depth_of s x) n) < size r) ts → EachState (λ r. size s < size r) ts
     all_wider kind [] k = tt
     all_wider kind (r ∷ rs) k = (wider kind r k.0, all_wider kind rs k.1)
+
     by : (b : Bool) → EachState (λ r. size s < size r) (if b then replaced_if sat (with_new s Universal (depth_of s x) n) x t else bound_if sat (bind (with_new s Existential (depth_of s x) n) x t)).states
     by true = all_wider Universal (replaced_if sat (with_new s Universal (depth_of s x) n) x t).states (replaced_if_more sat (with_new s Universal (depth_of s x) n) x t)
     by false = bound_if_more sat s (bind (with_new s Existential (depth_of s x) n) x t) (wider Existential (bind (with_new s Existential (depth_of s x) n) x t) (bind_more (with_new s Existential (depth_of s x) n) x t))
@@ -289,6 +294,7 @@ differ_shape_falls sat s x f ts rest aim = by (occurs_among x ts)
   where
     c : Con
     c = con.NotShape x f (length (items ts))
+
     by : (b : Bool) → EachState (Falls 5 s) (if b then goes (before (when_apart aim) s) else at_part sat s c aim (task.Shape x f ts rest aim ∷ [])).states
     by true = (apart_falls 5 (omega arith) s aim, tt)
     by false = alternatives_fall 5 (omega arith) s c aim (task.Shape x f ts rest aim ∷ []) (weighs_less (omega arith) (omega arith)) (status sat s c)
@@ -410,6 +416,7 @@ close_keeps_work p sat s e = by s.covers e
     by_waiting : (c : Cover) (cs : List Cover) (rs : List Remainder) → is_waiting rs ≡ false → EachState (λ t. t.work ≡ s.work) (after_case p sat s c cs rs).states
     by_waiting c cs [] h = (refl, tt)
     by_waiting c cs (r ∷ rs) h = absurd (cc h)
+
     by : (cs : List Cover) → waits cs ≡ false → EachState (λ t. t.work ≡ s.work) (close_case p sat s cs).states
     by [] h = tt
     by (c ∷ cs) h = by_waiting c cs c.waiting h

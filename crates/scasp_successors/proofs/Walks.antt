@@ -38,7 +38,7 @@ at-answer None budget calls may rest p = record { calls = p; all = λ e. absurd 
 within : {S A : Type 0} (answer : Option (Option A)) (pays over : Bool) (budget calls : ℕ) (may now : Bool) (left : Option A → List S) (here : List S) (later : Option (Found S A)) (found : Found S A)
     → calls ≤ budget → nat_eq calls budget ≡ over
     → pick answer (pays && over) (λ a. record { event = outcome_of a; calls = calls; may = may; rest = left a })
-      (record { event = spent; calls = calls; may = now; rest = here }) later ≡ Some found
+    (record { event = spent; calls = calls; may = now; rest = here }) later ≡ Some found
     → ((calls + cost pays) ≤ budget → later ≡ Some found → IsWithin budget found) → IsWithin budget found
 within (Some a) pays over budget calls may now left here later found p q h next =
     let e : record { event = outcome_of a; calls = calls; may = may; rest = left a } ≡ found = cc h in

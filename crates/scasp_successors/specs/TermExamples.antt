@@ -165,7 +165,7 @@ opposites_are_apart : events (problem even []) ask_two 60 1
             sample = nil;
             trees =
                 pos_tree (p (var 0)) 1 (one (var 0))
-                    (listed (neg_tree (q (var 0)) (covering ((2, leaf 1 (listed (loop_tree (is_true (p (var 0))) 1 ∷ []))) ∷ [])) ∷ []))
+                (listed (neg_tree (q (var 0)) (covering ((2, leaf 1 (listed (loop_tree (is_true (p (var 0))) 1 ∷ []))) ∷ [])) ∷ []))
                 ∷ neg_tree (p (var 1))
                 (covering
                 ((
