@@ -587,9 +587,7 @@ fn has_terms(row: &Row, terms: &[(u64, i128)]) -> bool {
 /// Whether the answer is the row, or Overflow where none is wanted.
 fn is_wanted(answer: &Result<Row, RowErr>, op: Op, want: &Option<(Terms, i128)>) -> bool {
     match (answer, want) {
-        (Ok(row), Some((terms, constant))) => {
-            has_terms(row, terms) && row.constant() == *constant && row.op() == op
-        }
+        (Ok(row), Some((terms, constant))) => is_row(row, terms, *constant, op),
         (Err(RowErr::Overflow), None) => true,
         _ => false,
     }
@@ -631,30 +629,46 @@ fn changes(rt: HostRuntime) -> Result<(), Fail> {
     Ok(())
 }
 
-/// The row `V1+6 #=< 0`, its negation `-V1-6 #< 0` and the row `V1+6 #< 0`; and lists, by all that they have.
+/// The row `V1+6 #=< 0`.
+fn low(alloc: Global) -> Result<Row, Fail> {
+    let given = pairs(alloc, &[(1, (1, 1))])?;
+    Ok(Row::normal(alloc, &given, &number((6, 1))?, Op::Le)?)
+}
+
+fn is_row(row: &Row, terms: &[(u64, i128)], constant: i128, op: Op) -> bool {
+    has_terms(row, terms) && row.constant() == constant && row.op() == op
+}
+
+/// The negation `-V1-6 #< 0` and the row `V1+6 #< 0`.
 #[test]
-fn negation_and_lists(rt: HostRuntime) -> Result<(), Fail> {
-    let given = pairs(rt.alloc(), &[(1, (1, 1))])?;
-    let row = Row::normal(rt.alloc(), &given, &number((6, 1))?, Op::Le)?;
-    let negation = row.negate()?;
-    assert!(rt;
-        has_terms(&negation, &[(1, -1)]) && negation.constant() == -6 && negation.op() == Op::Lt
-    );
-    let below = row.compared(Op::Lt)?;
-    assert!(rt; has_terms(&below, &[(1, 1)]) && below.constant() == 6 && below.op() == Op::Lt);
+fn negations(rt: HostRuntime) -> Result<(), Fail> {
+    let row = low(rt.alloc())?;
+    assert!(rt; is_row(&row.negate()?, &[(1, -1)], -6, Op::Lt));
+    assert!(rt; is_row(&row.compared(Op::Lt)?, &[(1, 1)], 6, Op::Lt));
+    Ok(())
+}
+
+#[test]
+fn lists_of_rows(rt: HostRuntime) -> Result<(), Fail> {
     let mut rows = Rows::new(rt.alloc());
-    rows.push(row)?;
-    rows.push(negation)?;
+    rows.push(low(rt.alloc())?)?;
+    rows.push(low(rt.alloc())?)?;
     assert_eq!(rt; rows.len(), 2);
-    let step = Step {
-        a: 1,
-        p: 1,
-        b: -2,
-        q: 2,
-    };
+    Ok(())
+}
+
+static STEP: Step = Step {
+    a: 1,
+    p: 1,
+    b: -2,
+    q: 2,
+};
+
+#[test]
+fn lists_of_steps(rt: HostRuntime) -> Result<(), Fail> {
     let mut steps = Steps::new(rt.alloc());
-    steps.push(step)?;
-    assert!(rt; steps.get(0) == Some(&step) && steps.get(1).is_none());
+    steps.push(STEP)?;
+    assert!(rt; steps.get(0) == Some(&STEP) && steps.get(1).is_none());
     let mut lists = StepLists::new(rt.alloc());
     lists.push(steps)?;
     assert_eq!(rt; lists.len(), 1);
