@@ -4,24 +4,20 @@ use scasp_phrase::{Count, Fault, Kind, Stop};
 use scasp_program::read_program;
 use scasp_text::read_text;
 use std::alloc::Global;
-use std::process::Abort;
 use std::test::Fail;
 
 type Outcome = Result<(usize, usize), (u64, Kind)>;
 
-fn outcome(rt: &impl Abort, alloc: Global, bytes: &[u8]) -> Result<Outcome, Fail> {
+fn outcome(alloc: Global, bytes: &[u8]) -> Result<Outcome, Fail> {
     let names = Names::new(alloc)?;
     match read_text(alloc, bytes, names) {
         Ok(reading) => Ok(Ok((reading.clauses.len(), reading.queries.len()))),
         Err(Stop::At(Fault { at, kind })) => Ok(Err((at, kind))),
-        Err(Stop::Memory) => {
-            assert!(rt; false);
-            Ok(Ok((0, 0)))
-        }
+        Err(Stop::Memory) => Err(Fail::from("want of memory")),
     }
 }
 
-const READ: [(&str, usize, usize); 10] = [
+static READ: [(&str, usize, usize); 10] = [
     ("", 0, 0),
     ("p. % no more", 1, 0),
     ("#show p/0. p(is) :- 'not'.", 1, 0),
@@ -38,7 +34,7 @@ const READ: [(&str, usize, usize); 10] = [
     ("?-p.?-q.r.", 1, 2),
 ];
 
-const REFUSED: [(&str, u64, Kind); 40] = [
+static REFUSED: [(&str, u64, Kind); 40] = [
     ("p('ab", 2, Kind::Unclosed),
     ("p :- /* x", 5, Kind::Unclosed),
     ("#show p/1", 0, Kind::Unclosed),
@@ -95,18 +91,18 @@ const REFUSED: [(&str, u64, Kind); 40] = [
 
 #[test]
 fn texts_are_read(rt: HostRuntime) -> Result<(), Fail> {
-    for (text, clauses, queries) in READ {
-        let read = outcome(&rt, rt.alloc(), text.as_bytes())?;
-        assert_eq!(rt; read, Ok((clauses, queries)), "{text}");
+    for (text, clauses, queries) in &READ {
+        let read = outcome(rt.alloc(), text.as_bytes())?;
+        assert!(rt; read == Ok((*clauses, *queries)));
     }
     Ok(())
 }
 
 #[test]
 fn texts_are_refused(rt: HostRuntime) -> Result<(), Fail> {
-    for (text, at, kind) in REFUSED {
-        let read = outcome(&rt, rt.alloc(), text.as_bytes())?;
-        assert_eq!(rt; read, Err((at, kind)), "{text}");
+    for (text, at, kind) in &REFUSED {
+        let read = outcome(rt.alloc(), text.as_bytes())?;
+        assert!(rt; read == Err((*at, *kind)));
     }
     Ok(())
 }
@@ -122,70 +118,86 @@ fn built(alloc: Global, front: &str, piece: &str, count: u64, back: &str) -> Res
     Ok(text)
 }
 
+/// Texts with pieces repeated at both ends of each limit, and what is read.
+static LIMITS: [(&str, &str, u64, &str, Outcome); 12] = [
+    ("p :- ", "q,", 63, "q.", Ok((1, 0))),
+    (
+        "p :- ",
+        "q,",
+        64,
+        "q.",
+        Err((133, Kind::Limit(Count::Items))),
+    ),
+    ("p([", "_,", 63, "_]).", Ok((1, 0))),
+    (
+        "p([",
+        "_,",
+        64,
+        "_]).",
+        Err((131, Kind::Limit(Count::Variables))),
+    ),
+    ("p(", "a,", 31, "a).", Ok((1, 0))),
+    ("p(", "a,", 32, "a).", Err((66, Kind::Limit(Count::Arity)))),
+    ("", "p.", 10_000, "", Ok((10_000, 0))),
+    (
+        "",
+        "p.",
+        10_000,
+        "q.",
+        Err((20_000, Kind::Limit(Count::Clauses))),
+    ),
+    ("p.", " ", 4_194_302, "", Ok((1, 0))),
+    (
+        "p.",
+        " ",
+        4_194_303,
+        "",
+        Err((4_194_304, Kind::Limit(Count::Bytes))),
+    ),
+    ("p(", "f(", 199, "a", Err((401, Kind::Expected))),
+    ("p(", "f(", 200, "a", Err((401, Kind::Limit(Count::Depth)))),
+];
+
+fn limited(
+    alloc: Global,
+    front: &str,
+    piece: &str,
+    count: u64,
+    back: &str,
+) -> Result<Outcome, Fail> {
+    let text = built(alloc, front, piece, count, back)?;
+    outcome(alloc, text.as_slice())
+}
+
 #[test]
 fn limits_are_met(rt: HostRuntime) -> Result<(), Fail> {
-    let alloc = rt.alloc();
-    let rows: [(&str, &str, u64, &str, Outcome); 12] = [
-        ("p :- ", "q,", 63, "q.", Ok((1, 0))),
-        (
-            "p :- ",
-            "q,",
-            64,
-            "q.",
-            Err((133, Kind::Limit(Count::Items))),
-        ),
-        ("p([", "_,", 63, "_]).", Ok((1, 0))),
-        (
-            "p([",
-            "_,",
-            64,
-            "_]).",
-            Err((131, Kind::Limit(Count::Variables))),
-        ),
-        ("p(", "a,", 31, "a).", Ok((1, 0))),
-        ("p(", "a,", 32, "a).", Err((66, Kind::Limit(Count::Arity)))),
-        ("", "p.", 10_000, "", Ok((10_000, 0))),
-        (
-            "",
-            "p.",
-            10_000,
-            "q.",
-            Err((20_000, Kind::Limit(Count::Clauses))),
-        ),
-        ("p.", " ", 4_194_302, "", Ok((1, 0))),
-        (
-            "p.",
-            " ",
-            4_194_303,
-            "",
-            Err((4_194_304, Kind::Limit(Count::Bytes))),
-        ),
-        ("p(", "f(", 199, "a", Err((401, Kind::Expected))),
-        ("p(", "f(", 200, "a", Err((401, Kind::Limit(Count::Depth)))),
-    ];
-    for (front, piece, count, back, wanted) in rows {
-        let text = built(alloc, front, piece, count, back)?;
-        let read = outcome(&rt, alloc, text.as_slice())?;
-        assert_eq!(rt; read, wanted, "{front}{piece}");
+    for (front, piece, count, back, wanted) in &LIMITS {
+        let read = limited(rt.alloc(), front, piece, *count, back)?;
+        assert!(rt; read == *wanted);
     }
     Ok(())
 }
 
+/// Programs, and how many clauses they have with their denials, and how many queries.
+static PROGRAMS: [(&str, usize, usize); 5] = [
+    ("p :- q. ?- p.", 1, 1),
+    ("p :- q, not -r(X). -q. ?- p.", 4, 1),
+    ("-p. ?- -p.", 2, 1),
+    ("p. ?- not -s(a).", 2, 1),
+    ("-p(X) :- -p(X), -p(X,Y). ?- -p(a).", 3, 1),
+];
+
+/// How many clauses and queries the program of the text has.
+fn counts(alloc: Global, text: &str) -> Result<(usize, usize), Fail> {
+    let names = Names::new(alloc)?;
+    let (program, _) = read_program(alloc, text.as_bytes(), names)?;
+    Ok((program.clauses.len(), program.queries.len()))
+}
+
 #[test]
 fn programs_have_their_denials(rt: HostRuntime) -> Result<(), Fail> {
-    let alloc = rt.alloc();
-    let rows: [(&str, usize, usize); 5] = [
-        ("p :- q. ?- p.", 1, 1),
-        ("p :- q, not -r(X). -q. ?- p.", 4, 1),
-        ("-p. ?- -p.", 2, 1),
-        ("p. ?- not -s(a).", 2, 1),
-        ("-p(X) :- -p(X), -p(X,Y). ?- -p(a).", 3, 1),
-    ];
-    for (text, clauses, queries) in rows {
-        let names = Names::new(alloc)?;
-        let (program, _names) = read_program(alloc, text.as_bytes(), names)?;
-        assert_eq!(rt; program.clauses.len(), clauses, "{text}");
-        assert_eq!(rt; program.queries.len(), queries, "{text}");
+    for (text, clauses, queries) in &PROGRAMS {
+        assert_eq!(rt; counts(rt.alloc(), text)?, (*clauses, *queries));
     }
     Ok(())
 }
