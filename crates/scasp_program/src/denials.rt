@@ -29,8 +29,8 @@ fn call(alloc: Global, pred: Pred, minus: bool) -> Result<Item, Memory>
     Ok(Item::Call(Lit { positive, atom }))
 }
 
-/// The denial that keeps a predicate apart from its negation.
-fn denial_of(alloc: Global, pred: Pred) -> Result<Clause, Memory>
+/// The denial that keeps a predicate apart from its negation: `:- p(V0, ..), -p(V0, ..).`
+pub fn denial_of(alloc: Global, pred: Pred) -> Result<Clause, Memory>
     ensures { IfOk result (λ clause. clause ≡ denial_of pred) }
 {
     let mut body = Items::new(alloc);
