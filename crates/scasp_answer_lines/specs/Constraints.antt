@@ -1,5 +1,5 @@
 -- Reading constraints.
-use Rattle.std.specs.Prelude.{ℕ, nat_lt, List, [], ◌∷◌, codes, None, if◌then◌else◌, ◌&&◌}
+use Rattle.std.specs.Prelude.{ℕ, nat_lt, List, [], ◌∷◌, codes, None, Some, if◌then◌else◌, ◌&&◌}
 use Rattle.scasp_num.specs.Arithmetic.{◌>>=◌}
 use Rattle.scasp_syntax.specs.Tm.{Tm, var, num, app, nil}
 use Rattle.scasp_syntax.specs.declared.term.Term.{Term}
@@ -9,7 +9,7 @@ use Rattle.scasp_syntax.specs.declared.con.Con.TheVariants as con
 use Rattle.scasp_num.specs.Linear.{Linear}
 use Rattle.scasp_answer_lines.specs.Bounds.{is_place, is_count, row_fits}
 use Rattle.scasp_answer_lines.specs.Tokens.{Token, variable}
-use Rattle.scasp_answer_lines.specs.Readers.{Parsed, keyed, both, between, any_of, only, number_at}
+use Rattle.scasp_answer_lines.specs.Readers.{Parsed, past_text, made, keyed, both, until, any_of, only, number_at}
 use Rattle.scasp_answer_lines.specs.Names.{name_at}
 use Rattle.scasp_answer_lines.specs.Terms.{unfit, term_at}
 use Rattle.scasp_answer_lines.specs.Rows.{row_at}
@@ -33,9 +33,12 @@ shape_con x s = if is_place x && is_count s.1 then con.NotShape x s.0 s.1 else u
 abbrev pub shape_at : (List ℕ → ℕ) → List Token → Parsed (ℕ × ℕ)
 shape_at place = both (name_at place) (codes "/") (only (λ n. nat_lt 0 n) number_at)
 
--- `V0 \= f/2`
+-- what stands behind the variable of `V0 \= f/2`
+abbrev pub behind_variable : (List ℕ → ℕ) → ℕ → List Token → Parsed Con
+behind_variable place x = keyed (codes " \\= ") (shape_at place) (shape_con x)
+
 abbrev pub not_shape_at : (List ℕ → ℕ) → List Token → Parsed Con
-not_shape_at place (variable x ∷ ts) = keyed (codes " \\= ") (shape_at place) (shape_con x) ts
+not_shape_at place (variable x ∷ ts) = behind_variable place x ts
 not_shape_at place _ = None
 
 -- the disequation of two terms; of a variable and a constant it is a shape
@@ -45,18 +48,29 @@ unequal t s = con.Neq (term_of t) (term_of s)
 
 -- what stands behind the first of two terms
 abbrev pub related_to : (List ℕ → ℕ) → Tm → List Token → Parsed Con
-related_to place t =
-    any_of (
-    keyed (codes " = ") (term_at place) (λ s. con.Eq (term_of t) (term_of s))
-    ∷ keyed (codes " \\= ") (term_at place) (unequal t)
-    ∷ [])
+related_to place t ts =
+    elim (past_text (codes " = ") ts) [
+      | None ↦ keyed (codes " \\= ") (term_at place) (unequal t) ts
+      | Some rest ↦ made (λ s. con.Eq (term_of t) (term_of s)) (term_at place rest)
+    ]
+
+-- two terms
+abbrev pub related_at : (List ℕ → ℕ) → List Token → Parsed Con
+related_at place ts = term_at place ts >>= (λ r. related_to place r.0 r.1)
+
+-- `num(t)`, `not num(t)`
+abbrev pub typed_at : (List ℕ → ℕ) → List Token → Parsed Con
+typed_at place ts =
+    elim (past_text (codes "num(") ts) [
+      | None ↦ keyed (codes "not num(") (until (codes ")") (term_at place)) (λ t. con.NotNum (term_of t)) ts
+      | Some rest ↦ made (λ t. con.Num (term_of t)) (until (codes ")") (term_at place) rest)
+    ]
 
 abbrev pub con_at : (List ℕ → ℕ) → List Token → Parsed Con
 con_at place =
     any_of (
-    keyed [] row_at row_con
+    (λ ts. made row_con (row_at ts))
     ∷ not_shape_at place
-    ∷ (λ ts. term_at place ts >>= (λ r. related_to place r.0 r.1))
-    ∷ keyed [] (between (codes "num(") (term_at place) (codes ")")) (λ t. con.Num (term_of t))
-    ∷ keyed [] (between (codes "not num(") (term_at place) (codes ")")) (λ t. con.NotNum (term_of t))
+    ∷ related_at place
+    ∷ typed_at place
     ∷ [])

@@ -6,6 +6,7 @@ use Rattle.std.specs.Str.{is_utf8, chars}
 use Rattle.scasp_num.specs.Gcd.{gcd, gcd_within}
 use Rattle.scasp_num.specs.declared.linear.Op.TheVariants as op
 use Rattle.scasp_num.specs.declared.hints.Step.{Step}
+use Rattle.scasp_phrase.specs.Names.{place_in}
 use Rattle.scasp_syntax.specs.Tm.{Tms, var, app, nil, cons}
 use Rattle.scasp_syntax.specs.declared.atom.Atom.{Atom}
 use Rattle.scasp_syntax.specs.declared.term.Term.TheVariants.{Var, App}
@@ -13,7 +14,6 @@ use Rattle.scasp_syntax.specs.declared.con.Con.TheVariants as con
 use Rattle.scasp_syntax.specs.declared.hint.Hint.TheVariants as hint
 use Rattle.scasp_answer_lines.specs.Tokens.{tokens_in}
 use Rattle.scasp_answer_lines.specs.Readers.{past_text}
-use Rattle.scasp_answer_lines.specs.Names.{place_of}
 use Rattle.scasp_answer_lines.specs.Terms.{terms_at, atom_of, lit_of}
 use Rattle.scasp_answer_lines.specs.Lines.{ended, Line, header_line, ending_line, rejected_line, answer_line, given_line, clash_line, map_line, pos_line, loop_line, split_line, void_line}
 use Rattle.scasp_answer_lines.specs.Bounds.{line_fits}
@@ -24,15 +24,15 @@ names = codes "[]" ∷ codes "[|]" ∷ codes "p" ∷ codes "not" ∷ []
 
 -- the text is read as this line
 abbrev Reads : List ℕ → Line → Type 0
-Reads text l = line_in (place_of names) text ≡ Some l
+Reads text l = line_in (place_in names) text ≡ Some l
 
 -- the text is no line
 abbrev Refuses : List ℕ → Type 0
-Refuses text = line_in (place_of names) text ≡ None
+Refuses text = line_in (place_in names) text ≡ None
 
 -- whether the numbers of the line fit, where the text is one
 abbrev fits : List ℕ → Option Bool
-fits text = option_map line_fits (line_in (place_of names) text)
+fits text = option_map line_fits (line_in (place_in names) text)
 
 abbrev p : Tms → Atom
 p ts = atom_of false 2 ts

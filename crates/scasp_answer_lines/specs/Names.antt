@@ -1,5 +1,5 @@
--- Reading names, and their places in a table of texts.
-use Rattle.std.specs.Prelude.{ℕ, ◌+◌, if◌then◌else◌, List, [], ◌∷◌, codes, bytes_eq, Option, None, Some, option_map}
+-- Reading names.
+use Rattle.std.specs.Prelude.{ℕ, if◌then◌else◌, List, [], ◌∷◌, codes, bytes_eq, Option, None, Some, option_map}
 use Rattle.scasp_answer_lines.specs.Tokens.{Token, word, quoted}
 use Rattle.scasp_answer_lines.specs.Readers.{Parsed}
 
@@ -12,8 +12,3 @@ name_of _ = None
 abbrev pub name_at : (List ℕ → ℕ) → List Token → Parsed ℕ
 name_at place [] = None
 name_at place (t ∷ ts) = option_map (λ text. (place text, ts)) (name_of t)
-
--- the place of the text in the table of names; behind the table where it has not the text
-abbrev pub place_of : List (List ℕ) → List ℕ → ℕ
-place_of [] text = 0
-place_of (t ∷ names) text = if bytes_eq text t then 0 else place_of names text + 1

@@ -1,5 +1,5 @@
 -- Reading from the front of tokens.
-use Rattle.std.specs.Prelude.{ℕ, zero, suc, ◌==◌, Bool, true, false, if◌then◌else◌, List, [], ◌∷◌, bytes_eq, Option, None, Some, option_map, ℤ, pos, neg_ℤ}
+use Rattle.std.specs.Prelude.{ℕ, zero, suc, ◌==◌, Bool, true, false, if◌then◌else◌, List, [], ◌∷◌, bytes_eq, Option, None, Some, option_map}
 use Rattle.scasp_num.specs.Arithmetic.{◌>>=◌}
 use Rattle.scasp_answer_lines.specs.Tokens.{Token, word, digits, minus, plus, star, comma, bar, paren, close, bracket, unbracket, sign, tokens_in}
 
@@ -33,19 +33,26 @@ past (t ∷ front) (u ∷ ts) = if same_token t u then past front ts else None
 unfoldable pub past_text : List ℕ → List Token → Option (List Token)
 past_text text ts = past (tokens_in text) ts
 
+-- what is read, put together
+abbrev pub made : {A B : Type 0} → (A → B) → Parsed A → Parsed B
+made make read = option_map (λ r. (make r.0, r.1)) read
+
 -- the text, and then what is read, put together
 abbrev pub keyed : {A B : Type 0} → List ℕ → (List Token → Parsed A) → (A → B) → List Token → Parsed B
-keyed text reads make ts = past_text text ts >>= (λ rest. option_map (λ r. (make r.0, r.1)) (reads rest))
+keyed text reads make ts = past_text text ts >>= (λ rest. made make (reads rest))
 
 -- one thing, the text, and another thing
 abbrev pub both : {A B : Type 0} → (List Token → Parsed A) → List ℕ → (List Token → Parsed B) → List Token → Parsed (A × B)
 both first text second ts =
     first ts >>= (λ r. past_text text r.1 >>= (λ rest. option_map (λ q. ((r.0, q.0), q.1)) (second rest)))
 
+-- the thing, and the text behind it
+abbrev pub until : {A : Type 0} → List ℕ → (List Token → Parsed A) → List Token → Parsed A
+until text reads ts = reads ts >>= (λ r. option_map (λ rest. (r.0, rest)) (past_text text r.1))
+
 -- the thing between two texts
 abbrev pub between : {A : Type 0} → List ℕ → (List Token → Parsed A) → List ℕ → List Token → Parsed A
-between front reads behind ts =
-    past_text front ts >>= (λ rest. reads rest >>= (λ r. option_map (λ left. (r.0, left)) (past_text behind r.1)))
+between front reads behind ts = past_text front ts >>= until behind reads
 
 -- nothing but the text
 abbrev pub alone : {A : Type 0} → List ℕ → A → List Token → Parsed A
@@ -66,18 +73,12 @@ separated_within zero separator reads ts = None
 separated_within (suc n) separator reads ts =
     reads ts >>= (λ r. elim (past (separator ∷ []) r.1) [
       | None ↦ Some (r.0 ∷ [], r.1)
-      | Some rest ↦ option_map (λ more. (r.0 ∷ more.0, more.1)) (separated_within n separator reads rest)
+      | Some rest ↦ made (λ more. r.0 ∷ more) (separated_within n separator reads rest)
     ])
 
 abbrev pub number_at : List Token → Parsed ℕ
 number_at (digits n ∷ ts) = Some (n, ts)
 number_at _ = None
-
--- `7`, `-7`
-abbrev pub integer_at : List Token → Parsed ℤ
-integer_at (digits n ∷ ts) = Some (pos n, ts)
-integer_at (minus ∷ digits n ∷ ts) = if n == 0 then None else Some (neg_ℤ (pos n), ts)
-integer_at _ = None
 
 -- ---- forms that are told apart by their first word
 

@@ -7,15 +7,17 @@ use Rattle.scasp_num.specs.declared.linear.Op.{Op}
 use Rattle.scasp_num.specs.declared.linear.Op.TheVariants as op
 use Rattle.scasp_answer_lines.specs.Bounds.{bounded_place, bounded_integer, row_fits}
 use Rattle.scasp_answer_lines.specs.Tokens.{Token, variable, digits, minus, plus, star}
-use Rattle.scasp_answer_lines.specs.Readers.{Parsed, alone, any_of, only}
+use Rattle.scasp_answer_lines.specs.Readers.{Parsed, made, alone, any_of, only}
 
 -- summands and a constant
 abbrev pub Sum : Type 0
 Sum = List Coeff × ℤ
 
-abbrev pub with_summand : ℕ → ℤ → Parsed Sum → Parsed Sum
-with_summand x c None = None
-with_summand x c (Some r) = Some ((record { x = bounded_place x; c = bounded_integer c } ∷ r.0.0, r.0.1), r.1)
+abbrev pub summand : ℕ → ℤ → Coeff
+summand x c = record { x = bounded_place x; c = bounded_integer c }
+
+abbrev pub with_summand : Coeff → Sum → Sum
+with_summand k s = (k ∷ s.0, s.1)
 
 abbrev mutual
   -- what stands behind a summand: summands and then a constant, each with its sign
@@ -25,18 +27,17 @@ abbrev mutual
   more_at ts = Some (([], pos 0), ts)
 
   pub more_signed : Bool → List Token → Parsed Sum
-  more_signed negative (variable x ∷ ts) = with_summand x (signed negative 1) (more_at ts)
-  more_signed negative (digits n ∷ star ∷ variable x ∷ ts) = if nat_lt 1 n then with_summand x (signed negative n) (more_at ts) else None
+  more_signed negative (variable x ∷ ts) = made (with_summand (summand x (signed negative 1))) (more_at ts)
+  more_signed negative (digits n ∷ star ∷ variable x ∷ ts) = if nat_lt 1 n then made (with_summand (summand x (signed negative n))) (more_at ts) else None
+  more_signed negative (digits n ∷ star ∷ ts) = None
   more_signed negative (digits n ∷ ts) = if n == 0 then None else Some (([], bounded_integer (signed negative n)), ts)
   more_signed negative _ = None
-
-abbrev pub zero_alone : List Token → Parsed Sum
-zero_alone ts = alone (codes "0") ([], pos 0) ts
 
 -- `2*V0-V1+3`, `-3`, `0`
 abbrev pub sum_at : List Token → Parsed Sum
 sum_at (minus ∷ ts) = more_signed true ts
-sum_at ts = any_of (more_signed false ∷ zero_alone ∷ []) ts
+sum_at (digits n ∷ ts) = if n == 0 then Some (([], pos 0), ts) else more_signed false (digits n ∷ ts)
+sum_at ts = more_signed false ts
 
 abbrev pub relation_at : List Token → Parsed Op
 relation_at =
@@ -57,4 +58,4 @@ is_row r = not (row_fits r) || is_normal r
 abbrev pub row_at : List Token → Parsed Linear
 row_at =
     only is_row
-    (λ ts. sum_at ts >>= (λ s. option_map (λ r. (row_of s.0 r.0, r.1)) (relation_at s.1)))
+    (λ ts. sum_at ts >>= (λ s. made (row_of s.0) (relation_at s.1)))

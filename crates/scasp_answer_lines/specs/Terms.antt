@@ -5,8 +5,9 @@ use Rattle.scasp_syntax.specs.Tm.{Tm, Tms, var, num, app, nil, cons, listed}
 use Rattle.scasp_syntax.specs.declared.atom.Atom.{Atom}
 use Rattle.scasp_syntax.specs.declared.atom.Lit.{Lit}
 use Rattle.scasp_cert.specs.Text.Terms.{is_pair}
+use Rattle.scasp_phrase.specs.Terms.{list_of}
 use Rattle.scasp_answer_lines.specs.Tokens.{Token, word, quoted, variable, digits, fraction, minus, comma, bar, paren, close, bracket, unbracket}
-use Rattle.scasp_answer_lines.specs.Readers.{Parsed, keyed, between, any_of}
+use Rattle.scasp_answer_lines.specs.Readers.{Parsed, made, until, past_text}
 use Rattle.scasp_answer_lines.specs.Bounds.{bounded_place}
 use Rattle.scasp_answer_lines.specs.Names.{name_of, name_at}
 
@@ -16,21 +17,20 @@ pub data Bracket : Type 0 where
   elements : List Tm → Bracket  -- `[`
   tail : List Tm → List Tm → Bracket  -- `[a,b|`, with its elements
 
--- the list of these elements with this rest
-abbrev pub list_on : List Tm → Tm → Tm
-list_on [] rest = rest
-list_on (t ∷ ts) rest = app 1 (cons t (cons (list_on ts rest) nil))
+-- the name with these arguments is a list
+abbrev pub is_list_call : ℕ → Tms → Bool
+is_list_call f nil = f == 0
+is_list_call f (cons t ts) = is_pair f (cons t ts)
 
 -- a term that goes on a list: it is never written behind a bar
 abbrev pub is_list : Tm → Bool
 is_list (var x) = false
 is_list (num q) = false
-is_list (app f nil) = f == 0
-is_list (app f (cons t ts)) = is_pair f (cons t ts)
+is_list (app f ts) = is_list_call f ts
 
 -- the name with these arguments, where it is written by its name
 abbrev pub called : ℕ → List Tm → Option Tm
-called f ts = if is_list (app f (listed ts)) then None else Some (app f (listed ts))
+called f ts = if is_list_call f (listed ts) then None else Some (app f (listed ts))
 
 abbrev pub constant : Option ℕ → Option Tm
 constant None = None
@@ -72,12 +72,12 @@ abbrev mutual
   -- a term has ended, if it is one
   pub ends : (List ℕ → ℕ) → List Bracket → List Tm → Option Tm → List Token → Parsed (List Tm)
   ends place opens before None ts = None
-  ends place (tail es around ∷ opens) before (Some t) (unbracket ∷ ts) = if is_list t then None else ends place opens around (Some (list_on es t)) ts
+  ends place (tail es around ∷ opens) before (Some t) (unbracket ∷ ts) = if is_list t then None else ends place opens around (Some (list_of es t)) ts
   ends place (tail es around ∷ opens) before (Some t) _ = None
   ends place opens before (Some t) (comma ∷ ts) = wants place opens (before ++ t ∷ []) ts
   ends place (call f around ∷ opens) before (Some t) (close ∷ ts) = ends place opens around (called f (before ++ t ∷ [])) ts
   ends place (elements around ∷ opens) before (Some t) (bar ∷ ts) = wants place (tail (before ++ t ∷ []) around ∷ opens) [] ts
-  ends place (elements around ∷ opens) before (Some t) (unbracket ∷ ts) = ends place opens around (Some (list_on (before ++ t ∷ []) (app 0 nil))) ts
+  ends place (elements around ∷ opens) before (Some t) (unbracket ∷ ts) = ends place opens around (Some (list_of (before ++ t ∷ []) (app 0 nil))) ts
   ends place [] before (Some t) ts = Some (before ++ t ∷ [], ts)
   ends place _ before (Some t) _ = None
 
@@ -92,14 +92,22 @@ only_one _ ts = None
 abbrev pub term_at : (List ℕ → ℕ) → List Token → Parsed Tm
 term_at place ts = terms_at place ts >>= (λ r. only_one r.0 r.1)
 
+-- one term or more, and the text behind them
+abbrev pub listed_until : List ℕ → (List ℕ → ℕ) → List Token → Parsed Tms
+listed_until text place ts = made listed (until text (terms_at place) ts)
+
+-- what stands behind the open bracket of `[t1,..,tn]`
+abbrev pub elements_at : (List ℕ → ℕ) → List Token → Parsed Tms
+elements_at place (unbracket ∷ ts) = Some (nil, ts)
+elements_at place ts = listed_until (codes "]") place ts
+
 -- `[t1,..,tn]`
 abbrev pub list_at : (List ℕ → ℕ) → List Token → Parsed Tms
-list_at place (bracket ∷ unbracket ∷ ts) = Some (nil, ts)
-list_at place ts = option_map (λ r. (listed r.0, r.1)) (between (codes "[") (terms_at place) (codes "]") ts)
+list_at place ts = past_text (codes "[") ts >>= elements_at place
 
 -- the arguments behind a name: `(t1,..,tn)`, or nothing
 abbrev pub arguments_at : (List ℕ → ℕ) → List Token → Parsed Tms
-arguments_at place (paren ∷ ts) = option_map (λ r. (listed r.0, r.1)) (between (codes "(") (terms_at place) (codes ")") (paren ∷ ts))
+arguments_at place (paren ∷ ts) = listed_until (codes ")") place ts
 arguments_at place ts = Some (nil, ts)
 
 abbrev pub atom_of : Bool → ℕ → Tms → Atom
@@ -110,7 +118,7 @@ lit_of positive a = record { positive = positive; atom = a }
 
 abbrev pub unsigned_atom_at : (List ℕ → ℕ) → Bool → List Token → Parsed Atom
 unsigned_atom_at place negative ts =
-    name_at place ts >>= (λ f. option_map (λ r. (atom_of negative f.0 r.0, r.1)) (arguments_at place f.1))
+    name_at place ts >>= (λ f. made (atom_of negative f.0) (arguments_at place f.1))
 
 -- `p(a,V0)`, `-p`
 abbrev pub atom_at : (List ℕ → ℕ) → List Token → Parsed Atom
@@ -118,8 +126,5 @@ atom_at place (minus ∷ ts) = unsigned_atom_at place true ts
 atom_at place ts = unsigned_atom_at place false ts
 
 abbrev pub lit_at : (List ℕ → ℕ) → List Token → Parsed Lit
-lit_at place =
-    any_of (
-    keyed (codes "not ") (atom_at place) (lit_of false)
-    ∷ keyed [] (atom_at place) (lit_of true)
-    ∷ [])
+lit_at place ts =
+    elim (past_text (codes "not ") ts) [ None ↦ made (lit_of true) (atom_at place ts) | Some rest ↦ made (lit_of false) (atom_at place rest) ]

@@ -1,9 +1,11 @@
 -- The tokens that the code has, as values.
-use Rattle.std.specs.Prelude.{◌≡◌, ℕ, Bool, true, false, List, [], ◌∷◌, Option, None, Some}
+use Rattle.std.specs.Prelude.{◌≡◌, ℕ, Bool, true, false, List, [], ◌∷◌, Option, None, Some, Result, Ok, Err}
 use Rattle.scasp_lexis.specs.Quoted.{text_of}
 use Rattle.scasp_answer_lines.specs.declared.token.Token.{Token as ThisToken}
 use Rattle.scasp_answer_lines.specs.declared.token.Token.TheVariants as this
 use Rattle.scasp_answer_lines.specs.declared.token.Front.{Front as ThisFront}
+use Rattle.scasp_answer_lines.specs.declared.stop.Stop.{Stop}
+use Rattle.scasp_answer_lines.specs.declared.stop.Stop.TheVariants.{NoForm, Memory}
 use Rattle.scasp_answer_lines.specs.Readers.{Parsed}
 use Rattle.scasp_answer_lines.specs.Tokens.{Token, word, quoted, variable, digits, fraction, minus, plus, star, comma, bar, paren, close, bracket, unbracket, sign, bad, Front, front, tokens_in}
 
@@ -44,7 +46,14 @@ abbrev pub Passes : Bool → Option (List Token) → List Token → Type 0
 Passes true behind ts = behind ≡ Some ts
 Passes false behind ts = behind ≡ None
 
--- what is read, and the tokens behind it; or nothing is read
-abbrev pub Gives : {A : Type 0} → Option A → Parsed A → List Token → Type 0
-Gives (Some x) read ts = read ≡ Some (x, ts)
-Gives None read ts = read ≡ None
+-- The code answers what is read, as values, with these tokens behind it; or it answers that nothing is. Want of memory is free.
+abbrev pub Reads : {A B : Type 0} → (B → A) → Parsed A → Result B Stop → List Token → Type 0
+Reads view read (Ok x) ts = read ≡ Some (view x, ts)
+Reads view read (Err NoForm) ts = read ≡ None
+Reads view read (Err Memory) ts = Unit {0}
+
+-- The same of a text: these tokens stand behind it, or it is not there.
+abbrev pub Takes : {B : Type 0} → Option (List Token) → Result B Stop → List Token → Type 0
+Takes behind (Ok done) ts = behind ≡ Some ts
+Takes behind (Err NoForm) ts = behind ≡ None
+Takes behind (Err Memory) ts = Unit {0}

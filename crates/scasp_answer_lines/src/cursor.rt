@@ -1,12 +1,13 @@
 //! The tokens of a line, one after the other.
-ghost use Rattle.std.specs.Prelude.{◌≡◌, ◌∷◌, [], drop};
+ghost use Rattle.std.specs.Prelude.{◌≡◌, ◌<◌, ◌≤◌, ◌∷◌, [], drop, length, false, IfOk};
 ghost use Rattle.std.specs.Option.{option_map};
 ghost use Rattle.scasp_answer_lines.specs.Tokens.{tokens_in};
 ghost use Rattle.scasp_answer_lines.specs.Readers.{number_at, past, past_text};
-ghost use Rattle.scasp_answer_lines.specs.View.{token_of, first_token, Gives, Passes};
+ghost use Rattle.scasp_answer_lines.specs.View.{token_of, first_token, Passes, Reads, Takes};
 
 use crate::front::first_front;
 use crate::same::is_same;
+use crate::stop::Stop;
 use crate::token::Token;
 use std::marker::Model;
 
@@ -71,8 +72,10 @@ impl<'a> Cursor<'a> {
     }
 
     /// Takes the next token where it is this one, and tells whether it was.
-    fn takes(&mut self, token: Token<'_>) -> bool
-        ensures { Passes result (past (token_of token.entry ∷ []) self.old) self.new }
+    pub fn taken(&mut self, token: Token<'_>) -> bool
+        ensures passes { Passes result (past (token_of token.entry ∷ []) self.old) self.new }
+        ensures kept { result ≡ false → self.new ≡ self.old }
+        ensures no_longer { length self.new ≤ length self.old }
     {
         match self.next() {
             None => false,
@@ -86,12 +89,13 @@ impl<'a> Cursor<'a> {
 
     /// Takes the tokens of the text where they are next, and tells whether they were. Where they were not, some of
     /// them may have been taken.
-    pub fn past(&mut self, text: &[u8]) -> bool
-        ensures { Passes result (past_text text.now self.old) self.new }
+    fn past(&mut self, text: &[u8]) -> bool
+        ensures passes { Passes result (past_text text.now self.old) self.new }
+        ensures no_longer { length self.new ≤ length self.old }
     {
         let mut front = Cursor::new(text);
         while let Some(token) = front.next() {
-            if !self.takes(token) {
+            if !self.taken(token) {
                 return false;
             }
             front.take();
@@ -99,16 +103,42 @@ impl<'a> Cursor<'a> {
         true
     }
 
-    /// Takes a number, where one is next.
-    pub fn number(&mut self) -> Option<u128>
-        ensures { Gives result (number_at self.old) self.new }
+    /// Takes the tokens of the text where they are next, and tells whether they were.
+    pub fn skips(&mut self, text: &[u8]) -> bool
+        ensures passes { Passes result (past_text text.now self.old) self.new }
+        ensures kept { result ≡ false → self.new ≡ self.old }
+    {
+        let mut ahead = self.again();
+        let is_there = ahead.past(text);
+        if is_there {
+            *self = ahead;
+        }
+        is_there
+    }
+
+    /// Takes the tokens of the text, which must be next.
+    pub fn expect(&mut self, text: &[u8]) -> Result<(), Stop>
+        ensures takes { Takes (past_text text.now self.old) result self.new }
+        ensures no_longer { length self.new ≤ length self.old }
+    {
+        if self.past(text) {
+            Ok(())
+        } else {
+            Err(Stop::NoForm)
+        }
+    }
+
+    /// Takes a number, which must be next.
+    pub fn number(&mut self) -> Result<u128, Stop>
+        ensures reads { Reads (λ n. n) (number_at self.old) result self.new }
+        ensures shorter { IfOk result (λ n. length self.new < length self.old) }
     {
         match self.next() {
             Some(Token::Digits(number)) => {
                 self.take();
-                Some(number)
+                Ok(number)
             }
-            _ => None,
+            _ => Err(Stop::NoForm),
         }
     }
 }

@@ -1,7 +1,7 @@
 -- What is read from the bytes of an answer file: its entries, or the first fault with its place.
 use Rattle.std.specs.Prelude.{ℕ, ◌+◌, ◌==◌, nat_lt, Bool, true, false, if◌then◌else◌, List, [], ◌∷◌, length, drop, take_while, Option, None, Some, Result, Ok, Err}
+use Rattle.scasp_phrase.specs.Names.{place_in}
 use Rattle.scasp_answer_lines.specs.Forms.{line_in}
-use Rattle.scasp_answer_lines.specs.Names.{place_of}
 use Rattle.scasp_answer_lines.specs.Bounds.{line_fits}
 use Rattle.scasp_answers.specs.Blocks.{at}
 use Rattle.scasp_answers.specs.States.{Entry, Phase, at_start, between, in_given, in_sample, in_tree, in_clashes, in_map, State, first_state, next_state}
@@ -58,18 +58,18 @@ in_order (Some s) = Ok s
 abbrev pub judged : List (List ℕ) → State → List ℕ → Result State AnswerKind
 judged names s line =
     let depth = indent line in
-    elim (line_in (place_of names) (drop depth line)) [
+    elim (line_in (place_in names) (drop depth line)) [
       | None ↦ Err kind.Line
       | Some l ↦ if line_fits l then in_order (next_state s (at depth l)) else Err kind.NumberTooLarge
     ]
 
 -- the place of a line's fault: behind the indent for what the line says, else its first byte
-abbrev pub place_in : ℕ → List ℕ → AnswerKind → ℕ
-place_in at line kind.Line = at + indent line
-place_in at line kind.NumberTooLarge = at + indent line
-place_in at line kind.Order = at
-place_in at line kind.Cut = at
-place_in at line kind.Limit = at
+abbrev pub fault_place : ℕ → List ℕ → AnswerKind → ℕ
+fault_place at line kind.Line = at + indent line
+fault_place at line kind.NumberTooLarge = at + indent line
+fault_place at line kind.Order = at
+fault_place at line kind.Cut = at
+fault_place at line kind.Limit = at
 
 abbrev pub proceeds : Result State AnswerKind → (AnswerKind → ℕ) → (State → Reading) → Reading
 proceeds (Err k) place behind = fault (place k) k
@@ -90,7 +90,7 @@ read_lines names s at [] [] = if is_between s.phase then Ok s.entries else fault
 read_lines names s at [] (b ∷ bs) = fault at kind.Cut
 read_lines names s at (line ∷ lines) rest =
     if is_remark line then read_lines names s (at + length line + 1) lines rest
-    else proceeds (judged names s line) (place_in at line) (λ t. read_lines names t (at + length line + 1) lines rest)
+    else proceeds (judged names s line) (fault_place at line) (λ t. read_lines names t (at + length line + 1) lines rest)
 
 -- ---- files
 

@@ -50,6 +50,10 @@ opened l = record { line = l; parts = [] }
 abbrev pub with_entry : State → Entry → State
 with_entry s e = record s { phase = between; entries = s.entries ++ e ∷ [] }
 
+-- the block is put behind the other entries
+abbrev pub ends_block : State → State
+ends_block s = record s { phase = between; number = 0; cert = started 0 nil; entries = s.entries ++ block s.number s.cert ∷ [] }
+
 abbrev pub begins_block : State → ℕ → Certificate → State
 begins_block s n c = record s { phase = in_given; number = n; cert = c }
 
@@ -80,9 +84,9 @@ at_edge s in_clashes (clash_line k) = moves s in_clashes (with_clash s.cert k) [
 at_edge s in_tree (map_line m) = moves s in_map (with_map s.cert m) []
 at_edge s in_clashes (map_line m) = moves s in_map (with_map s.cert m) []
 at_edge s in_map (map_line m) = moves s in_map (with_map s.cert m) []
-at_edge s in_tree end_line = Some (with_entry s (block s.number s.cert))
-at_edge s in_clashes end_line = Some (with_entry s (block s.number s.cert))
-at_edge s in_map end_line = Some (with_entry s (block s.number s.cert))
+at_edge s in_tree end_line = Some (ends_block s)
+at_edge s in_clashes end_line = Some (ends_block s)
+at_edge s in_map end_line = Some (ends_block s)
 at_edge s _ _ = None
 
 -- ---- any line
