@@ -1,0 +1,103 @@
+//! Names, by their places in a table.
+ghost use Rattle.std.specs.Prelude.{◌≡◌, ◌≤◌, drop, length, IfOk};
+ghost use Rattle.std.specs.Str.{IsUtf8};
+ghost use Rattle.scasp_lexis.specs.Quoted.{begins_pair, byte_of_escape, text_of};
+ghost use Rattle.scasp_phrase.specs.Names.{place_in};
+ghost use Rattle.scasp_answer_lines.specs.Names.{name_at};
+ghost use Rattle.scasp_answer_lines.specs.View.{Reads};
+
+use scasp_answer_lines::{Cursor, Stop, Token};
+use scasp_lexis::Text;
+use scasp_list::Memory;
+use scasp_name::{NameId, Names};
+use std::alloc::Global;
+
+/// The place of the text in the table, or the one behind the table where it has not the text.
+pub fn place(names: &Names, text: &str) -> NameId
+    ensures { result ≡ place_in names.now text.now }
+{
+    let len = names.len();
+    match names.find(text) {
+        Some(name) => name,
+        None => NameId::new(len),
+    }
+}
+
+/// The bytes from this place on.
+fn behind(bytes: &[u8], at: usize) -> &[u8]
+    requires { at ≤ length bytes.now }
+    ensures { result.now ≡ drop at bytes.now }
+{
+    &bytes[at..]
+}
+
+/// Whether two bytes stand here for one.
+fn begins_pair(bytes: &[u8]) -> bool
+    ensures { result ≡ begins_pair bytes.now }
+{
+    matches!(bytes, [b'\\', _, ..] | [b'\'', b'\'', ..])
+}
+
+/// What the byte stands for as the second of two.
+fn byte_of_escape(byte: u8) -> u8
+    ensures { result ≡ byte_of_escape byte }
+{
+    match byte {
+        b'n' => b'\n',
+        b't' => b'\t',
+        _ => byte,
+    }
+}
+
+/// The text that these bytes are between quotes.
+fn unescaped_bytes(alloc: Global, bytes: &[u8]) -> Result<Text, Memory>
+    requires { IsUtf8 bytes.now }
+    ensures { IfOk result (λ text. text ≡ text_of bytes.now) }
+{
+    let mut text = Vec::new(alloc);
+    let mut at = 0;
+    while at < bytes.len() {
+        let rest = behind(bytes, at);
+        if begins_pair(rest) {
+            text.push(byte_of_escape(rest[1]))?;
+            at += 2;
+        } else {
+            text.push(rest[0])?;
+            at += 1;
+        }
+    }
+    Ok(Text::from_utf8(text))
+}
+
+/// The text that stands so between quotes.
+pub fn unescaped(alloc: Global, quoted: &str) -> Result<Text, Memory>
+    ensures { IfOk result (λ text. text ≡ text_of quoted.now) }
+{
+    unescaped_bytes(alloc, quoted.as_bytes())
+}
+
+/// The place of the text that stands so between quotes.
+pub fn quoted_place(alloc: Global, names: &Names, quoted: &str) -> Result<NameId, Memory>
+    ensures { IfOk result (λ name. name ≡ place_in names.now (text_of quoted.now)) }
+{
+    let text = unescaped(alloc, quoted)?;
+    Ok(place(names, text.as_str()))
+}
+
+/// Takes a name, which must be next: a word that is not `not`, or a quoted text.
+pub fn name(alloc: Global, cursor: &mut Cursor<'_>, names: &Names) -> Result<NameId, Stop>
+    ensures { Reads (λ f. f) (name_at (place_in names.now) cursor.old) result cursor.new }
+{
+    match cursor.next() {
+        Some(Token::Word(word)) if word != "not" => {
+            cursor.take();
+            Ok(place(names, word))
+        }
+        Some(Token::Quoted(quoted)) => {
+            cursor.take();
+            let name = quoted_place(alloc, names, quoted)?;
+            Ok(name)
+        }
+        _ => Err(Stop::NoForm),
+    }
+}
