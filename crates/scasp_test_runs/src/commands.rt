@@ -45,6 +45,12 @@ const OUTSIDE: Case = Case {
     ..RUN
 };
 
+const ASKS_NOTHING: Case = Case {
+    printed: "scasp 1\n",
+    status: Status::NoAnswer,
+    ..RUN
+};
+
 const UNREAD: Case = Case {
     printed: "read program\n",
     status: Status::Read,
@@ -85,16 +91,29 @@ const CASES: &[Case] = &[
         ..OUTSIDE
     },
     Case {
-        text: "",
+        text: ":- q. ?- p.",
         ..OUTSIDE
+    },
+    Case {
+        text: "p. ?- p. ?- p.",
+        ..OUTSIDE
+    },
+    Case {
+        text: "",
+        ..ASKS_NOTHING
     },
     Case {
         text: "p. q :- p.",
-        ..OUTSIDE
+        ..ASKS_NOTHING
     },
     Case {
-        text: "p. ?- p. q.",
-        ..OUTSIDE
+        text: "/* a fact */ p. ?- p. 'q r'.",
+        ..RUN
+    },
+    Case {
+        text: "'it''s'. ?- wet. wet :- 'it''s'. % both",
+        printed: "scasp 1\nanswer 1.1 []\nsample []\ntree\n pos wet rule 2 []\n  pos 'it\\'s' rule 1 []\nend\n% domain any\nstopped 1\n",
+        ..RUN
     },
     // Twenty goals of two facts each and one without a rule: more than a million calls, in small trees.
     Case {
@@ -140,6 +159,36 @@ const CASES: &[Case] = &[
     },
 ];
 
+/// Texts that are refused, the lines that say so, and whether it is for a limit.
+const REFUSED: &[(&str, &str, bool)] = &[
+    ("p('ab", "text program 2 Unclosed\n", false),
+    (
+        "p(170141183460469231731687303715884105728).",
+        "text program 2 NumberTooLarge\n",
+        false,
+    ),
+    ("p q.", "text program 2 Expected\n", false),
+    ("a ; b.", "text program 2 Unsupported\n", false),
+    ("p :- X < 3.", "text program 7 Unsupported\n", false),
+    ("p :- X*Y #= 1.", "text program 6 NotLinear\n", false),
+    ("p $", "text program 2 BadByte\n", false),
+    (
+        "p :- q(X1,X2,X3,X4,X5,X6,X7,X8,X9,X10,X11,X12,X13,X14,X15,X16,X17,X18,X19,X20,X21,X22,X23,X24,X25,X26,X27,X28,X29,X30,X31,X32), q(X33,X34,X35,X36,X37,X38,X39,X40,X41,X42,X43,X44,X45,X46,X47,X48,X49,X50,X51,X52,X53,X54,X55,X56,X57,X58,X59,X60,X61,X62,X63,X64), q(X65).",
+        "limit program 262 variables\n",
+        true,
+    ),
+    (
+        "p(a,a,a,a,a,a,a,a,a,a,a,a,a,a,a,a,a,a,a,a,a,a,a,a,a,a,a,a,a,a,a,a,a).",
+        "limit program 66 arity\n",
+        true,
+    ),
+    (
+        "p :- a,a,a,a,a,a,a,a,a,a,a,a,a,a,a,a,a,a,a,a,a,a,a,a,a,a,a,a,a,a,a,a,a,a,a,a,a,a,a,a,a,a,a,a,a,a,a,a,a,a,a,a,a,a,a,a,a,a,a,a,a,a,a,a,a.",
+        "limit program 133 items\n",
+        true,
+    ),
+];
+
 fn command(alloc: Global, words: &[&str]) -> Result<Vec<String>, AllocError> {
     let mut all = Vec::new(alloc);
     for word in words {
@@ -162,6 +211,24 @@ fn prints(alloc: Global, case: &Case) -> Result<bool, Memory> {
 fn commands_print_and_end(rt: HostRuntime) -> Result<(), Fail> {
     for (number, case) in CASES.iter().enumerate() {
         assert!(rt; prints(rt.alloc(), case)?, "at {number}");
+    }
+    Ok(())
+}
+
+#[test]
+fn refusals_tell_place_and_kind(rt: HostRuntime) -> Result<(), Fail> {
+    for (text, printed, is_limit) in REFUSED {
+        let case = Case {
+            text,
+            printed,
+            status: if *is_limit {
+                Status::Limit
+            } else {
+                Status::Text
+            },
+            ..RUN
+        };
+        assert!(rt; prints(rt.alloc(), &case)?, "at {text}");
     }
     Ok(())
 }

@@ -1,7 +1,7 @@
 //! Budgets of the search.
 use scasp_io::Memory;
 use scasp_name::Names;
-use scasp_reader::read_program;
+use scasp_program::read_program;
 use scasp_syntax::Program;
 use scasp_written::{Event, Written};
 use std::alloc::Global;
@@ -40,8 +40,8 @@ fn has_events(
 
 /// The program of the text, where it is in the grammar.
 fn program(alloc: Global, text: &[u8]) -> Result<Program, Fail> {
-    let mut names = Names::new(alloc)?;
-    Ok(read_program(alloc, text, &mut names)?)
+    let (program, _names) = read_program(alloc, text, Names::new(alloc)?)?;
+    Ok(program)
 }
 
 /// A budget of two calls just serves, and one call less is spent; a last event comes again.

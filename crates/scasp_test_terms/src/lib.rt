@@ -14,8 +14,6 @@ mod phrases;
 #[cfg(test)]
 mod programs;
 #[cfg(test)]
-mod reader;
-#[cfg(test)]
 mod terms;
 #[cfg(test)]
 mod trials;

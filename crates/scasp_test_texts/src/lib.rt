@@ -2,4 +2,8 @@
 #![tactic(auto)]
 
 #[cfg(test)]
+mod listings;
+#[cfg(test)]
+mod programs;
+#[cfg(test)]
 mod texts;

@@ -1,5 +1,10 @@
-use Rattle.std.proofs.Common.{◌≡◌, ◌⊎◌, inl, inr, ℕ, Option, None, Some, IfSome, MatchOption, List, [], ◌∷◌, ◌++◌, refl, sym, ap, subst, ◌∙◌, arith}
-use Rattle.scasp_reader.specs.Reading.{Reading}
+use Rattle.std.proofs.Common.{◌≡◌, ◌⊎◌, inl, inr, ℕ, Option, None, Some, IfSome, MatchOption, List, [], ◌∷◌, ◌++◌, refl, sym, ap, subst, ◌∙◌, true, false, Ok}
+use Rattle.scasp_name.specs.Texts.{list_names}
+use Rattle.scasp_phrase.specs.declared.fault.Fault.{Fault}
+use Rattle.scasp_text.specs.declared.texts.Reading.{Reading}
+use Rattle.scasp_program.specs.Programs.{program_in}
+use Rattle.scasp_program.specs.Propositional.{is_run_today}
+use Rattle.scasp_top.specs.Refusals.{refusal_line, refusal_status}
 use Rattle.scasp_syntax.specs.Programs.{numbered}
 use Rattle.scasp_syntax.specs.declared.clause.Clause.{Clause}
 use Rattle.scasp_syntax.specs.declared.clause.Query.{Query}
@@ -9,7 +14,7 @@ use Rattle.scasp_written.specs.Machine.{Outcome}
 use Rattle.scasp_written.specs.Run.{start, HasOneEvent}
 use Rattle.scasp_top.specs.Texts.{header_line, query_text, status_of, usage_line}
 use Rattle.scasp_top.specs.Runs.{Runs, RunsQuery, RunsRightly, Meets}
-use Rattle.scasp_top.specs.Outputs.{Outputs, OutputsOf, IsTooLong, IsNoProgram, RunsText, RunsRightText, OfFile, HasFileFault, Expects, no_command, of_bytes}
+use Rattle.scasp_top.specs.Outputs.{Outputs, OutputsOf, IsRefused, IsNotRun, RunsText, RunsRightText, OfFile, HasFileFault, Expects, no_command, of_bytes}
 use Rattle.scasp_top.specs.declared.program_run.TheConstants.{BUDGET}
 use Rattle.scasp_top.specs.declared.status.Status.{Status}
 use Rattle.scasp_top.specs.declared.status.Status.TheVariants.{Done, NoAnswer, Usage, Text, Read, Write, Spent, Overflow, Memory, Limit}
@@ -38,13 +43,14 @@ runs-one law names clauses (Some q) t t' s s' h g = runs-query-one law names cla
 
 -- which of the three it is
 data Sort (bytes text : List ℕ) (status : Status) : Type 0 where
-  too_long : status ≡ Limit → IsTooLong bytes text → Sort bytes text status
-  outside : status ≡ Text → IsNoProgram bytes text → Sort bytes text status
+  refused : IsRefused bytes text status → Sort bytes text status
+  not_run : status ≡ Text → IsNotRun bytes text → Sort bytes text status
   run : RunsText bytes text status → Sort bytes text status
 
 sort-of : (bytes text : List ℕ) (status : Status) → OutputsOf RunsText bytes text status → Sort bytes text status
-sort-of bytes text Limit h = too_long refl h
-sort-of bytes text Text h = outside refl h
+sort-of bytes text Limit h = refused h
+sort-of bytes text Text (inl h) = refused h
+sort-of bytes text Text (inr h) = not_run refl h
 sort-of bytes text Done h = run h
 sort-of bytes text NoAnswer h = run h
 sort-of bytes text Spent h = run h
@@ -60,15 +66,27 @@ texts-one law bytes t t' s s' h g =
     let P : Reading → Type 0 = λ r. Runs r.names r.clauses r.queries t s in
     runs-one law g.reading.names g.reading.clauses (numbered g.reading.queries 1) t t' s s' (subst P same h.run) g.run
 
+refusals-one : (bytes t t' : List ℕ) (s s' : Status) → IsRefused bytes t s → IsRefused bytes t' s' → (s ≡ s') × (t ≡ t')
+refusals-one bytes t t' s s' h g =
+    let same : h.fault ≡ g.fault = cc (h.refused, g.refused) in
+    (h.ending ∙ ap (λ (f : Fault). refusal_status f.kind) same ∙ sym g.ending, h.line ∙ ap refusal_line same ∙ sym g.line)
+
+-- a program that is run, and one that is not
+not-both : (bytes : List ℕ) (one other : Reading) {A : Type 0} → program_in list_names bytes ≡ Ok one → program_in list_names bytes ≡ Ok other
+    → is_run_today one.clauses one.queries ≡ true → is_run_today other.clauses other.queries ≡ false → A
+not-both bytes one other read read' inside outside =
+    let same : one ≡ other = cc (read, read') in
+    cc (ap (λ (r : Reading). is_run_today r.clauses r.queries) same, inside, outside)
+
 sorts-one : (law : HasOneEvent) → (bytes t t' : List ℕ) (s s' : Status) → Sort bytes t s → Sort bytes t' s' → (s ≡ s') × (t ≡ t')
-sorts-one law bytes t t' s s' (too_long e h) (too_long e' h') = (e ∙ sym e', h.line ∙ sym h'.line)
-sorts-one law bytes t t' s s' (too_long e h) (outside e' h') = absurd (omega (arith, h.longer, h'.within))
-sorts-one law bytes t t' s s' (too_long e h) (run h') = absurd (omega (arith, h.longer, h'.within))
-sorts-one law bytes t t' s s' (outside e h) (too_long e' h') = absurd (omega (arith, h'.longer, h.within))
-sorts-one law bytes t t' s s' (outside e h) (outside e' h') = (e ∙ sym e', h.line ∙ sym h'.line)
-sorts-one law bytes t t' s s' (outside e h) (run h') = cc (h.outside, h'.read)
-sorts-one law bytes t t' s s' (run h) (too_long e' h') = absurd (omega (arith, h'.longer, h.within))
-sorts-one law bytes t t' s s' (run h) (outside e' h') = cc (h.read, h'.outside)
+sorts-one law bytes t t' s s' (refused h) (refused h') = refusals-one bytes t t' s s' h h'
+sorts-one law bytes t t' s s' (refused h) (not_run e' h') = cc (h.refused, h'.read)
+sorts-one law bytes t t' s s' (refused h) (run h') = cc (h.refused, h'.read)
+sorts-one law bytes t t' s s' (not_run e h) (refused h') = cc (h.read, h'.refused)
+sorts-one law bytes t t' s s' (not_run e h) (not_run e' h') = (e ∙ sym e', h.line ∙ sym h'.line)
+sorts-one law bytes t t' s s' (not_run e h) (run h') = not-both bytes h'.reading h.reading h'.read h.read h'.inside h.outside
+sorts-one law bytes t t' s s' (run h) (refused h') = cc (h.read, h'.refused)
+sorts-one law bytes t t' s s' (run h) (not_run e' h') = not-both bytes h.reading h'.reading h.read h'.read h.inside h'.outside
 sorts-one law bytes t t' s s' (run h) (run h') = texts-one law bytes t t' s s' h h'
 
 -- a run whose answers are right is a run
@@ -82,16 +100,17 @@ plain-text : (bytes text : List ℕ) (status : Status) → RunsRightText bytes t
 plain-text bytes text status r =
     let run = plain-query r.program (r.reading).names (numbered (r.program).queries 1) text status r.run in
     record {
-      within = r.within;
       reading = r.reading;
       read = r.read;
+      inside = r.inside;
       run = subst (λ (qs : List Query). Runs (r.reading).names (r.reading).clauses qs text status) r.queries
           (subst (λ (cs : List Clause). Runs (r.reading).names cs (r.program).queries text status) r.clauses run);
     }
 
 sort-right : (bytes text : List ℕ) (status : Status) → OutputsOf RunsRightText bytes text status → Sort bytes text status
-sort-right bytes text Limit h = too_long refl h
-sort-right bytes text Text h = outside refl h
+sort-right bytes text Limit h = refused h
+sort-right bytes text Text (inl h) = refused h
+sort-right bytes text Text (inr h) = not_run refl h
 sort-right bytes text Done h = run (plain-text bytes text Done h)
 sort-right bytes text NoAnswer h = run (plain-text bytes text NoAnswer h)
 sort-right bytes text Spent h = run (plain-text bytes text Spent h)

@@ -22,7 +22,7 @@ use Rattle.scasp_cert.specs.Certificate.{Certificate}
 use Rattle.scasp_cert.specs.States.{Level, Opened, State, closed}
 use Rattle.scasp_cert.specs.Trees.{Tree, pos_tree, listed}
 use Rattle.scasp_checker.specs.Accepted.{IsAccepted, AreAccepted, IsInstance, Accepts}
-use Rattle.scasp_reader.specs.Propositional.{is_empty, has_no_argument, are_plain_calls, has_plain_head, is_propositional_rule, is_propositional_query, are_propositional}
+use Rattle.scasp_program.specs.Propositional.{is_empty, has_no_argument, are_plain_calls, has_plain_head, is_propositional_rule, is_propositional_query, are_propositional}
 use Rattle.scasp_written.specs.Machine.{Found, answered, spent, first_event, pick, cost, Finds}
 use Rattle.scasp_written.specs.Run.{search_for, certificate, answer, pays, start}
 use Rattle.scasp_written.specs.Successors.{heads, repeats, opened, entered, tries, successors, next}

@@ -1,5 +1,5 @@
--- Each answer that the search meets first, for a program that was read, is right.
-use Rattle.std.proofs.Common.{◌≡◌, ◌∙◌, ℕ, true, ◌&&◌, ◌==◌, is_some, IsTrue, List, [], Option, None, Some, map, refl, ap}
+-- Each answer that the search meets first, for a program that is run today, is right.
+use Rattle.std.proofs.Common.{◌≡◌, ◌∙◌, true, ◌&&◌, ◌==◌, nat_le, length, is_some, IsTrue, List, [], Option, None, Some, map, refl, ap}
 use Rattle.std.specs.List.{list_all}
 use Rattle.std.proofs.lemmas.Bool.{and_parts, and_from}
 use Rattle.scasp_syntax.specs.Programs.{numbered}
@@ -16,9 +16,7 @@ use Rattle.scasp_sound.specs.MapLevels.{covered}
 use Rattle.scasp_checker.proofs.Soundness.{accepted-good_right}
 use Rattle.scasp_graph.specs.Map.{MapHolds, map_faults, is_positive_item, is_positive_rule}
 use Rattle.scasp_graph.proofs.MapLemmas.{empty_map_holds}
-use Rattle.scasp_reader.specs.Propositional.{has_plain_head, is_plain_call, are_plain_calls, has_no_argument, is_propositional_rule, is_propositional_query, are_propositional}
-use Rattle.scasp_reader.specs.Reading.{Reading, program_in}
-use Rattle.scasp_reader.proofs.Propositions.{reading-propositional}
+use Rattle.scasp_program.specs.Propositional.{has_plain_head, is_plain_call, are_plain_calls, has_no_argument, is_propositional_rule, is_propositional_query, are_propositional, is_run_today}
 use Rattle.scasp_list.proofs.MemberLemmas.{list_all-from, list_all-member}
 use Rattle.scasp_written.specs.Machine.{Outcome, answered, ended, spent, overflowed}
 use Rattle.scasp_top.specs.Runs.{Meets, IsRight, AnswersRightly, AnswersAreRight}
@@ -66,9 +64,7 @@ event-right p query ended plain named meets = tt
 event-right p query spent plain named meets = tt
 event-right p query overflowed plain named meets = tt
 
-pub answers-right : (names : List (List ℕ)) (bytes : List ℕ) (reading : Reading) (p : Program)
-    → program_in names bytes ≡ Some reading → p.clauses ≡ reading.clauses → p.queries ≡ reading.queries → AnswersAreRight p
-answers-right names bytes reading p read clauses queries =
-    let plain : IsTrue (are_propositional p.clauses p.queries) =
-    ap (λ (cs : List Clause). are_propositional cs p.queries) clauses ∙ ap (are_propositional reading.clauses) queries ∙ reading-propositional names bytes reading read in
+pub answers-right : (p : Program) → IsTrue (is_run_today p.clauses p.queries) → AnswersAreRight p
+answers-right p inside =
+    let plain = (and_parts (are_propositional p.clauses p.queries) (nat_le (length p.queries) 1) inside).0 in
     λ query named event meets. event-right p query event plain named meets

@@ -1,6 +1,6 @@
 -- Small cases of the definitions, computed.
 use Rattle.std.proofs.Common.{lit<}
-use Rattle.std.specs.Prelude.{◌≡◌, ℕ, true, false, None, Some, List, [], ◌∷◌, codes, decimal, refl}
+use Rattle.std.specs.Prelude.{◌≡◌, ℕ, true, false, None, Some, List, [], ◌∷◌, codes, decimal, refl, Ok}
 use Rattle.std.proofs.lemmas.Fmt.{decimal_digit}
 use Rattle.scasp_syntax.specs.Tm.{nil}
 use Rattle.scasp_syntax.specs.declared.atom.Atom.{Atom}
@@ -8,7 +8,14 @@ use Rattle.scasp_syntax.specs.declared.clause.Item.{Item}
 use Rattle.scasp_syntax.specs.declared.clause.Item.TheVariants.{Call}
 use Rattle.scasp_syntax.specs.declared.clause.Query.{Query}
 use Rattle.scasp_name.specs.Texts.{list_names}
-use Rattle.scasp_reader.specs.Reading.{Reading, program_in}
+use Rattle.scasp_text.specs.declared.texts.Reading.{Reading}
+use Rattle.scasp_program.specs.Programs.{program_in}
+use Rattle.scasp_lexis.specs.Tokens.{tokens_of}
+use Rattle.scasp_phrase.specs.Terms.{term}
+use Rattle.scasp_body.specs.Items.{item}
+use Rattle.scasp_body.specs.Bodies.{body}
+use Rattle.scasp_text.specs.Clauses.{clause}
+use Rattle.scasp_text.specs.Texts.{next_part, parts, read}
 use Rattle.scasp_cert.specs.Certificate.{Certificate}
 use Rattle.scasp_cert.specs.Trees.{pos_tree, no_tree, tree}
 use Rattle.scasp_written.specs.Machine.{answered, ended, spent, overflowed}
@@ -61,8 +68,8 @@ read_fact = record {
   names = codes "[]" ∷ codes "[|]" ∷ codes "p" ∷ [];
 }
 
-pub reads_fact : program_in list_names (codes "p. ?- p.") ≡ Some read_fact
-unfolding program_in
+pub reads_fact : program_in list_names (codes "p. ?- p.") ≡ Ok read_fact
+unfolding read parts next_part clause body item tokens_of term
 reads_fact = refl
 
 -- the table of names behind `p :- q. q. ?- p.`

@@ -2,6 +2,7 @@ pub mod Codes
 pub mod Examples
 pub mod Inside
 pub mod Outputs
+pub mod Refusals
 pub mod Reports
 pub mod RunExamples
 pub mod Runs

@@ -1,47 +1,53 @@
 -- Which text belongs to the bytes of a file, and which to the words of a command.
-use Rattle.std.specs.Prelude.{◌≡◌, ℕ, ◌<◌, ◌≤◌, Option, None, Some, IfSome, IsSomeAnd, List, length}
+use Rattle.std.specs.Prelude.{◌≡◌, ◌⊎◌, ℕ, true, false, Option, None, Some, IfSome, IsSomeAnd, List, Ok, Err}
 use Rattle.scasp_name.specs.Texts.{list_names}
-use Rattle.scasp_reader.specs.Reading.{program_in, Reading}
-use Rattle.scasp_reader.specs.declared.program.TheConstants.{BYTE_LIMIT}
+use Rattle.scasp_phrase.specs.declared.fault.Fault.{Fault}
+use Rattle.scasp_text.specs.declared.texts.Reading.{Reading}
+use Rattle.scasp_program.specs.Programs.{program_in}
+use Rattle.scasp_program.specs.Propositional.{is_run_today}
 use Rattle.scasp_syntax.specs.declared.program.Program.{Program}
 use Rattle.scasp_io.specs.Counts.{Rose}
-use Rattle.scasp_top.specs.Texts.{usage_line, read_line, limit_line, text_line}
+use Rattle.scasp_top.specs.Refusals.{refusal_line, refusal_status, not_run}
+use Rattle.scasp_top.specs.Texts.{usage_line, read_line}
 use Rattle.scasp_top.specs.Runs.{Runs, RunsProgram}
 use Rattle.scasp_top.specs.declared.status.Status.{Status}
 use Rattle.scasp_top.specs.declared.status.Status.TheVariants.{Done, NoAnswer, Usage, Text, Read, Write, Spent, Overflow, Memory, Limit}
 
--- the bytes are longer than a program's text may be
-pub record IsTooLong (bytes text : List ℕ) : Type 0 where
-  pub longer : BYTE_LIMIT < length bytes
-  pub line : text ≡ limit_line
+-- the bytes are refused, and this is their first fault
+pub record IsRefused (bytes text : List ℕ) (status : Status) : Type 0 where
+  pub fault : Fault
+  pub refused : program_in list_names bytes ≡ Err fault
+  pub line : text ≡ refusal_line fault
+  pub ending : status ≡ refusal_status fault.kind
 
--- the bytes are no program's text
-pub record IsNoProgram (bytes text : List ℕ) : Type 0 where
-  pub within : length bytes ≤ BYTE_LIMIT
-  pub outside : program_in list_names bytes ≡ None
-  pub line : text ≡ text_line
-
--- the bytes are a program's text, and this is its run
-pub record RunsText (bytes text : List ℕ) (status : Status) : Type 0 where
-  pub within : length bytes ≤ BYTE_LIMIT
+-- the bytes are a program's text, of a program that is not run today
+pub record IsNotRun (bytes text : List ℕ) : Type 0 where
   pub reading : Reading
-  pub read : program_in list_names bytes ≡ Some reading
+  pub read : program_in list_names bytes ≡ Ok reading
+  pub outside : is_run_today reading.clauses reading.queries ≡ false
+  pub line : text ≡ refusal_line not_run
+
+-- the bytes are a program's text, of a program that is run, and this is its run
+pub record RunsText (bytes text : List ℕ) (status : Status) : Type 0 where
+  pub reading : Reading
+  pub read : program_in list_names bytes ≡ Ok reading
+  pub inside : is_run_today reading.clauses reading.queries ≡ true
   pub run : Runs reading.names reading.clauses reading.queries text status
 
 -- the same, where moreover each answer of the run is right
 pub record RunsRightText (bytes text : List ℕ) (status : Status) : Type 0 where
-  pub within : length bytes ≤ BYTE_LIMIT
   pub reading : Reading
-  pub read : program_in list_names bytes ≡ Some reading
+  pub read : program_in list_names bytes ≡ Ok reading
+  pub inside : is_run_today reading.clauses reading.queries ≡ true
   pub program : Program
   pub clauses : program.clauses ≡ reading.clauses
   pub queries : program.queries ≡ reading.queries
   pub run : RunsProgram reading.names program text status
 
--- The text that is printed and the status, for the bytes of the file: they are too long, or no program, or else the program is run.
+-- The text that is printed and the status, for the bytes of the file: they are refused, or spell a program that is not run, or else the program is run.
 abbrev pub OutputsOf : (List ℕ → List ℕ → Status → Type 0) → List ℕ → List ℕ → Status → Type 0
-OutputsOf Run bytes text Limit = IsTooLong bytes text
-OutputsOf Run bytes text Text = IsNoProgram bytes text
+OutputsOf Run bytes text Limit = IsRefused bytes text Limit
+OutputsOf Run bytes text Text = IsRefused bytes text Text ⊎ IsNotRun bytes text
 OutputsOf Run bytes text Done = Run bytes text Done
 OutputsOf Run bytes text NoAnswer = Run bytes text NoAnswer
 OutputsOf Run bytes text Spent = Run bytes text Spent

@@ -1,6 +1,6 @@
 -- The whole run of a small program, computed.
 use Rattle.std.specs.Prelude.{[], ◌++◌, codes, refl}
-use Rattle.std.proofs.Common.{lit≤, ap, sym}
+use Rattle.std.proofs.Common.{ap, sym}
 use Rattle.scasp_written.specs.Machine.{answered, first_event}
 use Rattle.scasp_top.specs.Examples.{one_fact, query_p, read_fact, fact_text, reads_fact}
 use Rattle.scasp_top.specs.Outputs.{RunsText}
@@ -16,8 +16,8 @@ fact_found = (1, [], (2, refl))
 fact_run :
     RunsText (codes "p. ?- p.") (codes "scasp 1\nanswer 1.1 []\nsample []\ntree\n pos p rule 1 []\nend\n% domain any\nstopped 1\n") Done
 fact_run = record {
-  within = lit≤ tt;
   reading = read_fact;
   read = reads_fact;
+  inside = refl;
   run = record { event = answered one_fact; meets = fact_found; printed = sym (ap (λ text. header_line ++ text) fact_text); ending = refl };
 }

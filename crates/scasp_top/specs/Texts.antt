@@ -14,12 +14,6 @@ usage_line = codes "usage: scasp run FILE [--budget N] [--answers N] | check PRO
 abbrev pub read_line : List ℕ
 read_line = codes "read program\n"
 
-abbrev pub limit_line : List ℕ
-limit_line = codes "limit program 4194304 bytes\n"
-
-abbrev pub text_line : List ℕ
-text_line = codes "text program 0 Unsupported\n"
-
 -- the first line of every run
 abbrev pub header_line : List ℕ
 header_line = codes "scasp 1\n"

@@ -4,6 +4,7 @@
 pub mod laws;
 mod output;
 mod program_run;
+mod refusals;
 mod status;
 mod top;
 mod words;

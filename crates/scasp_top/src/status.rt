@@ -9,7 +9,7 @@ pub enum Status {
     NoAnswer,
     /// The words are no command.
     Usage,
-    /// The program's bytes are not in the grammar.
+    /// The program's bytes are not in the grammar, or spell a program that the search of today does not run.
     Text,
     /// The program could not be read.
     Read,
@@ -21,7 +21,7 @@ pub enum Status {
     Overflow,
     /// Want of memory.
     Memory,
-    /// The program's text is longer than its limit.
+    /// A count of the program's text passes its limit: bytes, clauses, items of a body, variables, arguments, brackets.
     Limit,
 }
 

@@ -1,6 +1,6 @@
 //! The top call.
 
-ghost use Rattle.std.specs.Prelude.{◌≡◌, ◌≤◌, ◌⊎◌, ℕ, List, None, Some, map, string_bytes, length, IfOk};
+ghost use Rattle.std.specs.Prelude.{◌≡◌, ◌⊎◌, ℕ, List, None, Some, map, string_bytes, IfOk};
 ghost use Rattle.scasp_io.specs.Counts.{Rose};
 ghost use Rattle.scasp_io.specs.Lookup.{bytes_or_none};
 ghost use Rattle.scasp_top.specs.Words.{file_of};
@@ -11,25 +11,32 @@ ghost use Rattle.scasp_top.specs.Reports.{Reports};
 
 use crate::output::{Output, one_line};
 use crate::program_run::run_program;
+use crate::refusals::refusal;
 use crate::status::Status;
 use crate::words::{Command, WordErr, parse_words};
 use scasp_io::{Files, ReadErr, Sink, SureFiles, SureSink, read_file, write_all};
 use scasp_name::{Memory, Names};
-use scasp_reader::{BYTE_LIMIT, ReadError, read_program};
+use scasp_phrase::{Count, Fault, Kind, Stop};
+use scasp_program::{is_run_today, read_program};
+use scasp_text::BYTE_LIMIT;
 use scasp_written::laws::one_event_is_first;
 use std::alloc::Global;
 
 /// What is printed for the bytes of a program's text.
 fn answer_bytes(alloc: Global, bytes: &[u8]) -> Result<Output, Memory>
-    requires { length bytes.now ≤ BYTE_LIMIT }
     ensures { IfOk result (λ output. OutputsOf RunsRightText bytes.now output.text.items output.status) }
 {
-    let mut names = Names::new(alloc)?;
-    match read_program(alloc, bytes, &mut names) {
-        Ok(program) => run_program(alloc, &program, &names),
-        Err(ReadError::At { .. }) => one_line(alloc, b"text program 0 Unsupported\n", Status::Text),
-        Err(ReadError::Memory) => Err(Memory),
+    let table = Names::new(alloc)?;
+    let (program, names) = match read_program(alloc, bytes, table) {
+        Ok(read) => read,
+        Err(Stop::At(fault)) => return refusal(alloc, fault),
+        Err(Stop::Memory) => return Err(Memory),
+    };
+    if !is_run_today(&program) {
+        let (at, kind) = (0, Kind::Unsupported);
+        return refusal(alloc, Fault { at, kind });
     }
+    run_program(alloc, &program, &names)
 }
 
 /// What is printed for a file.
@@ -40,7 +47,8 @@ fn answer_file<F: Files>(alloc: Global, file: &str, files: &mut F) -> Result<Out
         Ok(bytes) => answer_bytes(alloc, bytes.as_slice()),
         Err(ReadErr::Fault) => one_line(alloc, b"read program\n", Status::Read),
         Err(ReadErr::TooLong) => {
-            one_line(alloc, b"limit program 4194304 bytes\n", Status::Limit)
+            let (at, kind) = (BYTE_LIMIT as u64, Kind::Limit(Count::Bytes));
+            refusal(alloc, Fault { at, kind })
         }
         Err(ReadErr::Memory) => Err(Memory),
     }

@@ -1,0 +1,33 @@
+//! Texts and numbers at the end of a list of bytes.
+ghost use Rattle.std.specs.Prelude.{◌≡◌, ◌++◌, OnOk};
+ghost use Rattle.std.specs.Fmt.{signed_decimal};
+ghost use Rattle.scasp_cert.specs.Text.Separators.{separator_text};
+
+use itoa::Buffer;
+use scasp_list::Memory;
+
+/// Puts the text at the end.
+pub fn put(out: &mut Vec<u8>, text: &str) -> Result<(), Memory>
+    ensures { OnOk result (out.new.items ≡ out.old.items ++ text.now) }
+{
+    out.extend_from_slice(text.as_bytes())?;
+    Ok(())
+}
+
+/// Puts the separator at the end, unless what follows is the first item.
+pub fn put_separator(out: &mut Vec<u8>, is_first: bool, separator: &str) -> Result<(), Memory>
+    ensures { OnOk result (out.new.items ≡ out.old.items ++ separator_text is_first separator.now) }
+{
+    if is_first {
+        Ok(())
+    } else {
+        put(out, separator)
+    }
+}
+
+/// Puts the digits of an integer at the end, behind `-` where it is below 0.
+pub fn put_integer(out: &mut Vec<u8>, integer: i128) -> Result<(), Memory>
+    ensures { OnOk result (out.new.items ≡ out.old.items ++ signed_decimal integer) }
+{
+    put(out, Buffer::new().format(integer))
+}

@@ -1,0 +1,131 @@
+//! Texts, and the programs that are read from them.
+use scasp_name::{NameId, Names};
+use scasp_phrase::Stop;
+use scasp_program::{is_run_today, read_program};
+use scasp_syntax::{Item, Items, Program};
+use std::alloc::Global;
+use std::test::Fail;
+
+/// Adds the name, or its place where the table lacks it.
+fn show_name(shown: &mut String, names: &Names, name: NameId) -> Result<(), Fail> {
+    if name.place() < names.len() {
+        shown.push_str(names.text(name))?;
+    } else {
+        shown.push('?')?;
+    }
+    Ok(())
+}
+
+/// Adds the names of the items, between commas, and a stop.
+fn show_items(shown: &mut String, names: &Names, items: &Items) -> Result<(), Fail> {
+    let mut comma = "";
+    for item in items.as_slice() {
+        shown.push_str(comma)?;
+        comma = ",";
+        match item {
+            Item::Call(literal) if literal.positive && !literal.atom.minus => {
+                show_name(shown, names, literal.atom.name)?;
+            }
+            _ => shown.push('!')?,
+        }
+    }
+    shown.push('.')?;
+    Ok(())
+}
+
+/// The program without blanks, and behind it the number of its names.
+fn show(alloc: Global, program: &Program, names: &Names) -> Result<String, Fail> {
+    let mut shown = String::new(alloc);
+    for clause in program.clauses.as_slice() {
+        match &clause.head {
+            Some(head) => show_name(&mut shown, names, head.name)?,
+            None => shown.push('!')?,
+        }
+        if clause.body.len() > 0 {
+            shown.push_str(":-")?;
+        }
+        show_items(&mut shown, names, &clause.body)?;
+    }
+    for query in program.queries.as_slice() {
+        shown.push_str("?-")?;
+        show_items(&mut shown, names, &query.body)?;
+    }
+    let count = names.len();
+    write!(shown, "{count}")?;
+    Ok(shown)
+}
+
+/// Texts, each with its names and calls, if it is in the grammar; and whether its program is run today.
+const TEXTS: &[(&str, Option<&str>, bool)] = &[
+    ("p. ?- p.", Some("p.?-p.3"), true),
+    ("p :- p. ?- p.", Some("p:-p.?-p.3"), true),
+    ("p :- q. p. ?- p.", Some("p:-q.p.?-p.4"), true),
+    (
+        "p :- q, r. q. r :- q. ?- p.",
+        Some("p:-q,r.q.r:-q.?-p.5"),
+        true,
+    ),
+    ("?- p.", Some("?-p.3"), true),
+    (
+        "p:-q,r.q.?-a_B9,notp.",
+        Some("p:-q,r.q.?-a_B9,notp.7"),
+        true,
+    ),
+    ("nota.?-not_.", Some("nota.?-not_.4"), true),
+    (
+        "\tp\n:-\r\nq , r .\n\n?-\tp . \r\n",
+        Some("p:-q,r.?-p.5"),
+        true,
+    ),
+    ("", Some("2"), true),
+    (" \n", Some("2"), true),
+    ("p.", Some("p.3"), true),
+    ("?- p. p.", Some("p.?-p.3"), true),
+    ("p. ?- p. %", Some("p.?-p.3"), true),
+    ("% p\np. ?- p.", Some("p.?-p.3"), true),
+    ("?- p. ?- q.", Some("?-p.?-q.4"), false),
+    ("p. ?- not p.", Some("p.?-!.3"), false),
+    ("p(a). ?- p.", Some("p.?-p.4"), false),
+    ("p. ?- p(X).", Some("p.?-p.4"), false),
+    (":- p. ?- p.", Some("!:-p.?-p.3"), false),
+    ("-p. ?- p.", Some("p.!:-p,!.?-p.3"), false),
+    ("p :- X = X. ?- p.", Some("p:-!.?-p.3"), false),
+    ("p. ?- not.", None, false),
+    ("p q. ?- p.", None, false),
+    ("p. ?- p", None, false),
+    ("p. ?-.", None, false),
+    ("p. ?- p,.", None, false),
+    ("p :- . ?- p.", None, false),
+    ("p :- q r. ?- p.", None, false),
+    (". ?- p.", None, false),
+    ("p : - q. ?- p.", None, false),
+    ("p. ? - p.", None, false),
+    ("P. ?- p.", None, false),
+    ("9. ?- p.", None, false),
+    ("_a. ?- p.", None, false),
+    ("p\u{b}. ?- p.", None, false),
+    ("p. ?- \u{e9}.", None, false),
+];
+
+/// The program of the text, shown, or none where it is refused; and whether it is run today.
+fn read(alloc: Global, text: &str) -> Result<(Option<String>, bool), Fail> {
+    match read_program(alloc, text.as_bytes(), Names::new(alloc)?) {
+        Ok((program, names)) => {
+            let shown = show(alloc, &program, &names)?;
+            Ok((Some(shown), is_run_today(&program)))
+        }
+        Err(Stop::At(_)) | Err(Stop::Memory) => Ok((None, false)),
+    }
+}
+
+#[test]
+fn reads_the_grammar_and_nothing_else(rt: HostRuntime) -> Result<(), Fail> {
+    for (text, want, is_run) in TEXTS {
+        let (shown, runs) = read(rt.alloc(), text)?;
+        assert!(rt;
+            shown.as_ref().map(|it| it.as_str()) == *want && runs == *is_run,
+            "at {text:?}"
+        );
+    }
+    Ok(())
+}
