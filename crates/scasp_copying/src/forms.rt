@@ -33,7 +33,7 @@ pub fn new_parts(alloc: Global, first: u64, count: u64) -> Result<Terms, Memory>
 }
 
 /// So many variables, from `first` on; where their numbers pass 64 bits there is no memory for them.
-fn numbered_parts(alloc: Global, first: u64, count: u64) -> Result<Terms, Memory>
+pub fn numbered_parts(alloc: Global, first: u64, count: u64) -> Result<Terms, Memory>
     ensures { IfOk result (λ made. made ≡ new_parts first count) }
 {
     if count > u64::MAX - first {

@@ -11,7 +11,7 @@ use scasp_unify::Binding;
 use std::alloc::Global;
 
 /// A constraint and its other side, without new parts.
-fn parting(alloc: Global, constraint: &Con, other: Con) -> Result<Parting, Memory>
+pub fn parting(alloc: Global, constraint: &Con, other: Con) -> Result<Parting, Memory>
     ensures { IfOk result (λ made. made ≡ parting constraint.now other) }
 {
     Ok(Parting {
@@ -24,7 +24,7 @@ fn parting(alloc: Global, constraint: &Con, other: Con) -> Result<Parting, Memor
 }
 
 /// A variable that has this name with these parts, or has it not.
-fn shape_parting(
+pub fn shape_parting(
     alloc: Global,
     x: u64,
     name: NameId,
