@@ -46,13 +46,13 @@ sign_text (Some a) = codes " :- "
 -- `p(V0) :- q(V0), not r.`, and the line's end
 unfoldable pub clause_text : List (List ℕ) → Clause → List ℕ
 clause_text names c =
-    let w = record { names = names; variables = rule_variables 0 c.vars } in
+    let w : Style = record { names = names; variables = rule_variables 0 c.vars } in
     head_text w c.head ++ body_text w (sign_text c.head) c.body ++ codes ".\n"
 
 -- `?- p(X), q(_).`, and the line's end
 unfoldable pub query_text : List (List ℕ) → Query → List ℕ
 query_text names q =
-    let w = record { names = names; variables = map (query_variable names) q.names } in
+    let w : Style = record { names = names; variables = map (query_variable names) q.names } in
     codes "?- " ++ items_text w true q.body ++ codes ".\n"
 
 -- ---- generated denials

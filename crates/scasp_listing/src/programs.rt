@@ -1,5 +1,5 @@
 //! Programs.
-ghost use Rattle.std.specs.Prelude.{◌≡◌, ◌++◌, take, filter, flat_map, IfOk, OnOk};
+ghost use Rattle.std.specs.Prelude.{◌≡◌, ◌≤◌, ◌++◌, length, take, filter, flat_map, IfOk, OnOk};
 ghost use Rattle.scasp_syntax.specs.Programs.{predicates_in};
 ghost use Rattle.scasp_listing.specs.Programs as spec;
 
@@ -83,7 +83,8 @@ fn negated_predicates(alloc: Global, program: &Program) -> Result<Preds, Memory>
 
 /// How many clauses stand in front of the generated denials.
 fn written_count(alloc: Global, program: &Program) -> Result<usize, Memory>
-    ensures { IfOk result (λ n. take n program.now.clauses ≡ spec.written program.now.clauses program.now.queries) }
+    ensures place { IfOk result (λ n. n ≤ length program.now.clauses) }
+    ensures clauses { IfOk result (λ n. take n program.now.clauses ≡ spec.written program.now.clauses program.now.queries) }
 {
     let negated = negated_predicates(alloc, program)?;
     let all = program.clauses.as_slice();

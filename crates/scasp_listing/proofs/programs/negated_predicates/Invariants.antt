@@ -1,5 +1,4 @@
 use Rattle.std.proofs.Common.{◌≡◌, ◌++◌, filter, drop}
-use Rattle.scasp_listing.specs.Programs.{negated_predicates}
 use Rattle.scasp_listing.proofs.programs.negated_predicates.Given as goal
 
 abbrev pub invariant-loop-pred : goal.invariant-loop-pred
