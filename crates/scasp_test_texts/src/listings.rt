@@ -61,14 +61,18 @@ fn written(alloc: Global, text: &[u8]) -> Result<Vec<u8>, Fail> {
     Ok(print_program(alloc, &program, &names)?)
 }
 
-/// Each program is written so, and what is written is written so again.
+/// Whether the program of the text is written so, and what is written is written so again.
+fn is_written_so(alloc: Global, text: &str, wanted: &str) -> Result<bool, Fail> {
+    let once = written(alloc, text.as_bytes())?;
+    let twice = written(alloc, once.as_slice())?;
+    Ok(once.as_slice() == wanted.as_bytes() && twice.as_slice() == wanted.as_bytes())
+}
+
 #[test]
 fn programs_are_written_and_read_again(rt: HostRuntime) -> Result<(), Fail> {
     for (text, wanted) in ROWS {
-        let once = written(rt.alloc(), text.as_bytes())?;
-        assert!(rt; once.as_slice() == wanted.as_bytes(), "of {text}");
-        let twice = written(rt.alloc(), once.as_slice())?;
-        assert!(rt; twice.as_slice() == wanted.as_bytes(), "again {text}");
+        let is_so = is_written_so(rt.alloc(), text, wanted)?;
+        assert!(rt; is_so);
     }
     Ok(())
 }
