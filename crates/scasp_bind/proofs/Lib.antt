@@ -1,0 +1,7 @@
+-- Lemmas of the proofs.
+pub mod StepLemmas
+pub mod ResolvingLemmas
+pub mod WalkLemmas
+pub mod HeadLemmas
+pub mod SoundLemmas
+pub mod DepthLemmas

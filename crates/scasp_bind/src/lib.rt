@@ -1,0 +1,13 @@
+//! Bindings of variables with a trail.
+#![tactic(auto)]
+
+mod binding;
+mod bindings;
+mod depths;
+mod resolving;
+mod trailed;
+mod variable;
+mod walks;
+
+pub use bindings::Bindings;
+pub use variable::{BindMark, Change, Sort, Variable};
