@@ -2,9 +2,13 @@
 #![tactic(auto)]
 
 mod above;
+mod by_lines;
+pub mod laws;
 mod pairs;
 mod raising;
 
 pub use above::{above_all, above_con, above_cons};
-pub use pairs::{Saying, pair_list};
+pub use by_lines::{ApartErr, apart, context, pair};
+pub use pairs::{is_pair, pair_list};
 pub use raising::{Raising, con_raised};
+pub use scasp_shown::Saying;

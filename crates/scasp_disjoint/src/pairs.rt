@@ -1,24 +1,25 @@
 //! Pairs of literals.
 ghost use Rattle.std.specs.Prelude.{◌≡◌, ◌++◌, IfOk, OnOk};
 ghost use Rattle.scasp_acceptance.specs.PairLists.{equal_args, pair_list};
-ghost use Rattle.scasp_disjoint.specs.Raised.{raising_by, told_of};
+ghost use Rattle.scasp_acceptance.specs.Pairs.{is_pair};
+ghost use Rattle.scasp_disjoint.specs.Raised.{raising_by};
+ghost use Rattle.scasp_shown.specs.TableView.{told_of};
 ghost use Rattle.scasp_syntax.specs.Values.{all_under};
 
 use crate::above::{above_all, above_cons};
 use crate::raising::{Raising, push_raised};
 use scasp_dues::context;
 use scasp_list::Memory;
-use scasp_places::{Chain, Entry, under};
-use scasp_syntax::{Atom, Con, Cons, Terms, copy};
+use scasp_places::under;
+use scasp_shown::Saying;
+use scasp_syntax::{Con, Cons, Terms, copy};
 use std::alloc::Global;
 
-/// A positive or a negated literal on a line, with what opened above it.
-#[derive(Drop)]
-pub struct Saying {
-    pub at: u64,
-    pub positive: bool,
-    pub atom: Atom,
-    pub opened: Chain<Entry>,
+/// Whether one of the literals is positive and the other negated, and they are of one predicate.
+pub fn is_pair(first: &Saying, second: &Saying) -> bool
+    ensures { result ≡ is_pair (told_of first.now) (told_of second.now) }
+{
+    first.positive != second.positive && first.atom.pred() == second.atom.pred()
 }
 
 /// Puts the equations at the end that make the first terms equal to the others, which are raised, as far as there are both.
