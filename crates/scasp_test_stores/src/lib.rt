@@ -1,0 +1,5 @@
+//! Tests of the trailed stores, over public calls.
+#![tactic(auto)]
+
+#[cfg(test)]
+mod bindings;
