@@ -1,8 +1,7 @@
 //! A certificate of each form, made, counted and copied.
-use crate::made::{certificate, nodes};
+use crate::made::{boxed, certificate, covers, nodes};
 use scasp_cert::{
-    Case, Cert, Check, Clash, Cover, Covers, Node, Nodes, copy_case, copy_node, copy_nodes, flat,
-    lines, skeleton,
+    Case, Cert, Check, Clash, Node, Nodes, copy_case, copy_node, copy_nodes, flat, lines, skeleton,
 };
 use scasp_name::Memory;
 use scasp_samples::{P, atom, literal};
@@ -19,22 +18,29 @@ fn leaf(alloc: Global) -> Result<Case, Memory> {
     })
 }
 
+fn boxed_leaf(alloc: Global) -> Result<Box<Case>, Memory> {
+    boxed(alloc, leaf(alloc)?)
+}
+
 /// Two cases, a void one and a leaf: four lines.
 fn two_cases(alloc: Global) -> Result<Case, Memory> {
-    let first = Box::new(alloc, Case::Void { hint: Hint::Terms })?;
+    let first = boxed(alloc, Case::Void { hint: Hint::Terms })?;
     Ok(Case::Split {
         con: Con::Num(Term::Var(0)),
         first,
-        second: Box::new(alloc, leaf(alloc)?)?,
+        second: boxed_leaf(alloc)?,
     })
+}
+
+fn copied_cases(alloc: Global) -> Result<Case, Memory> {
+    let cases = two_cases(alloc)?;
+    copy_case(alloc, &cases)
 }
 
 /// A negated atom with one rule, which has two cases.
 fn negated(alloc: Global) -> Result<Node, Memory> {
-    let case = copy_case(alloc, &two_cases(alloc)?)?;
-    let mut covers = Covers::new(alloc);
-    covers.push(Cover { rule: 1, case })?;
     let atom = atom(alloc, P)?;
+    let covers = covers(alloc, 1, copied_cases(alloc)?)?;
     Ok(Node::Neg { atom, covers })
 }
 
@@ -54,30 +60,47 @@ fn trees(alloc: Global) -> Result<Nodes, Memory> {
 fn push_check(alloc: Global, cert: &mut Cert) -> Result<(), Memory> {
     let children = Nodes::new(alloc);
     let case = Case::Head { children };
-    cert.checks.push(Check { clause: 2, case })
-}
-
-/// The certificate of copies of the trees, with a check and a clash.
-fn all_kinds(alloc: Global) -> Result<Cert, Memory> {
-    let mut cert = certificate(alloc, copy_nodes(alloc, &trees(alloc)?)?);
-    push_check(alloc, &mut cert)?;
+    cert.checks.push(Check { clause: 2, case })?;
     cert.clashes.push(Clash {
         first: 1,
         second: 2,
         hint: Hint::Terms,
-    })?;
+    })
+}
+
+fn copied_trees(alloc: Global) -> Result<Nodes, Memory> {
+    let trees = trees(alloc)?;
+    copy_nodes(alloc, &trees)
+}
+
+/// The certificate of copies of the trees, with a check and a clash.
+fn all_kinds(alloc: Global) -> Result<Cert, Memory> {
+    let mut cert = certificate(alloc, copied_trees(alloc)?);
+    push_check(alloc, &mut cert)?;
     Ok(cert)
 }
 
 #[test]
-fn counts_and_copies(rt: HostRuntime) -> Result<(), Fail> {
+fn lines_are_counted(rt: HostRuntime) -> Result<(), Fail> {
     let cert = all_kinds(rt.alloc())?;
     assert!(rt; matches!(cert.trees.get(1), Some(Node::Neg { .. })));
     // Twice a literal, a rule and four lines; a check and its case.
-    assert_eq!(rt; lines(&cert)?, 14);
-    assert!(rt; flat(&cert)?);
-    let bare = skeleton(rt.alloc(), &cert)?;
-    assert_eq!(rt; lines(&bare)?, 14);
-    assert_eq!(rt; (cert.clashes.len(), bare.clashes.len()), (1, 0));
+    assert_eq!(rt; lines(&cert), Ok(14));
+    assert_eq!(rt; flat(&cert), Ok(true));
+    Ok(())
+}
+
+fn bare(alloc: Global) -> Result<Cert, Memory> {
+    let cert = all_kinds(alloc)?;
+    skeleton(alloc, &cert)
+}
+
+/// A skeleton has the same lines, and no clash.
+#[test]
+fn skeletons_are_taken(rt: HostRuntime) -> Result<(), Fail> {
+    assert_eq!(rt; all_kinds(rt.alloc())?.clashes.len(), 1);
+    let bare = bare(rt.alloc())?;
+    assert_eq!(rt; lines(&bare), Ok(14));
+    assert_eq!(rt; bare.clashes.len(), 0);
     Ok(())
 }

@@ -1,5 +1,5 @@
 //! Parts of certificates that several tests make.
-use scasp_cert::{Cert, Checks, Clashes, Node, Nodes};
+use scasp_cert::{Case, Cert, Checks, Clashes, Cover, Covers, Node, Nodes};
 use scasp_name::Memory;
 use scasp_syntax::{Cons, PredMaps, Term, Terms};
 use std::alloc::Global;
@@ -9,6 +9,18 @@ pub(crate) fn nodes(alloc: Global, node: Node) -> Result<Nodes, Memory> {
     let mut list = Nodes::new(alloc);
     list.push(node)?;
     Ok(list)
+}
+
+/// The list of one rule's case.
+pub(crate) fn covers(alloc: Global, rule: u64, case: Case) -> Result<Covers, Memory> {
+    let mut list = Covers::new(alloc);
+    list.push(Cover { rule, case })?;
+    Ok(list)
+}
+
+/// The case on the heap.
+pub(crate) fn boxed(alloc: Global, case: Case) -> Result<Box<Case>, Memory> {
+    Ok(Box::new(alloc, case)?)
 }
 
 /// The list of one term.

@@ -1,10 +1,10 @@
 //! Certificates, and their blocks written out by hand.
-use crate::made::{certificate, nodes, terms};
+use crate::made::{boxed, certificate, covers, nodes, terms};
 use scasp_cert::{Case, Cert, Check, Clash, Cover, Covers, Node, Nodes};
 use scasp_name::{Memory, NIL, NameId, Names, PAIR};
-use scasp_num::{Op, Rat, RatPair, RatPairs, Row, Step, StepLists};
+use scasp_num::{Op, Rat, RatPair, RatPairs, Row, Step, StepLists, Steps};
 use scasp_print::print_cert;
-use scasp_samples::{Name, P, Q, R, S, T, atom, literal, map_of, one, pred};
+use scasp_samples::{Literal, Name, P, Q, R, S, T, atom, literal, map_of, one, pred};
 use scasp_syntax::{Atom, Con, Cons, Hint, Pred, PredMap, Term, Terms};
 use std::alloc::Global;
 use std::process::Abort;
@@ -89,44 +89,59 @@ fn pair(alloc: Global, first: Term, rest: Term) -> Result<Term, Memory> {
     Ok(Term::App(PAIR, args))
 }
 
-/// The certificate of a line `p` by rule 1 with these lines below it.
-fn fact(alloc: Global, children: Nodes) -> Result<Cert, Memory> {
-    let node = Node::Pos {
+/// A line `p` by rule 1 with these lines below it.
+fn line(alloc: Global, children: Nodes) -> Result<Node, Memory> {
+    Ok(Node::Pos {
         atom: atom(alloc, P)?,
         rule: 1,
         terms: Terms::new(alloc),
         children,
-    };
-    let mut cert = certificate(alloc, nodes(alloc, node)?);
+    })
+}
+
+/// The certificate of this line alone.
+fn fact(alloc: Global, children: Nodes) -> Result<Cert, Memory> {
+    let trees = nodes(alloc, line(alloc, children)?)?;
+    let mut cert = certificate(alloc, trees);
     cert.map = map_of(alloc, &[(P, 0, true)])?;
     Ok(cert)
 }
 
+/// The list of a loop to the first line.
+fn looped(alloc: Global, written: Literal) -> Result<Nodes, Memory> {
+    let lit = literal(alloc, written)?;
+    nodes(alloc, Node::Loop { lit, at: 1 })
+}
+
 fn one_cover(alloc: Global) -> Result<Covers, Memory> {
-    let lit = literal(alloc, (true, P))?;
-    let children = nodes(alloc, Node::Loop { lit, at: 1 })?;
+    let children = looped(alloc, (true, P))?;
     let case = Case::Leaf { item: 1, children };
-    let mut covers = Covers::new(alloc);
-    covers.push(Cover { rule: 2, case })?;
-    Ok(covers)
+    covers(alloc, 2, case)
+}
+
+fn negated(alloc: Global) -> Result<Nodes, Memory> {
+    let atom = atom(alloc, Q)?;
+    let covers = one_cover(alloc)?;
+    nodes(alloc, Node::Neg { atom, covers })
 }
 
 fn even_loop(alloc: Global) -> Result<Cert, Memory> {
-    let atom = atom(alloc, Q)?;
-    let covers = one_cover(alloc)?;
-    let mut cert = fact(alloc, nodes(alloc, Node::Neg { atom, covers })?)?;
+    let mut cert = fact(alloc, negated(alloc)?)?;
     cert.map = map_of(alloc, &[(P, 0, true), (Q, 0, false)])?;
     Ok(cert)
 }
 
-fn row(alloc: Global, summands: &[(u64, i128)], constant: i128, op: Op) -> Result<Con, Fail> {
+fn pairs(alloc: Global, summands: &[(u64, i128)]) -> Result<RatPairs, Fail> {
     let mut pairs = RatPairs::new(alloc);
     for (x, number) in summands {
-        pairs.push(RatPair {
-            x: *x,
-            value: Rat::new(*number, 1)?,
-        })?;
+        let value = Rat::new(*number, 1)?;
+        pairs.push(RatPair { x: *x, value })?;
     }
+    Ok(pairs)
+}
+
+fn row(alloc: Global, summands: &[(u64, i128)], constant: i128, op: Op) -> Result<Con, Fail> {
+    let pairs = pairs(alloc, summands)?;
     let row = Row::normal(alloc, &pairs, &Rat::new(constant, 1)?, op)?;
     Ok(Con::Row(row))
 }
@@ -164,27 +179,31 @@ fn numbers(alloc: Global) -> Result<Cert, Fail> {
     Ok(cert)
 }
 
-fn push_pairs(alloc: Global, list: &mut Terms) -> Result<(), Memory> {
+/// The list `[p,q|V1]`.
+fn open_list(alloc: Global) -> Result<Term, Memory> {
     let rest = pair(alloc, constant(alloc, Q), Term::Var(1))?;
-    list.push(pair(alloc, constant(alloc, P), rest)?)?;
-    let nil = Term::App(NIL, Terms::new(alloc));
-    list.push(pair(alloc, constant(alloc, P), nil)?)
+    pair(alloc, constant(alloc, P), rest)
 }
 
-fn many_terms(alloc: Global) -> Result<Terms, Memory> {
-    let mut list = terms(alloc, Term::Var(0))?;
-    push_pairs(alloc, &mut list)?;
+fn nil(alloc: Global) -> Term {
+    Term::App(NIL, Terms::new(alloc))
+}
+
+fn push_lists(alloc: Global, list: &mut Terms) -> Result<(), Memory> {
+    list.push(Term::Var(0))?;
+    list.push(open_list(alloc)?)?;
+    list.push(pair(alloc, constant(alloc, P), nil(alloc))?)
+}
+
+fn push_names(alloc: Global, list: &mut Terms) -> Result<(), Memory> {
     list.push(constant(alloc, R))?;
-    list.push(constant(alloc, T))?;
-    Ok(list)
+    list.push(constant(alloc, T))
 }
 
-fn constraints(alloc: Global) -> Result<Cons, Memory> {
-    let mut given = Cons::new(alloc);
+fn push_constraints(given: &mut Cons) -> Result<(), Memory> {
     given.push(Con::NotShape(0, NameId::new(P.place), 0))?;
     given.push(Con::NotShape(1, NameId::new(S.place), 2))?;
-    given.push(Con::Num(Term::Var(0)))?;
-    Ok(given)
+    given.push(Con::Num(Term::Var(0)))
 }
 
 const STEP: Step = Step {
@@ -205,57 +224,75 @@ fn leaf(alloc: Global) -> Result<Case, Memory> {
     Ok(Case::Leaf { item: 2, children })
 }
 
+fn boxed_leaf(alloc: Global) -> Result<Box<Case>, Memory> {
+    boxed(alloc, leaf(alloc)?)
+}
+
 fn split(alloc: Global) -> Result<Case, Memory> {
-    let first = Box::new(alloc, void(alloc)?)?;
-    let second = Box::new(alloc, leaf(alloc)?)?;
+    let first = boxed(alloc, void(alloc)?)?;
     Ok(Case::Split {
         con: Con::Neq(Term::Var(0), constant(alloc, Q)),
         first,
-        second,
+        second: boxed_leaf(alloc)?,
     })
 }
 
 fn head(alloc: Global) -> Result<Case, Memory> {
-    let lit = literal(alloc, (false, Q))?;
-    let children = nodes(alloc, Node::Loop { lit, at: 1 })?;
+    let children = looped(alloc, (false, Q))?;
     Ok(Case::Head { children })
+}
+
+fn push_covers(alloc: Global, covers: &mut Covers) -> Result<(), Memory> {
+    let case = split(alloc)?;
+    covers.push(Cover { rule: 4, case })?;
+    let case = head(alloc)?;
+    covers.push(Cover { rule: 5, case })
 }
 
 fn all_covers(alloc: Global) -> Result<Covers, Memory> {
     let mut covers = Covers::new(alloc);
-    let case = split(alloc)?;
-    covers.push(Cover { rule: 4, case })?;
-    let case = head(alloc)?;
-    covers.push(Cover { rule: 5, case })?;
+    push_covers(alloc, &mut covers)?;
     Ok(covers)
 }
 
-fn step_lists(alloc: Global) -> Result<StepLists, Memory> {
+const OTHER: Step = Step {
+    a: -1,
+    p: 5,
+    b: 6,
+    q: 7,
+};
+
+fn two_steps(alloc: Global) -> Result<Steps, Memory> {
     let mut two = one(alloc, STEP)?;
-    two.push(Step {
-        a: -1,
-        p: 5,
-        b: 6,
-        q: 7,
-    })?;
+    two.push(OTHER)?;
+    Ok(two)
+}
+
+fn step_lists(alloc: Global) -> Result<StepLists, Memory> {
     let mut lists = one(alloc, one(alloc, STEP)?)?;
-    lists.push(two)?;
+    lists.push(two_steps(alloc)?)?;
     Ok(lists)
+}
+
+fn test(alloc: Global) -> Node {
+    Node::Test {
+        con: Con::Eq(Term::Var(0), constant(alloc, P)),
+        hint: Hint::Terms,
+    }
+}
+
+/// A line for `-q`.
+fn line_of_minus(alloc: Global) -> Result<Node, Memory> {
+    let covers = all_covers(alloc)?;
+    let mut atom = atom(alloc, Q)?;
+    atom.minus = true;
+    Ok(Node::Neg { atom, covers })
 }
 
 /// A test, and a line for `-q`.
 fn lines_below(alloc: Global) -> Result<Nodes, Memory> {
-    let mut children = nodes(
-        alloc,
-        Node::Test {
-            con: Con::Eq(Term::Var(0), constant(alloc, P)),
-            hint: Hint::Terms,
-        },
-    )?;
-    let covers = all_covers(alloc)?;
-    let mut atom = atom(alloc, Q)?;
-    atom.minus = true;
-    children.push(Node::Neg { atom, covers })?;
+    let mut children = nodes(alloc, test(alloc))?;
+    children.push(line_of_minus(alloc)?)?;
     Ok(children)
 }
 
@@ -267,24 +304,35 @@ fn binary(alloc: Global) -> Result<Atom, Memory> {
     Ok(atom)
 }
 
-fn all_trees(alloc: Global) -> Result<Nodes, Memory> {
+fn line_of_all(alloc: Global) -> Result<Node, Memory> {
     let children = lines_below(alloc)?;
     let atom = binary(alloc)?;
-    let node = Node::Pos {
+    Ok(Node::Pos {
         atom,
         rule: 3,
         terms: terms(alloc, Term::Var(0))?,
         children,
-    };
-    nodes(alloc, node)
+    })
 }
 
-/// Puts what stands beside the trees.
-fn put_forms(alloc: Global, cert: &mut Cert) -> Result<(), Memory> {
-    cert.terms = many_terms(alloc)?;
-    cert.given = constraints(alloc)?;
+fn put_terms(alloc: Global, cert: &mut Cert) -> Result<(), Memory> {
+    push_lists(alloc, &mut cert.terms)?;
+    push_names(alloc, &mut cert.terms)?;
+    push_constraints(&mut cert.given)?;
     cert.sample.push(constant(alloc, P))?;
-    cert.sample.push(Term::App(NIL, Terms::new(alloc)))?;
+    cert.sample.push(nil(alloc))
+}
+
+fn entry() -> PredMap {
+    let minus = true;
+    PredMap {
+        pred: Pred { minus, ..pred(Q) },
+        level: 1,
+        plus: false,
+    }
+}
+
+fn put_checks(alloc: Global, cert: &mut Cert) -> Result<(), Memory> {
     let hint = Hint::Same(1, step_lists(alloc)?);
     let case = Case::Void { hint };
     cert.checks.push(Check { clause: 6, case })?;
@@ -293,18 +341,14 @@ fn put_forms(alloc: Global, cert: &mut Cert) -> Result<(), Memory> {
         second: 3,
         hint: Hint::Terms,
     })?;
-    let minus = true;
-    cert.map.push(PredMap {
-        pred: Pred { minus, ..pred(Q) },
-        level: 1,
-        plus: false,
-    })
+    cert.map.push(entry())
 }
 
 fn all_forms(alloc: Global) -> Result<Cert, Memory> {
-    let mut cert = certificate(alloc, all_trees(alloc)?);
+    let mut cert = certificate(alloc, nodes(alloc, line_of_all(alloc)?)?);
     cert.query = 2;
-    put_forms(alloc, &mut cert)?;
+    put_terms(alloc, &mut cert)?;
+    put_checks(alloc, &mut cert)?;
     Ok(cert)
 }
 

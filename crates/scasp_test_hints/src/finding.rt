@@ -8,7 +8,6 @@ use scasp_num::Op::{Eq, Le, Lt, Ne};
 use scasp_rows::LinErr;
 use scasp_syntax::{Con, Hint, Term, Terms};
 use std::alloc::Global;
-use std::process::Abort;
 use std::test::Fail;
 
 /// What is found: a hint, with the number of its disequation and of its lists of steps, or nothing.
@@ -314,57 +313,70 @@ fn is_hint(hint: &Hint, wanted: &Wanted) -> bool {
     }
 }
 
-/// Finds what is wanted for a list: a hint shows the list, and without one it passes the test.
-fn check(rt: &impl Abort, alloc: Global, list: &[Con], wanted: &Wanted) -> Result<(), Fail> {
+/// Whether what is wanted is found for a list: a hint shows the list, and without one it passes the test.
+fn is_found(alloc: Global, list: &[Con], wanted: &Wanted) -> bool {
+    let passes = is_satisfiable(alloc, list);
     match find(alloc, list) {
         Ok(Some(hint)) => {
-            assert!(rt; is_hint(&hint, wanted));
-            assert!(rt; unsat(alloc, list, &hint).is_ok());
-            assert!(rt; is_satisfiable(alloc, list) == Ok(false));
+            is_hint(&hint, wanted) && unsat(alloc, list, &hint).is_ok() && passes == Ok(false)
         }
-        Ok(None) => {
-            assert!(rt; matches!(wanted, Wanted::Nothing));
-            assert!(rt; is_satisfiable(alloc, list) == Ok(true));
-        }
+        Ok(None) => matches!(wanted, Wanted::Nothing) && passes == Ok(true),
         Err(LinErr::Overflow) => {
-            assert!(rt; matches!(wanted, Wanted::TooLarge));
-            assert!(rt; is_satisfiable(alloc, list) == Err(LinErr::Overflow));
+            matches!(wanted, Wanted::TooLarge) && passes == Err(LinErr::Overflow)
         }
-        Err(LinErr::Memory) => return Err(Fail::from("no memory")),
+        Err(LinErr::Memory) => false,
     }
-    Ok(())
 }
 
 #[test]
 fn hints_are_found(rt: HostRuntime) -> Result<(), Fail> {
     for case in &CASES {
         let list = constraints(rt.alloc(), case.list)?;
-        check(&rt, rt.alloc(), list.as_slice(), &case.wanted)?;
+        assert!(rt; is_found(rt.alloc(), list.as_slice(), &case.wanted));
     }
     Ok(())
 }
 
-/// A name around the term so many times.
-fn nested(alloc: Global, inner: Term, depth: u64) -> Result<Term, Fail> {
-    let mut made = inner;
-    for _ in 0..depth {
-        let mut args = Terms::new(alloc);
-        args.push(made)?;
-        made = Term::App(NameId::new(4), args);
+/// The name around the term.
+fn named(alloc: Global, inner: Term) -> Result<Term, Fail> {
+    let mut args = Terms::new(alloc);
+    args.push(inner)?;
+    Ok(Term::App(NameId::new(4), args))
+}
+
+/// 2,000 names around the variable.
+fn nested(alloc: Global, x: u64) -> Result<Term, Fail> {
+    let mut made = Term::Var(x);
+    for _ in 0..2000 {
+        made = named(alloc, made)?;
     }
     Ok(made)
 }
 
-/// 2,000 names around V0 and around V1 are equal, and V0 differs from V1.
+/// 2,000 names around V0 and around V1 are equal.
+fn nested_equation(alloc: Global) -> Result<Con, Fail> {
+    let left = nested(alloc, 0)?;
+    Ok(Con::Eq(left, nested(alloc, 1)?))
+}
+
+fn nested_list(alloc: Global) -> Result<Vec<Con>, Fail> {
+    let mut list = Vec::new(alloc);
+    list.push(nested_equation(alloc)?)?;
+    Ok(list)
+}
+
 #[test]
 fn nested_names_unify(rt: HostRuntime) -> Result<(), Fail> {
-    let alloc = rt.alloc();
-    let mut list = Vec::new(alloc);
-    list.push(Con::Eq(
-        nested(alloc, Term::Var(0), 2000)?,
-        nested(alloc, Term::Var(1), 2000)?,
-    ))?;
-    check(&rt, alloc, list.as_slice(), &Wanted::Nothing)?;
+    let list = nested_list(rt.alloc())?;
+    assert!(rt; is_found(rt.alloc(), list.as_slice(), &Wanted::Nothing));
+    Ok(())
+}
+
+/// V0 differs from V1, too.
+#[test]
+fn nested_names_differ(rt: HostRuntime) -> Result<(), Fail> {
+    let mut list = nested_list(rt.alloc())?;
     list.push(Con::Neq(Term::Var(0), Term::Var(1)))?;
-    check(&rt, alloc, list.as_slice(), &Wanted::ByTerms)
+    assert!(rt; is_found(rt.alloc(), list.as_slice(), &Wanted::ByTerms));
+    Ok(())
 }

@@ -46,20 +46,35 @@ pub fn term(alloc: Global, given: &Written) -> Result<Term, Fail> {
     }
 }
 
-pub fn row(alloc: Global, terms: &[(u64, i128)], constant: i128, op: Op) -> Result<Row, Fail> {
+fn pairs(alloc: Global, terms: &[(u64, i128)]) -> Result<RatPairs, Fail> {
     let mut pairs = RatPairs::new(alloc);
     for (x, c) in terms {
         let value = Rat::new(*c, 1)?;
         pairs.push(RatPair { x: *x, value })?;
     }
-    let made = Row::normal(alloc, &pairs, &Rat::new(constant, 1)?, op)?;
-    Ok(made)
+    Ok(pairs)
+}
+
+fn row(alloc: Global, terms: &[(u64, i128)], constant: i128, op: Op) -> Result<Row, Fail> {
+    let pairs = pairs(alloc, terms)?;
+    let constant = Rat::new(constant, 1)?;
+    Ok(Row::normal(alloc, &pairs, &constant, op)?)
+}
+
+fn equation(alloc: Global, left: &Written, right: &Written) -> Result<Con, Fail> {
+    let left = term(alloc, left)?;
+    Ok(Con::Eq(left, term(alloc, right)?))
+}
+
+fn disequation(alloc: Global, left: &Written, right: &Written) -> Result<Con, Fail> {
+    let left = term(alloc, left)?;
+    Ok(Con::Neq(left, term(alloc, right)?))
 }
 
 fn constraint(alloc: Global, given: &Told) -> Result<Con, Fail> {
     match given {
-        Told::Equal(left, right) => Ok(Con::Eq(term(alloc, left)?, term(alloc, right)?)),
-        Told::Differ(left, right) => Ok(Con::Neq(term(alloc, left)?, term(alloc, right)?)),
+        Told::Equal(left, right) => equation(alloc, left, right),
+        Told::Differ(left, right) => disequation(alloc, left, right),
         Told::NoShape(x, name, arity) => Ok(Con::NotShape(*x, NameId::new(*name), *arity)),
         Told::Number(x) => Ok(Con::Num(Term::Var(*x))),
         Told::NoNumber(x) => Ok(Con::NotNum(Term::Var(*x))),
@@ -88,16 +103,18 @@ fn steps(alloc: Global, given: &[Summed]) -> Result<Steps, Fail> {
     Ok(all)
 }
 
+fn step_lists(alloc: Global, lists: &[&[Summed]]) -> Result<StepLists, Fail> {
+    let mut all = StepLists::new(alloc);
+    for listed in lists {
+        all.push(steps(alloc, listed)?)?;
+    }
+    Ok(all)
+}
+
 pub fn hint(alloc: Global, given: &Tried) -> Result<Hint, Fail> {
     match given {
         Tried::ByTerms => Ok(Hint::Terms),
         Tried::ByRows(listed) => Ok(Hint::Rows(steps(alloc, listed)?)),
-        Tried::BySame(number, lists) => {
-            let mut all = StepLists::new(alloc);
-            for listed in *lists {
-                all.push(steps(alloc, listed)?)?;
-            }
-            Ok(Hint::Same(*number, all))
-        }
+        Tried::BySame(number, lists) => Ok(Hint::Same(*number, step_lists(alloc, lists)?)),
     }
 }

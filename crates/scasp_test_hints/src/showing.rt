@@ -216,16 +216,21 @@ static CASES: [Case; 28] = [
     },
 ];
 
+/// The answer where the hint has this fault.
+fn outcome(fault: Option<HintFault>) -> Result<(), HintErr> {
+    match fault {
+        None => Ok(()),
+        Some(fault) => Err(HintErr::Fault(fault)),
+    }
+}
+
 #[test]
 fn hints_are_judged(rt: HostRuntime) -> Result<(), Fail> {
     for case in &CASES {
         let list = constraints(rt.alloc(), case.list)?;
         let tried = hint(rt.alloc(), &case.hint)?;
-        let wanted = match case.fault {
-            None => Ok(()),
-            Some(fault) => Err(HintErr::Fault(fault)),
-        };
-        assert!(rt; unsat(rt.alloc(), list.as_slice(), &tried) == wanted);
+        let answer = unsat(rt.alloc(), list.as_slice(), &tried);
+        assert!(rt; answer == outcome(case.fault));
     }
     Ok(())
 }

@@ -1,8 +1,9 @@
 //! What is due below a line.
-use crate::made::{rule, two};
+use crate::made::{p_of, rule, two};
 use scasp_cert::{Cert, Checks, Clashes, Nodes};
-use scasp_dues::{Due, head_dues, leaf_dues, query_dues, rule_dues, top};
-use scasp_places::{Place, inside_rule};
+use scasp_dues::{Due, Dues, head_dues, leaf_dues, query_dues, rule_dues, top};
+use scasp_list::Memory;
+use scasp_places::{Inside, Place, inside_rule};
 use scasp_syntax::{
     Clauses, Con, Cons, Items, PredMaps, Program, Queries, Query, Term, Terms, VarNames,
 };
@@ -19,33 +20,52 @@ fn differs(due: Option<&Due>, x: u64, y: u64) -> bool {
     }
 }
 
+fn dues_of_rule(alloc: Global) -> Result<Dues, Memory> {
+    let terms = two(alloc, Term::Var(4), Term::Var(5))?;
+    let clause = rule(alloc)?;
+    rule_dues(alloc, Some(&clause), &Place::start(9), &terms)
+}
+
 /// The items of the rule stand under its terms.
 #[test]
 fn below_a_rule(rt: HostRuntime) -> Result<(), Fail> {
-    let alloc = rt.alloc();
-    let terms = two(alloc, Term::Var(4), Term::Var(5))?;
-    let clause = rule(alloc)?;
-    let dues = rule_dues(alloc, Some(&clause), &Place::start(9), &terms)?;
+    let dues = dues_of_rule(rt.alloc())?;
     assert_eq!(rt; dues.len(), 2);
     assert!(rt; matches!(dues.get(0), Some(Due::Goal(_))));
     assert!(rt; differs(dues.get(1), 4, 5));
     Ok(())
 }
 
-/// Below a leaf the last item is to be false, and below a head all items and the head are due.
-#[test]
-fn below_a_case(rt: HostRuntime) -> Result<(), Fail> {
-    let alloc = rt.alloc();
+/// Inside the rule, taken at its own head.
+fn inside(alloc: Global) -> Result<Inside, Memory> {
+    let head = p_of(alloc, 0, 1)?;
     let clause = rule(alloc)?;
-    let Some(head) = &clause.head else {
-        return Ok(());
-    };
-    let inside = inside_rule(alloc, Some(&clause), head, 2, &Place::start(9))?;
-    let leaf = leaf_dues(alloc, &inside.here, &inside.body, 2)?;
+    inside_rule(alloc, Some(&clause), &head, 2, &Place::start(9))
+}
+
+fn dues_of_leaf(alloc: Global) -> Result<Dues, Memory> {
+    let inside = inside(alloc)?;
+    leaf_dues(alloc, &inside.here, &inside.body, 2)
+}
+
+fn dues_of_head(alloc: Global) -> Result<Dues, Memory> {
+    let inside = inside(alloc)?;
+    head_dues(alloc, &inside.here, &inside.body)
+}
+
+/// Below a leaf the last item is to be false.
+#[test]
+fn below_a_leaf(rt: HostRuntime) -> Result<(), Fail> {
+    let leaf = dues_of_leaf(rt.alloc())?;
     assert_eq!(rt; leaf.len(), 2);
     assert!(rt; matches!(leaf.get(1), Some(Due::Fact(Some(Con::Eq(_, _))))));
-    let all = head_dues(alloc, &inside.here, &inside.body)?;
-    assert_eq!(rt; all.len(), 3);
+    Ok(())
+}
+
+/// Below a head all items and the head are due.
+#[test]
+fn below_a_head(rt: HostRuntime) -> Result<(), Fail> {
+    assert_eq!(rt; dues_of_head(rt.alloc())?.len(), 3);
     Ok(())
 }
 
@@ -63,21 +83,31 @@ fn empty(alloc: Global) -> Cert {
     }
 }
 
-/// With no line no universal begins, and a query of no item has no due.
+fn top_of_nothing(alloc: Global) -> Result<u64, Memory> {
+    let program = Program {
+        clauses: Clauses::new(alloc),
+        queries: Queries::new(alloc),
+    };
+    top(&program, &empty(alloc))
+}
+
+/// With no line no universal begins.
 #[test]
-fn of_nothing(rt: HostRuntime) -> Result<(), Fail> {
-    let alloc = rt.alloc();
-    let clauses = Clauses::new(alloc);
-    let queries = Queries::new(alloc);
-    let program = Program { clauses, queries };
-    assert_eq!(rt; top(&program, &empty(alloc))?, 0);
+fn no_universal_begins(rt: HostRuntime) {
+    assert_eq!(rt; top_of_nothing(rt.alloc()), Ok(0));
+}
+
+fn dues_of_nothing(alloc: Global) -> Result<Dues, Memory> {
     let query = Query {
         body: Items::new(alloc),
         names: VarNames::new(alloc),
     };
-    assert_eq!(rt;
-        query_dues(alloc, Some(&query), &Terms::new(alloc))?.len(),
-        0
-    );
+    query_dues(alloc, Some(&query), &Terms::new(alloc))
+}
+
+/// A query of no item has no due.
+#[test]
+fn no_due(rt: HostRuntime) -> Result<(), Fail> {
+    assert_eq!(rt; dues_of_nothing(rt.alloc())?.len(), 0);
     Ok(())
 }

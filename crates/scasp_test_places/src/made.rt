@@ -40,17 +40,27 @@ pub fn fact(alloc: Global, args: Terms) -> Clause {
     }
 }
 
-/// The rule p(X, Y) :- p(Y, X), X \= Y.
-pub fn rule(alloc: Global) -> Result<Clause, Memory> {
-    let atom = p(two(alloc, Term::Var(1), Term::Var(0))?);
+/// p(Vx, Vy).
+pub fn p_of(alloc: Global, x: u64, y: u64) -> Result<Atom, Memory> {
+    Ok(p(two(alloc, Term::Var(x), Term::Var(y))?))
+}
+
+/// p(Y, X), X \= Y.
+fn body(alloc: Global) -> Result<Items, Memory> {
     let mut body = Items::new(alloc);
     body.push(Item::Call(Lit {
         positive: true,
-        atom,
+        atom: p_of(alloc, 1, 0)?,
     }))?;
     body.push(Item::Differ(Term::Var(0), Term::Var(1)))?;
+    Ok(body)
+}
+
+/// The rule p(X, Y) :- p(Y, X), X \= Y.
+pub fn rule(alloc: Global) -> Result<Clause, Memory> {
+    let body = body(alloc)?;
     Ok(Clause {
-        head: Some(p(two(alloc, Term::Var(0), Term::Var(1))?)),
+        head: Some(p_of(alloc, 0, 1)?),
         body,
         vars: 2,
     })

@@ -1,20 +1,27 @@
 //! Rows under a rule's terms and in a pair.
+use crate::made::two;
 use scasp_disjoint::{Raising, con_raised};
 use scasp_dues::determined;
 use scasp_num::{Op, Rat, RatPair, RatPairs, Row};
 use scasp_places::ClauseValues;
-use scasp_syntax::{Con, Term, Terms};
+use scasp_syntax::{Con, Term};
 use std::alloc::Global;
 use std::test::Fail;
 
-/// x0 - 2*x1 < 0.
-fn row(alloc: Global) -> Result<Row, Fail> {
+fn factors(alloc: Global) -> Result<RatPairs, Fail> {
     let mut pairs = RatPairs::new(alloc);
-    let value = Rat::new(1, 1)?;
-    pairs.push(RatPair { x: 0, value })?;
-    let value = Rat::new(-2, 1)?;
-    pairs.push(RatPair { x: 1, value })?;
-    Ok(Row::normal(alloc, &pairs, &Rat::new(0, 1)?, Op::Lt)?)
+    for (x, factor) in [(0, 1), (1, -2)] {
+        let value = Rat::new(factor, 1)?;
+        pairs.push(RatPair { x, value })?;
+    }
+    Ok(pairs)
+}
+
+/// x0 - 2*x1 < 0.
+fn row(alloc: Global) -> Result<Con, Fail> {
+    let pairs = factors(alloc)?;
+    let row = Row::normal(alloc, &pairs, &Rat::new(0, 1)?, Op::Lt)?;
+    Ok(Con::Row(row))
 }
 
 /// The variable of the last coefficient, and the coefficient.
@@ -28,26 +35,23 @@ fn last(constraint: &Con) -> Option<(u64, i128)> {
 /// Of a raised row the variables that are not free are others, and nothing else changes.
 #[test]
 fn a_row_is_raised(rt: HostRuntime) -> Result<(), Fail> {
-    let alloc = rt.alloc();
     let raising = Raising { free: 1, by: 5 };
-    let made = con_raised(alloc, &raising, &Con::Row(row(alloc)?))?;
+    let made = con_raised(rt.alloc(), &raising, &row(rt.alloc())?)?;
     assert_eq!(rt; last(&made), Some((6, -2)));
     Ok(())
+}
+
+/// The row where both variables stand for V7.
+fn under_one(alloc: Global) -> Result<Option<Con>, Fail> {
+    let terms = two(alloc, Term::Var(7), Term::Var(7))?;
+    let row = row(alloc)?;
+    Ok(determined(alloc, &ClauseValues::Listed(&terms), &row)?)
 }
 
 /// Two variables that stand for one are added.
 #[test]
 fn a_row_under_terms(rt: HostRuntime) -> Result<(), Fail> {
-    let alloc = rt.alloc();
-    let mut terms = Terms::new(alloc);
-    terms.push(Term::Var(7))?;
-    terms.push(Term::Var(7))?;
-    let values = ClauseValues::Listed(&terms);
-    let made = determined(alloc, &values, &Con::Row(row(alloc)?))?;
-    let Some(made) = made else {
-        assert!(rt; false);
-        return Ok(());
-    };
-    assert_eq!(rt; last(&made), Some((7, -1)));
+    let made = under_one(rt.alloc())?;
+    assert_eq!(rt; made.as_ref().and_then(last), Some((7, -1)));
     Ok(())
 }

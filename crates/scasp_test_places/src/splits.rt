@@ -24,46 +24,55 @@ fn checked(alloc: Global) -> Result<Inside, Memory> {
 /// The sides of the split by V0 \= f(V1, V2).
 fn split(alloc: Global) -> Result<Sides, Memory> {
     let inside = checked(alloc)?;
-    let parts = f(alloc, Term::Var(1), Term::Var(2))?;
-    let constraint = Con::Neq(Term::Var(0), parts);
+    let constraint = Con::Neq(Term::Var(0), f(alloc, Term::Var(1), Term::Var(2))?);
     both_sides(alloc, BOUNDS, &constraint, &inside.here, inside.next)
 }
 
 /// On the side without the shape the variable is universal, and the parts are not in scope.
 #[test]
 fn the_first_side(rt: HostRuntime) -> Result<(), Fail> {
-    let alloc = rt.alloc();
-    let sides = split(alloc)?;
-    let first = sides.first;
-    assert_eq!(rt; context(alloc, &[], &first.opened)?.len(), 1);
-    assert!(rt; is_universal(alloc, 0, 6, &first, 0)?);
+    let first = split(rt.alloc())?.first;
+    assert_eq!(rt; context(rt.alloc(), &[], &first.opened)?.len(), 1);
+    assert_eq!(rt; is_universal(rt.alloc(), 0, 6, &first, 0), Ok(true));
     assert!(rt; !in_scope(0, 6, &first, 1));
     Ok(())
 }
 
-/// On the side with the shape it is replaced, and the parts are universal.
+fn value_on_second(alloc: Global) -> Result<Term, Memory> {
+    let second = split(alloc)?.second;
+    replaced_value(alloc, &second.replaced, 0)
+}
+
+/// On the side with the shape it is replaced.
 #[test]
 fn the_second_side(rt: HostRuntime) -> Result<(), Fail> {
-    let alloc = rt.alloc();
-    let sides = split(alloc)?;
-    assert_eq!(rt; sides.next, 3);
-    let second = sides.second;
-    assert!(rt; !is_universal(alloc, 0, 6, &second, 0)?);
-    assert!(rt; is_universal(alloc, 0, 6, &second, 2)?);
-    let value = replaced_value(alloc, &second.replaced, 0)?;
-    assert!(rt; matches!(value, Term::App(_, _)));
+    assert_eq!(rt; split(rt.alloc())?.next, 3);
+    assert!(rt; matches!(value_on_second(rt.alloc())?, Term::App(_, _)));
     Ok(())
+}
+
+/// There the parts are universal.
+#[test]
+fn parts_are_universal(rt: HostRuntime) -> Result<(), Fail> {
+    let second = split(rt.alloc())?.second;
+    assert_eq!(rt; is_universal(rt.alloc(), 0, 6, &second, 0), Ok(false));
+    assert_eq!(rt; is_universal(rt.alloc(), 0, 6, &second, 2), Ok(true));
+    Ok(())
+}
+
+/// The split by V1 = V2 below the side with the shape.
+fn split_again(alloc: Global) -> Result<Sides, Memory> {
+    let second = split(alloc)?.second;
+    let constraint = Con::Eq(Term::Var(1), Term::Var(2));
+    both_sides(alloc, BOUNDS, &constraint, &second, 3)
 }
 
 /// Below a split by an equation of two universals the left one is replaced.
 #[test]
 fn an_equation_below_a_split(rt: HostRuntime) -> Result<(), Fail> {
-    let alloc = rt.alloc();
-    let second = split(alloc)?.second;
-    let constraint = Con::Eq(Term::Var(1), Term::Var(2));
-    let sides = both_sides(alloc, BOUNDS, &constraint, &second, 3)?;
-    assert!(rt; !is_universal(alloc, 0, 6, &sides.first, 1)?);
-    assert!(rt; is_universal(alloc, 0, 6, &sides.first, 2)?);
-    assert!(rt; is_universal(alloc, 0, 6, &sides.second, 1)?);
+    let sides = split_again(rt.alloc())?;
+    assert_eq!(rt; is_universal(rt.alloc(), 0, 6, &sides.first, 1), Ok(false));
+    assert_eq!(rt; is_universal(rt.alloc(), 0, 6, &sides.first, 2), Ok(true));
+    assert_eq!(rt; is_universal(rt.alloc(), 0, 6, &sides.second, 1), Ok(true));
     Ok(())
 }

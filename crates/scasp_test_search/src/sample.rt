@@ -7,7 +7,8 @@ use scasp_states::{
     Bindings, Cover, Covers, Line, Lines, Literal, Literals, Made, Remainder, Remainders, State,
     Task, Tasks, Variables,
 };
-use scasp_syntax::{Cons, Lit};
+use scasp_syntax::{Cons, Lit, VarList};
+use scasp_unify::Binding;
 use std::alloc::Global;
 use std::test::Fail;
 
@@ -45,19 +46,31 @@ pub(crate) fn variables(alloc: Global, given: &[(Kind, u64)]) -> Result<Variable
     Ok(all)
 }
 
+fn replaced(alloc: Global, is_replaced: bool) -> Result<Option<Binding>, Fail> {
+    if is_replaced {
+        Ok(Some(binding(alloc, 1, &REPLACED)?))
+    } else {
+        Ok(None)
+    }
+}
+
+fn fill_remainder(alloc: Global, remainder: &mut Remainder) -> Result<(), Fail> {
+    remainder.region = constraints(alloc, &WAITING)?;
+    remainder.universals = numbers(alloc, &[1, 4])?;
+    remainder.replaced = numbers(alloc, &[2])?;
+    Ok(())
+}
+
 /// A remainder, in which V1 is replaced or not.
 pub(crate) fn remainder(alloc: Global, is_replaced: bool) -> Result<Remainder, Fail> {
-    let equation = if is_replaced {
-        Some(binding(alloc, 1, &REPLACED)?)
-    } else {
-        None
+    let mut remainder = Remainder {
+        region: Cons::new(alloc),
+        universals: VarList::new(alloc),
+        replaced: VarList::new(alloc),
+        equation: replaced(alloc, is_replaced)?,
     };
-    Ok(Remainder {
-        region: constraints(alloc, &WAITING)?,
-        universals: numbers(alloc, &[1, 4])?,
-        replaced: numbers(alloc, &[2])?,
-        equation,
-    })
+    fill_remainder(alloc, &mut remainder)?;
+    Ok(remainder)
 }
 
 fn remainders(alloc: Global) -> Result<Remainders, Fail> {
@@ -75,19 +88,29 @@ pub(crate) fn lines(alloc: Global) -> Result<Lines, Fail> {
     Ok(all)
 }
 
+fn fill_cover(alloc: Global, cover: &mut Cover, region: &[Told]) -> Result<(), Fail> {
+    cover.universals = numbers(alloc, &[4])?;
+    cover.region = constraints(alloc, region)?;
+    cover.waiting = remainders(alloc)?;
+    cover.before = lines(alloc)?;
+    Ok(())
+}
+
 fn cover(alloc: Global, depth: u64, region: &[Told]) -> Result<Cover, Fail> {
-    Ok(Cover {
+    let mut cover = Cover {
         clause: 3,
         first: 5,
         checks_head: true,
         plain: false,
         depth,
         case: 6,
-        universals: numbers(alloc, &[4])?,
-        region: constraints(alloc, region)?,
-        waiting: remainders(alloc)?,
-        before: lines(alloc)?,
-    })
+        universals: VarList::new(alloc),
+        region: Cons::new(alloc),
+        waiting: Remainders::new(alloc),
+        before: Lines::new(alloc),
+    };
+    fill_cover(alloc, &mut cover, region)?;
+    Ok(cover)
 }
 
 /// The open covers, the inner one first.
@@ -105,24 +128,36 @@ fn positive_lit(alloc: Global) -> Result<Lit, Fail> {
     })
 }
 
-fn literals(alloc: Global) -> Result<Literals, Fail> {
-    let mut all = Literals::new(alloc);
-    all.push(Literal {
+/// The literal that is done.
+fn done(alloc: Global) -> Result<Literal, Fail> {
+    let cases = numbers(alloc, &[6, 7])?;
+    Ok(Literal {
         number: 8,
         lit: positive_lit(alloc)?,
-        cases: numbers(alloc, &[6, 7])?,
+        cases,
         is_done: true,
         loops: false,
         is_general: false,
-    })?;
-    all.push(Literal {
+    })
+}
+
+/// The literal that is not done.
+fn open(alloc: Global) -> Result<Literal, Fail> {
+    let cases = numbers(alloc, &[6])?;
+    Ok(Literal {
         number: 9,
         lit: negated_lit(alloc, 3, &[V(0)])?,
-        cases: numbers(alloc, &[6])?,
+        cases,
         is_done: false,
         loops: true,
         is_general: true,
-    })?;
+    })
+}
+
+fn literals(alloc: Global) -> Result<Literals, Fail> {
+    let mut all = Literals::new(alloc);
+    all.push(done(alloc)?)?;
+    all.push(open(alloc)?)?;
     Ok(all)
 }
 
@@ -134,11 +169,12 @@ pub(crate) fn work(alloc: Global) -> Result<Tasks, Fail> {
     Ok(all)
 }
 
-fn bare(made: Variables, bound: Bindings, given: Cons, alloc: Global) -> State {
+/// A state without anything.
+fn bare(alloc: Global) -> State {
     State {
-        made,
-        bound,
-        given,
+        made: Variables::new(alloc),
+        bound: Bindings::new(alloc),
+        given: Cons::new(alloc),
         covers: Covers::new(alloc),
         cases: 7,
         literals: Literals::new(alloc),
@@ -147,20 +183,25 @@ fn bare(made: Variables, bound: Bindings, given: Cons, alloc: Global) -> State {
     }
 }
 
-/// The state, without covers, literals, lines and work.
-fn started(alloc: Global) -> Result<State, Fail> {
-    let made = variables(alloc, &MADE)?;
-    let bound = bindings(alloc, &BOUND)?;
-    let given = constraints(alloc, &GIVEN)?;
-    Ok(bare(made, bound, given, alloc))
+fn fill_variables(alloc: Global, state: &mut State) -> Result<(), Fail> {
+    state.made = variables(alloc, &MADE)?;
+    state.bound = bindings(alloc, &BOUND)?;
+    state.given = constraints(alloc, &GIVEN)?;
+    Ok(())
 }
 
-/// The state.
-pub(crate) fn state(alloc: Global) -> Result<State, Fail> {
-    let mut state = started(alloc)?;
+fn fill_work(alloc: Global, state: &mut State) -> Result<(), Fail> {
     state.covers = covers(alloc)?;
     state.literals = literals(alloc)?;
     state.lines = lines(alloc)?;
     state.work = work(alloc)?;
+    Ok(())
+}
+
+/// The state.
+pub(crate) fn state(alloc: Global) -> Result<State, Fail> {
+    let mut state = bare(alloc);
+    fill_variables(alloc, &mut state)?;
+    fill_work(alloc, &mut state)?;
     Ok(state)
 }
