@@ -1,0 +1,3 @@
+pub mod WalkedLemmas
+pub mod CheckedLemmas
+pub mod LineLemmas
