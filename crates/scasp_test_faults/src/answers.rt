@@ -4,7 +4,7 @@ use scasp_cert::{Cert, Checks, Clashes, Node, Nodes};
 use scasp_faults::{CheckErr, accept_answer, accept_map};
 use scasp_name::{Memory, NIL};
 use scasp_samples::{Name, P, Q, S, atom, map_of, program};
-use scasp_syntax::{Con, Cons, PredMaps, Program, Term, Terms};
+use scasp_syntax::{Con, Cons, PredMaps, Term, Terms};
 use std::alloc::Global;
 use std::test::Fail;
 
@@ -33,31 +33,24 @@ const ANSWERS: &[(Change, Option<Reason>)] = &[
     (Change::TwoTrees, Some(Reason::WrongChildren)),
 ];
 
-/// Maps for a program of `p` and `q`, and the reason for which they are refused.
-const MAPS: &[(&[(Name, u64, bool)], Option<Reason>)] = &[
-    (&[], None),
-    (&[(P, 0, true), (Q, 1, false)], None),
-    (&[(S, 0, true)], Some(Reason::WrongMap)),
-    (&[(P, 0, true), (P, 0, true)], Some(Reason::WrongMap)),
-    (
-        &[(P, 0, true), (Q, 0, true), (P, 1, true)],
-        Some(Reason::WrongMap),
-    ),
+/// Maps for a program of `p` and `q`, and whether they are refused.
+const MAPS: &[(&[(Name, u64, bool)], bool)] = &[
+    (&[], false),
+    (&[(P, 0, true), (Q, 1, false)], false),
+    (&[(S, 0, true)], true),
+    (&[(P, 0, true), (P, 0, true)], true),
+    (&[(P, 0, true), (Q, 0, true), (P, 1, true)], true),
 ];
-
-fn tree(alloc: Global) -> Result<Node, Memory> {
-    Ok(Node::Pos {
-        atom: atom(alloc, P)?,
-        rule: 1,
-        terms: Terms::new(alloc),
-        children: Nodes::new(alloc),
-    })
-}
 
 fn trees(alloc: Global, count: u64) -> Result<Nodes, Memory> {
     let mut nodes = Nodes::new(alloc);
     for _ in 0..count {
-        nodes.push(tree(alloc)?)?;
+        nodes.push(Node::Pos {
+            atom: atom(alloc, P)?,
+            rule: 1,
+            terms: Terms::new(alloc),
+            children: Nodes::new(alloc),
+        })?;
     }
     Ok(nodes)
 }
@@ -75,40 +68,22 @@ fn certificate(alloc: Global) -> Result<Cert, Memory> {
     })
 }
 
-/// Puts a sample for V0, and that it is no number.
-fn put_free(alloc: Global, cert: &mut Cert) -> Result<(), Memory> {
-    cert.sample.push(Term::App(NIL, Terms::new(alloc)))?;
-    cert.given.push(Con::NotNum(Term::Var(0)))
-}
-
-fn apply(alloc: Global, cert: &mut Cert, change: Change) -> Result<(), Memory> {
+fn changed(alloc: Global, change: Change) -> Result<Cert, Memory> {
+    let mut cert = certificate(alloc)?;
     match change {
         Change::Nothing => {}
         Change::QueryZero => cert.query = 0,
         Change::QueryTwo => cert.query = 2,
         Change::OneTerm => cert.terms.push(Term::App(NIL, Terms::new(alloc)))?,
         Change::GivenOnVariable => cert.given.push(Con::Num(Term::Var(0)))?,
-        Change::GivenOnFree => put_free(alloc, cert)?,
-        Change::NoTree => cert.trees = Nodes::new(alloc),
+        Change::GivenOnFree => {
+            cert.sample.push(Term::App(NIL, Terms::new(alloc)))?;
+            cert.given.push(Con::NotNum(Term::Var(0)))?;
+        }
+        Change::NoTree => cert.trees = trees(alloc, 0)?,
         Change::TwoTrees => cert.trees = trees(alloc, 2)?,
     }
-    Ok(())
-}
-
-fn answer(alloc: Global, program: &Program, change: Change) -> Result<(), CheckErr> {
-    let mut cert = certificate(alloc)?;
-    apply(alloc, &mut cert, change)?;
-    accept_answer(alloc, program, &cert)
-}
-
-fn with_map(
-    alloc: Global,
-    program: &Program,
-    entries: &[(Name, u64, bool)],
-) -> Result<(), CheckErr> {
-    let mut cert = certificate(alloc)?;
-    cert.map = map_of(alloc, entries)?;
-    accept_map(alloc, program, &cert)
+    Ok(cert)
 }
 
 /// The answer of a part where the certificate is refused for the reason, at line 0.
@@ -121,18 +96,28 @@ fn outcome(reason: Option<Reason>) -> Result<(), CheckErr> {
 
 #[test]
 fn answers_are_accepted_or_refused(rt: HostRuntime) -> Result<(), Fail> {
-    let program = program(rt.alloc(), &[(Some(P), &[])], &[&[(true, P)]])?;
+    let alloc = rt.alloc();
+    let program = program(alloc, &[(Some(P), &[])], &[&[(true, P)]])?;
     for (change, reason) in ANSWERS {
-        assert_eq!(rt; answer(rt.alloc(), &program, *change), outcome(*reason));
+        let cert = changed(alloc, *change)?;
+        assert_eq!(rt; accept_answer(alloc, &program, &cert), outcome(*reason));
     }
     Ok(())
 }
 
 #[test]
 fn maps_are_accepted_or_refused(rt: HostRuntime) -> Result<(), Fail> {
-    let program = program(rt.alloc(), &[(Some(P), &[(true, Q)])], &[&[(true, P)]])?;
-    for (entries, reason) in MAPS {
-        assert_eq!(rt; with_map(rt.alloc(), &program, entries), outcome(*reason));
+    let alloc = rt.alloc();
+    let program = program(alloc, &[(Some(P), &[(true, Q)])], &[&[(true, P)]])?;
+    for (entries, is_refused) in MAPS {
+        let mut cert = certificate(alloc)?;
+        cert.map = map_of(alloc, entries)?;
+        let reason = if *is_refused {
+            Some(Reason::WrongMap)
+        } else {
+            None
+        };
+        assert_eq!(rt; accept_map(alloc, &program, &cert), outcome(reason));
     }
     Ok(())
 }

@@ -5,8 +5,8 @@ use scasp_faults::{
     is_known, names_its_rules, same_con,
 };
 use scasp_name::{Memory, NIL, NameId};
-use scasp_samples::{Name, P, Q, atom, pred, program};
-use scasp_syntax::{Clause, Con, Cons, Hint, Items, Program, Term, Terms};
+use scasp_samples::{P, Q, atom, pred, program};
+use scasp_syntax::{Con, Cons, Hint, Term, Terms};
 use std::alloc::Global;
 use std::test::Fail;
 
@@ -54,170 +54,93 @@ fn constant(alloc: Global, name: u64) -> Term {
     Term::App(NameId::new(name), Terms::new(alloc))
 }
 
-fn names_all(alloc: Global, program: &Program, rules: &[u64]) -> Result<bool, Memory> {
-    let covers = covers(alloc, rules)?;
-    Ok(names_its_rules(program, &pred(P), &covers))
-}
-
-/// p :- q. q. p. ?- p.
-fn two_rules(alloc: Global) -> Result<Program, Memory> {
+#[test]
+fn covers_name_the_rules_in_order(rt: HostRuntime) -> Result<(), Fail> {
+    let alloc = rt.alloc();
     let rules = [
         (Some(P), [(true, Q)].as_slice()),
         (Some(Q), [].as_slice()),
         (Some(P), [].as_slice()),
     ];
-    program(alloc, &rules, &[&[(true, P)]])
-}
-
-#[test]
-fn covers_name_the_rules_in_order(rt: HostRuntime) -> Result<(), Fail> {
-    let program = two_rules(rt.alloc())?;
+    let program = program(alloc, &rules, &[&[(true, P)]])?;
     for (numbers, are_all) in COVERS {
-        let answer = names_all(rt.alloc(), &program, numbers);
-        assert_eq!(rt; answer, Ok(*are_all));
+        let covers = covers(alloc, numbers)?;
+        assert_eq!(rt; names_its_rules(&program, &pred(P), &covers), *are_all);
     }
     Ok(())
 }
 
-/// The fact `p`.
-fn fact(alloc: Global) -> Result<Clause, Memory> {
-    Ok(Clause {
-        head: Some(atom(alloc, P)?),
-        body: Items::new(alloc),
-        vars: 0,
-    })
-}
-
-/// Whether the atom is the head of the fact under the terms.
-fn is_head(alloc: Global, name: Name, terms: &Terms) -> Result<bool, Memory> {
-    let clause = fact(alloc)?;
-    let atom = atom(alloc, name)?;
-    is_instance(alloc, terms, &atom, &clause)
-}
-
 #[test]
-fn instances_are_heads_under_terms(rt: HostRuntime) {
-    let none = Terms::new(rt.alloc());
-    assert_eq!(rt; is_head(rt.alloc(), P, &none), Ok(true));
-    assert_eq!(rt; is_head(rt.alloc(), Q, &none), Ok(false));
-}
-
-/// The term would be for no variable.
-#[test]
-fn a_term_too_many(rt: HostRuntime) -> Result<(), Fail> {
-    let one = one(rt.alloc(), constant(rt.alloc(), 9))?;
-    assert_eq!(rt; is_head(rt.alloc(), P, &one), Ok(false));
-    Ok(())
-}
-
-#[test]
-fn nodes_are_counted(rt: HostRuntime) {
-    assert!(rt; has_count_of(&Nodes::new(rt.alloc()), 0));
-    assert!(rt; !has_count_of(&Nodes::new(rt.alloc()), 1));
-}
-
-/// Whether the clash line of two numbers is found for two others.
-fn is_found(alloc: Global, first: u64, second: u64, i: u64, j: u64) -> Result<bool, Memory> {
-    let mut clashes = Clashes::new(alloc);
-    clashes.push(Clash {
-        first,
-        second,
-        hint: Hint::Terms,
-    })?;
-    Ok(clash_of(i, j, &clashes).is_some())
-}
-
-#[test]
-fn clash_lines_are_found_in_both_orders(rt: HostRuntime) {
-    for (first, second, i, j, is_theirs) in CLASHES {
-        let answer = is_found(rt.alloc(), *first, *second, *i, *j);
-        assert_eq!(rt; answer, Ok(*is_theirs));
-    }
-}
-
-/// A name with one argument: a constant, or V0 where none is given.
-type Wrapped = (u64, Option<u64>);
-
-/// Two such terms, and whether they clash.
-const APART: &[(Wrapped, Wrapped, bool)] = &[
-    ((5, Some(8)), (5, Some(9)), true),
-    ((5, Some(8)), (5, Some(8)), false),
-    // a variable may be anything
-    ((5, None), (5, Some(9)), false),
-    ((5, None), (6, Some(8)), true),
-];
-
-/// The list of the term.
-fn listed(alloc: Global, written: Wrapped) -> Result<Terms, Memory> {
-    let argument = match written.1 {
-        Some(name) => constant(alloc, name),
-        None => Term::Var(0),
-    };
-    one(alloc, wrapped(alloc, written.0, argument)?)
-}
-
-fn are_apart(alloc: Global, left: Wrapped, right: Wrapped) -> Result<bool, Memory> {
-    let left = listed(alloc, left)?;
-    let right = listed(alloc, right)?;
-    Ok(clash_among(&left, &right))
-}
-
-#[test]
-fn names_and_numbers_differ(rt: HostRuntime) {
-    for (left, right, differ) in APART {
-        assert_eq!(rt; are_apart(rt.alloc(), *left, *right), Ok(*differ));
-    }
-}
-
-/// V0 = c
-fn equation(alloc: Global) -> Con {
-    Con::Eq(Term::Var(0), constant(alloc, 8))
-}
-
-#[test]
-fn constraints_are_compared(rt: HostRuntime) {
+fn instances_are_heads_under_terms(rt: HostRuntime) -> Result<(), Fail> {
     let alloc = rt.alloc();
+    let program = program(alloc, &[(Some(P), &[])], &[&[(true, P)]])?;
+    let clause = program.clause(1).ok_or("a clause")?;
+    let none = Terms::new(alloc);
+    assert!(rt; is_instance(alloc, &none, &atom(alloc, P)?, clause)?);
+    assert!(rt; !is_instance(alloc, &none, &atom(alloc, Q)?, clause)?);
+    let one = one(alloc, constant(alloc, 9))?;
+    assert!(rt;
+        !is_instance(alloc, &one, &atom(alloc, P)?, clause)?,
+        "a term for no variable"
+    );
+    assert!(rt; has_count_of(&Nodes::new(alloc), 0));
+    assert!(rt; !has_count_of(&Nodes::new(alloc), 1));
+    Ok(())
+}
+
+#[test]
+fn clash_lines_are_found_in_both_orders(rt: HostRuntime) -> Result<(), Fail> {
+    for (first, second, i, j, is_theirs) in CLASHES {
+        let mut clashes = Clashes::new(rt.alloc());
+        clashes.push(Clash {
+            first: *first,
+            second: *second,
+            hint: Hint::Terms,
+        })?;
+        assert_eq!(rt; clash_of(*i, *j, &clashes).is_some(), *is_theirs);
+    }
+    Ok(())
+}
+
+#[test]
+fn names_and_numbers_differ(rt: HostRuntime) -> Result<(), Fail> {
+    let alloc = rt.alloc();
+    let fa = one(alloc, wrapped(alloc, 5, constant(alloc, 8))?)?;
+    let fb = one(alloc, wrapped(alloc, 5, constant(alloc, 9))?)?;
+    let fx = one(alloc, wrapped(alloc, 5, Term::Var(0))?)?;
+    let ga = one(alloc, wrapped(alloc, 6, constant(alloc, 8))?)?;
+    assert!(rt; clash_among(&fa, &fb));
+    assert!(rt; !clash_among(&fa, &fa));
+    assert!(rt; !clash_among(&fx, &fb), "a variable may be anything");
+    assert!(rt; clash_among(&fx, &ga));
+    Ok(())
+}
+
+#[test]
+fn constraints_are_compared(rt: HostRuntime) -> Result<(), Fail> {
+    let alloc = rt.alloc();
+    let left = Con::Eq(Term::Var(0), constant(alloc, 8));
     let turned = Con::Eq(constant(alloc, 8), Term::Var(0));
     let differ = Con::Neq(Term::Var(0), constant(alloc, 8));
-    assert_eq!(rt;
-        same_con(alloc, &equation(alloc), &equation(alloc)),
-        Ok(true)
-    );
-    assert_eq!(rt; same_con(alloc, &equation(alloc), &turned), Ok(false));
-    assert_eq!(rt; same_con(alloc, &equation(alloc), &differ), Ok(false));
-}
-
-#[test]
-fn shapes_are_compared(rt: HostRuntime) {
-    let none = Con::NotShape(0, NIL, 0);
-    assert_eq!(rt;
-        same_con(rt.alloc(), &none, &Con::NotShape(0, NIL, 1)),
-        Ok(false)
-    );
+    assert!(rt; same_con(alloc, &left, &left)?);
+    assert!(rt; !same_con(alloc, &left, &turned)?);
+    assert!(rt; !same_con(alloc, &left, &differ)?);
+    assert!(rt; !same_con(alloc, &Con::NotShape(0, NIL, 0), &Con::NotShape(0, NIL, 1))?);
+    Ok(())
 }
 
 #[test]
 fn variables_are_known_below_a_number(rt: HostRuntime) -> Result<(), Fail> {
-    let term = wrapped(rt.alloc(), 5, Term::Var(2))?;
-    assert_eq!(rt; is_known(rt.alloc(), &Below(3), &term), Ok(true));
-    assert_eq!(rt; is_known(rt.alloc(), &Below(2), &term), Ok(false));
-    assert_eq!(rt; has_any(rt.alloc(), &Below(3), &term), Ok(true));
-    assert_eq!(rt; has_any(rt.alloc(), &Below(2), &term), Ok(false));
-    Ok(())
-}
-
-#[test]
-fn lists_are_below_a_number(rt: HostRuntime) -> Result<(), Fail> {
-    let terms = one(rt.alloc(), wrapped(rt.alloc(), 5, Term::Var(2))?)?;
-    assert_eq!(rt; are_below(rt.alloc(), &terms, 3), Ok(true));
-    Ok(())
-}
-
-#[test]
-fn constraints_are_known_below_a_number(rt: HostRuntime) -> Result<(), Fail> {
-    let mut cons = Cons::new(rt.alloc());
+    let alloc = rt.alloc();
+    let term = wrapped(alloc, 5, Term::Var(2))?;
+    assert!(rt; is_known(alloc, &Below(3), &term)?);
+    assert!(rt; !is_known(alloc, &Below(2), &term)?);
+    assert!(rt; has_any(alloc, &Below(3), &term)?);
+    assert!(rt; !has_any(alloc, &Below(2), &term)?);
+    assert!(rt; are_below(alloc, &one(alloc, term)?, 3)?);
+    let mut cons = Cons::new(alloc);
     cons.push(Con::NotShape(1, NIL, 0))?;
-    assert_eq!(rt; are_cons_known(rt.alloc(), &Below(2), &cons), Ok(true));
-    assert_eq!(rt; are_cons_known(rt.alloc(), &Below(1), &cons), Ok(false));
+    assert!(rt; are_cons_known(alloc, &Below(2), &cons)?);
+    assert!(rt; !are_cons_known(alloc, &Below(1), &cons)?);
     Ok(())
 }

@@ -107,35 +107,25 @@ fn certificate(alloc: Global, sample: Terms, given: Cons) -> Cert {
     }
 }
 
-/// The certificate of this sample and this constraint.
-fn written(alloc: Global, value: Value, given: Given) -> Result<Cert, Fail> {
-    let mut sample = Terms::new(alloc);
-    sample.push(value_of(alloc, value)?)?;
-    let mut cons = Cons::new(alloc);
-    cons.push(given_of(alloc, given)?)?;
-    Ok(certificate(alloc, sample, cons))
-}
-
-const REFUSAL: Refusal = Refusal {
-    at: 0,
-    reason: Reason::Sample,
-};
-
-/// Whether the answer is acceptance, or the refusal of the sample.
-fn is_outcome(answer: &Result<(), CheckErr>, is_accepted: bool) -> bool {
-    match answer {
-        Ok(()) => is_accepted,
-        Err(CheckErr::Refused(refusal)) => !is_accepted && *refusal == REFUSAL,
-        Err(CheckErr::Memory) => false,
-    }
-}
-
 #[test]
 fn samples_meet_what_is_given(rt: HostRuntime) -> Result<(), Fail> {
+    let alloc = rt.alloc();
     for (value, given, is_accepted) in TABLE {
-        let cert = written(rt.alloc(), *value, *given)?;
-        let answer = accept_sample(rt.alloc(), &cert);
-        assert!(rt; is_outcome(&answer, *is_accepted));
+        let mut sample = Terms::new(alloc);
+        sample.push(value_of(alloc, *value).expect(&rt, "a number in range"))?;
+        let mut cons = Cons::new(alloc);
+        cons.push(given_of(alloc, *given).expect(&rt, "a row in range"))?;
+        let cert = certificate(alloc, sample, cons);
+        let answer = accept_sample(alloc, &cert);
+        if *is_accepted {
+            assert_eq!(rt; answer, Ok(()));
+        } else {
+            let refusal = Refusal {
+                at: 0,
+                reason: Reason::Sample,
+            };
+            assert_eq!(rt; answer, Err(CheckErr::Refused(refusal)));
+        }
     }
     Ok(())
 }

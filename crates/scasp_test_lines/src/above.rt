@@ -2,7 +2,7 @@
 use crate::made::Told::Equal;
 use crate::made::Wanted::{Fact, Goal};
 use crate::made::Written::{C, F, V};
-use crate::made::{AT, Said, Wanted, due, given, here, is_outcome, lit, said};
+use crate::made::{AT, Said, Wanted, certificate, due, facts, here, lit, outcome, said};
 use scasp_acceptance::Reason;
 use scasp_faults::CheckErr;
 use scasp_line_faults::{Common, entry_at, is_entry_of, is_negated_before};
@@ -11,7 +11,6 @@ use scasp_node_faults::{accept_loop, common_of};
 use scasp_places::{Ancestor, Place};
 use scasp_samples::{P, Q};
 use std::alloc::Global;
-use std::process::Abort;
 use std::test::Fail;
 
 /// The literals above on lines 1 and 2, what is due, a literal, the line that it loops to, and the reason for which it is
@@ -133,17 +132,11 @@ const ENTRIES: &[(Said, bool)] = &[
     ((false, Q, &[F(1)]), false),
 ];
 
-/// The place below this literal.
-fn with_literal(alloc: Global, here: &Place, at: u64, written: Said) -> Result<Place, Memory> {
-    let atom = said(alloc, written)?;
-    here.below_literal(alloc, at, written.0, &atom)
-}
-
 /// A place below the two literals.
 fn below(alloc: Global, first: Said, second: Said) -> Result<Place, Memory> {
     let here = here(alloc)?;
-    let outer = with_literal(alloc, &here, 1, first)?;
-    with_literal(alloc, &outer, 2, second)
+    let outer = here.below_literal(alloc, 1, first.0, &said(alloc, first)?)?;
+    outer.below_literal(alloc, 2, second.0, &said(alloc, second)?)
 }
 
 fn looped(
@@ -159,43 +152,41 @@ fn looped(
     accept_loop(alloc, common, AT, here, &due, &lit, to)
 }
 
-fn test_loops(rt: &impl Abort, alloc: Global, common: &Common) -> Result<(), Fail> {
-    for (first, second, wanted, written, to, reason) in LOOPS {
+#[test]
+fn loops_pass_a_negated_literal(rt: HostRuntime) -> Result<(), Fail> {
+    let alloc = rt.alloc();
+    let program = facts(alloc)?;
+    let cert = certificate(alloc, &[])?;
+    let common = common_of(&program, &cert)?;
+    for (place, (first, second, wanted, written, to, reason)) in LOOPS.iter().enumerate() {
         let here = below(alloc, *first, *second)?;
-        let answer = looped(alloc, common, &here, *wanted, *written, *to);
-        assert!(rt; is_outcome(&answer, *reason));
+        let answer = looped(alloc, &common, &here, *wanted, *written, *to);
+        assert_eq!(rt; answer, outcome(*reason), "row {place}");
     }
     Ok(())
 }
 
-#[test]
-fn loops_pass_a_negated_literal(rt: HostRuntime) -> Result<(), Fail> {
-    let given = given(rt.alloc(), &[])?;
-    let common = common_of(&given.program, &given.cert)?;
-    test_loops(&rt, rt.alloc(), &common)
-}
-
-/// The literal above.
-fn entry(alloc: Global) -> Result<Ancestor, Memory> {
-    Ok(Ancestor {
+/// Whether the literal is the one above.
+fn is_above(alloc: Global, here: &Place, written: Said) -> Result<bool, Memory> {
+    let entry = Ancestor {
         at: 1,
         positive: false,
         atom: said(alloc, (false, P, &[V(2)]))?,
-    })
-}
-
-/// Whether the literal is the one above.
-fn is_above(alloc: Global, here: &Place, written: Said) -> Result<bool, Memory> {
-    let entry = entry(alloc)?;
+    };
     let lit = lit(alloc, written)?;
     is_entry_of(alloc, here, &lit, &entry)
 }
 
 #[test]
 fn literals_above_are_replaced(rt: HostRuntime) -> Result<(), Fail> {
-    let here = here(rt.alloc())?;
-    for (written, is_this) in ENTRIES {
-        assert_eq!(rt; is_above(rt.alloc(), &here, *written), Ok(*is_this));
+    let alloc = rt.alloc();
+    let here = here(alloc)?;
+    for (place, (written, is_this)) in ENTRIES.iter().enumerate() {
+        assert_eq!(rt;
+            is_above(alloc, &here, *written),
+            Ok(*is_this),
+            "row {place}"
+        );
     }
     Ok(())
 }
@@ -205,37 +196,16 @@ fn is_negated_at(here: &Place, at: u64) -> Option<bool> {
     entry_at(at, &here.above).map(|entry| !entry.positive)
 }
 
-/// The signs that are found on the first three lines, and whether a negated literal stands before the first two.
-fn signs(here: &Place) -> ([Option<bool>; 3], [bool; 2]) {
-    (
-        [
-            is_negated_at(here, 1),
-            is_negated_at(here, 2),
-            is_negated_at(here, 3),
-        ],
-        [
-            is_negated_before(1, &here.above),
-            is_negated_before(2, &here.above),
-        ],
-    )
-}
-
-/// A place below `p` on line 1 and `not q` on line 2.
-fn below_both(alloc: Global) -> Result<Place, Memory> {
-    below(alloc, (true, P, &[]), (false, Q, &[]))
-}
-
-#[test]
-fn literals_on_their_lines(rt: HostRuntime) -> Result<(), Fail> {
-    let outer = below_both(rt.alloc())?;
-    assert!(rt; signs(&outer) == ([Some(false), Some(true), None], [true, false]));
-    Ok(())
-}
-
 #[test]
 fn the_nearest_literal_on_a_line(rt: HostRuntime) -> Result<(), Fail> {
-    let outer = below_both(rt.alloc())?;
-    let here = with_literal(rt.alloc(), &outer, 1, (false, P, &[]))?;
+    let alloc = rt.alloc();
+    let outer = below(alloc, (true, P, &[]), (false, Q, &[]))?;
+    assert_eq!(rt; is_negated_at(&outer, 1), Some(false));
+    assert_eq!(rt; is_negated_at(&outer, 2), Some(true));
+    assert_eq!(rt; is_negated_at(&outer, 3), None);
+    assert!(rt; is_negated_before(1, &outer.above));
+    assert!(rt; !is_negated_before(2, &outer.above));
+    let here = outer.below_literal(alloc, 1, false, &said(alloc, (false, P, &[]))?)?;
     assert_eq!(rt; is_negated_at(&here, 1), Some(true));
     assert!(rt; !is_negated_before(1, &here.above));
     Ok(())

@@ -2,17 +2,18 @@
 use crate::made::Told::{Below, Equal};
 use crate::made::Tried::{ByStep, ByTerms};
 use crate::made::Written::{C, D, V};
-use crate::made::{AT, Told, Tried, con, cons, given, here, hint, is_outcome};
+use crate::made::{AT, Told, Tried, certificate, con, cons, facts, here, hint, outcome};
 use scasp_acceptance::Reason;
 use scasp_cert::{Node, Nodes};
 use scasp_faults::CheckErr;
 use scasp_line_faults::{Common, accept_head, accept_hint, accept_leaf};
 use scasp_name::Memory;
 use scasp_node_faults::{accept_void, common_of};
-use scasp_places::{Body, Chain, Entry, Place};
+use scasp_places::{Body, Chain, Entry};
 use scasp_samples::{P, Q, atom, literal};
-use scasp_syntax::{Atom, FlatItem, FlatItems};
+use scasp_syntax::{FlatItem, FlatItems};
 use std::alloc::Global;
+use std::test::Fail;
 
 /// How many items a body has, the item that is false, how many nodes stand below, and the reason for which the leaf is refused.
 const LEAVES: &[(u64, u64, u64, Option<Reason>)] = &[
@@ -95,19 +96,15 @@ fn items(alloc: Global, count: u64) -> Result<FlatItems, Memory> {
     Ok(items)
 }
 
-fn head(alloc: Global, has_head: bool) -> Result<Option<Atom>, Memory> {
-    if has_head {
-        Ok(Some(atom(alloc, P)?))
-    } else {
-        Ok(None)
-    }
-}
-
 fn body(alloc: Global, is_check: bool, has_head: bool, count: u64) -> Result<Body, Memory> {
-    let items = items(alloc, count)?;
+    let head = if has_head {
+        Some(atom(alloc, P)?)
+    } else {
+        None
+    };
     Ok(Body {
-        items,
-        head: head(alloc, has_head)?,
+        items: items(alloc, count)?,
+        head,
         is_check,
         vars: 0,
         values: Chain::new(),
@@ -125,82 +122,60 @@ fn nodes(alloc: Global, count: u64) -> Result<Nodes, Memory> {
     Ok(nodes)
 }
 
-fn leaf(alloc: Global, count: u64, item: u64, below: u64) -> Result<(), CheckErr> {
-    let body = body(alloc, false, true, count)?;
-    let nodes = nodes(alloc, below)?;
-    accept_leaf(AT, &body, item, &nodes)
+#[test]
+fn leaves_name_an_item(rt: HostRuntime) -> Result<(), Fail> {
+    let alloc = rt.alloc();
+    for (place, (count, item, below, reason)) in LEAVES.iter().enumerate() {
+        let body = body(alloc, false, true, *count)?;
+        let answer = accept_leaf(AT, &body, *item, &nodes(alloc, *below)?);
+        assert_eq!(rt; answer, outcome(*reason), "row {place}");
+    }
+    Ok(())
 }
 
 #[test]
-fn leaves_name_an_item(rt: HostRuntime) {
-    for (count, item, below, reason) in LEAVES {
-        let answer = leaf(rt.alloc(), *count, *item, *below);
-        assert!(rt; is_outcome(&answer, *reason));
+fn heads_hold_in_checks(rt: HostRuntime) -> Result<(), Fail> {
+    let alloc = rt.alloc();
+    for (place, (is_check, has_head, count, below, reason)) in HEADS.iter().enumerate() {
+        let body = body(alloc, *is_check, *has_head, *count)?;
+        let answer = accept_head(AT, &body, &nodes(alloc, *below)?);
+        assert_eq!(rt; answer, outcome(*reason), "row {place}");
     }
-}
-
-fn case_of_head(
-    alloc: Global,
-    is_check: bool,
-    has_head: bool,
-    count: u64,
-    below: u64,
-) -> Result<(), CheckErr> {
-    let body = body(alloc, is_check, has_head, count)?;
-    let nodes = nodes(alloc, below)?;
-    accept_head(AT, &body, &nodes)
+    Ok(())
 }
 
 #[test]
-fn heads_hold_in_checks(rt: HostRuntime) {
-    for (is_check, has_head, count, below, reason) in HEADS {
-        let answer = case_of_head(rt.alloc(), *is_check, *has_head, *count, *below);
-        assert!(rt; is_outcome(&answer, *reason));
+fn hints_are_followed(rt: HostRuntime) -> Result<(), Fail> {
+    let alloc = rt.alloc();
+    for (place, (told, tried, reason)) in HINTS.iter().enumerate() {
+        let constraints = cons(alloc, *told)?;
+        let hint = hint(alloc, *tried)?;
+        let answer = accept_hint(alloc, AT, constraints.as_slice(), &hint);
+        assert_eq!(rt; answer, outcome(*reason), "row {place}");
     }
-}
-
-fn hinted(alloc: Global, told: &[Told], tried: Tried) -> Result<(), CheckErr> {
-    let constraints = cons(alloc, told)?;
-    let hint = hint(alloc, tried)?;
-    accept_hint(alloc, AT, constraints.as_slice(), &hint)
-}
-
-#[test]
-fn hints_are_followed(rt: HostRuntime) {
-    for (told, tried, reason) in HINTS {
-        let answer = hinted(rt.alloc(), *told, *tried);
-        assert!(rt; is_outcome(&answer, *reason));
-    }
-}
-
-/// The place at which these constraints opened, too.
-fn assumed(alloc: Global, told: &[Told]) -> Result<Place, Memory> {
-    let mut here = here(alloc)?;
-    for each in told {
-        let entry = Entry::Assumed(con(alloc, *each)?);
-        here.opened = here.opened.with(alloc, entry)?;
-    }
-    Ok(here)
+    Ok(())
 }
 
 /// The answer at a place where these constraints opened.
 fn void(alloc: Global, common: &Common, opened: &[Told], tried: Tried) -> Result<(), CheckErr> {
-    let here = assumed(alloc, opened)?;
+    let mut here = here(alloc)?;
+    for told in opened {
+        let entry = Entry::Assumed(con(alloc, *told)?);
+        here.opened = here.opened.with(alloc, entry)?;
+    }
     let hint = hint(alloc, tried)?;
     accept_void(alloc, common, AT, &here, &hint)
 }
 
-/// The answer for a certificate of which this is given.
-fn void_given(alloc: Global, told: &[Told], opened: &[Told], tried: Tried) -> Result<(), CheckErr> {
-    let given = given(alloc, told)?;
-    let common = common_of(&given.program, &given.cert)?;
-    void(alloc, &common, opened, tried)
-}
-
 #[test]
-fn void_cases_cannot_arise(rt: HostRuntime) {
-    for (told, opened, tried, reason) in VOIDS {
-        let answer = void_given(rt.alloc(), *told, *opened, *tried);
-        assert!(rt; is_outcome(&answer, *reason));
+fn void_cases_cannot_arise(rt: HostRuntime) -> Result<(), Fail> {
+    let alloc = rt.alloc();
+    let program = facts(alloc)?;
+    for (place, (given, opened, tried, reason)) in VOIDS.iter().enumerate() {
+        let cert = certificate(alloc, *given)?;
+        let common = common_of(&program, &cert)?;
+        let answer = void(alloc, &common, *opened, *tried);
+        assert_eq!(rt; answer, outcome(*reason), "row {place}");
     }
+    Ok(())
 }

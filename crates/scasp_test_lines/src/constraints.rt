@@ -3,7 +3,7 @@ use crate::made::Told::{Below, Differ, Equal, Number};
 use crate::made::Tried::{ByStep, ByTerms};
 use crate::made::Wanted::{Fact, Goal, Nothing, Undetermined};
 use crate::made::Written::{C, D, V};
-use crate::made::{AT, Told, Tried, Wanted, con, due, given, hint, is_outcome};
+use crate::made::{AT, Told, Tried, Wanted, certificate, con, due, facts, here, hint, outcome};
 use scasp_acceptance::Reason;
 use scasp_faults::CheckErr;
 use scasp_line_faults::Common;
@@ -12,7 +12,6 @@ use scasp_node_faults::{accept_test, common_of, is_fact_due};
 use scasp_places::Place;
 use scasp_samples::P;
 use std::alloc::Global;
-use std::process::Abort;
 use std::test::Fail;
 
 /// What is due, a constraint, and whether it is due.
@@ -86,10 +85,12 @@ fn is_wanted(alloc: Global, wanted: Wanted, told: Told) -> Result<bool, Memory> 
 }
 
 #[test]
-fn determined_constraints_are_due(rt: HostRuntime) {
-    for (wanted, told, is_due) in DUES {
-        assert_eq!(rt; is_wanted(rt.alloc(), *wanted, *told), Ok(*is_due));
+fn determined_constraints_are_due(rt: HostRuntime) -> Result<(), Fail> {
+    for (place, (wanted, told, is_due)) in DUES.iter().enumerate() {
+        let answer = is_wanted(rt.alloc(), *wanted, *told);
+        assert_eq!(rt; answer, Ok(*is_due), "row {place}");
     }
+    Ok(())
 }
 
 fn shown(
@@ -106,17 +107,16 @@ fn shown(
     accept_test(alloc, common, AT, here, &due, &con, &hint)
 }
 
-fn test_lines(rt: &impl Abort, alloc: Global, common: &Common, here: &Place) {
-    for (wanted, told, tried, reason) in LINES {
-        let answer = shown(alloc, common, here, *wanted, *told, *tried);
-        assert!(rt; is_outcome(&answer, *reason));
-    }
-}
-
 #[test]
 fn constraints_follow_by_their_hints(rt: HostRuntime) -> Result<(), Fail> {
-    let given = given(rt.alloc(), GIVEN)?;
-    let common = common_of(&given.program, &given.cert)?;
-    test_lines(&rt, rt.alloc(), &common, &given.here);
+    let alloc = rt.alloc();
+    let program = facts(alloc)?;
+    let cert = certificate(alloc, GIVEN)?;
+    let common = common_of(&program, &cert)?;
+    let here = here(alloc)?;
+    for (place, (wanted, told, tried, reason)) in LINES.iter().enumerate() {
+        let answer = shown(alloc, &common, &here, *wanted, *told, *tried);
+        assert_eq!(rt; answer, outcome(*reason), "row {place}");
+    }
     Ok(())
 }

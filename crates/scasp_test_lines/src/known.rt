@@ -1,7 +1,7 @@
 //! Variables that may stand on a line, and bounds.
 use crate::made::Told::{Below, Differ, Equal, NoNumber, NoShape, Number};
 use crate::made::Written::{C, F, V};
-use crate::made::{Told, Written, con, given, said, terms};
+use crate::made::{Told, Written, certificate, con, facts, here, said, terms};
 use scasp_faults::Scope;
 use scasp_line_faults::{Common, knows_atom, knows_con, scope_of};
 use scasp_name::Memory;
@@ -9,7 +9,6 @@ use scasp_node_faults::common_of;
 use scasp_places::{Bounds, Place};
 use scasp_samples::P;
 use std::alloc::Global;
-use std::process::Abort;
 use std::test::Fail;
 
 /// Constraints, and whether their variables may stand on the line. V0 to V3 may; V4 did not open, and V5 is past the bound.
@@ -50,39 +49,49 @@ fn knows_both(
     knows_atom(alloc, common, here, &atom, &others)
 }
 
-fn knows_told(alloc: Global, common: &Common, here: &Place, told: Told) -> Result<bool, Memory> {
-    let con = con(alloc, told)?;
-    knows_con(alloc, common, here, &con)
-}
-
-fn test_constraints(rt: &impl Abort, alloc: Global, common: &Common, here: &Place) {
-    for (told, are_known) in CONSTRAINTS {
-        let answer = knows_told(alloc, common, here, *told);
-        assert_eq!(rt; answer, Ok(*are_known));
+#[test]
+fn variables_of_constraints_are_in_scope(rt: HostRuntime) -> Result<(), Fail> {
+    let alloc = rt.alloc();
+    let program = facts(alloc)?;
+    let cert = certificate(alloc, &[])?;
+    let common = common_of(&program, &cert)?;
+    let here = here(alloc)?;
+    for (place, (told, are_known)) in CONSTRAINTS.iter().enumerate() {
+        let con = con(alloc, *told)?;
+        assert_eq!(rt;
+            knows_con(alloc, &common, &here, &con),
+            Ok(*are_known),
+            "row {place}"
+        );
     }
+    Ok(())
 }
 
-fn test_atoms(rt: &impl Abort, alloc: Global, common: &Common, here: &Place) {
-    for (args, others, are_known) in ATOMS {
-        let answer = knows_both(alloc, common, here, *args, *others);
-        assert_eq!(rt; answer, Ok(*are_known));
+#[test]
+fn variables_of_atoms_are_in_scope(rt: HostRuntime) -> Result<(), Fail> {
+    let alloc = rt.alloc();
+    let program = facts(alloc)?;
+    let cert = certificate(alloc, &[])?;
+    let common = common_of(&program, &cert)?;
+    let here = here(alloc)?;
+    for (place, (args, others, are_known)) in ATOMS.iter().enumerate() {
+        let answer = knows_both(alloc, &common, &here, *args, *others);
+        assert_eq!(rt; answer, Ok(*are_known), "row {place}");
     }
-}
-
-fn test_scope(rt: &impl Abort, alloc: Global, common: &Common, here: &Place) {
-    let scope = scope_of(common, here);
-    assert_eq!(rt; scope.knows(alloc, 3), Ok(true));
-    assert_eq!(rt; scope.knows(alloc, 4), Ok(false));
+    Ok(())
 }
 
 /// One variable is free, and four more may begin.
 #[test]
-fn variables_are_in_scope(rt: HostRuntime) -> Result<(), Fail> {
-    let given = given(rt.alloc(), &[])?;
-    let common = common_of(&given.program, &given.cert)?;
+fn bounds_are_counted(rt: HostRuntime) -> Result<(), Fail> {
+    let alloc = rt.alloc();
+    let program = facts(alloc)?;
+    let cert = certificate(alloc, &[])?;
+    let common = common_of(&program, &cert)?;
     assert_eq!(rt; common.bounds, Bounds { free: 1, top: 5 });
-    test_constraints(&rt, rt.alloc(), &common, &given.here);
-    test_atoms(&rt, rt.alloc(), &common, &given.here);
-    test_scope(&rt, rt.alloc(), &common, &given.here);
+    let here = here(alloc)?;
+    let scope = scope_of(&common, &here);
+    assert_eq!(rt; scope.knows(alloc, 3), Ok(true));
+    assert_eq!(rt; scope.knows(alloc, 4), Ok(false));
     Ok(())
 }

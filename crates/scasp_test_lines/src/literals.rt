@@ -2,7 +2,9 @@
 use crate::made::Told::Equal;
 use crate::made::Wanted::{Fact, Goal, Nothing, Undetermined};
 use crate::made::Written::{C, V};
-use crate::made::{AT, Said, Wanted, Written, due, given, is_outcome, lit, said, terms};
+use crate::made::{
+    AT, Said, Wanted, Written, certificate, due, facts, here, lit, outcome, said, terms,
+};
 use scasp_acceptance::Reason;
 use scasp_cert::{Case, Cover, Covers};
 use scasp_faults::CheckErr;
@@ -15,7 +17,6 @@ use scasp_places::Place;
 use scasp_samples::{P, P_OF_C, Q, S};
 use scasp_syntax::Hint;
 use std::alloc::Global;
-use std::process::Abort;
 use std::test::Fail;
 
 /// What is due, a literal, and whether it is due.
@@ -263,10 +264,12 @@ fn is_wanted(alloc: Global, wanted: Wanted, written: Said) -> Result<bool, Memor
 }
 
 #[test]
-fn literals_are_due(rt: HostRuntime) {
-    for (wanted, written, is_due) in DUES {
-        assert_eq!(rt; is_wanted(rt.alloc(), *wanted, *written), Ok(*is_due));
+fn literals_are_due(rt: HostRuntime) -> Result<(), Fail> {
+    for (place, (wanted, written, is_due)) in DUES.iter().enumerate() {
+        let answer = is_wanted(rt.alloc(), *wanted, *written);
+        assert_eq!(rt; answer, Ok(*is_due), "row {place}");
     }
+    Ok(())
 }
 
 fn literal(
@@ -286,11 +289,18 @@ fn literal(
     )
 }
 
-fn test_literals(rt: &impl Abort, alloc: Global, common: &Common, here: &Place) {
-    for (wanted, is_kind, written, others, reason) in LITERALS {
-        let answer = literal(alloc, common, here, *wanted, *is_kind, *written, *others);
-        assert!(rt; is_outcome(&answer, *reason));
+#[test]
+fn literals_are_known_and_due(rt: HostRuntime) -> Result<(), Fail> {
+    let alloc = rt.alloc();
+    let program = facts(alloc)?;
+    let cert = certificate(alloc, &[])?;
+    let common = common_of(&program, &cert)?;
+    let here = here(alloc)?;
+    for (place, (wanted, is_kind, written, others, reason)) in LITERALS.iter().enumerate() {
+        let answer = literal(alloc, &common, &here, *wanted, *is_kind, *written, *others);
+        assert_eq!(rt; answer, outcome(*reason), "row {place}");
     }
+    Ok(())
 }
 
 fn positive(
@@ -308,11 +318,18 @@ fn positive(
     accept_positive(alloc, common, AT, here, &due, &atom, rule, &terms)
 }
 
-fn test_positives(rt: &impl Abort, alloc: Global, common: &Common, here: &Place) {
-    for (wanted, written, rule, listed, reason) in POSITIVES {
-        let answer = positive(alloc, common, here, *wanted, *written, *rule, *listed);
-        assert!(rt; is_outcome(&answer, *reason));
+#[test]
+fn positive_literals_hold_by_their_rules(rt: HostRuntime) -> Result<(), Fail> {
+    let alloc = rt.alloc();
+    let program = facts(alloc)?;
+    let cert = certificate(alloc, &[])?;
+    let common = common_of(&program, &cert)?;
+    let here = here(alloc)?;
+    for (place, (wanted, written, rule, listed, reason)) in POSITIVES.iter().enumerate() {
+        let answer = positive(alloc, &common, &here, *wanted, *written, *rule, *listed);
+        assert_eq!(rt; answer, outcome(*reason), "row {place}");
     }
+    Ok(())
 }
 
 fn covers(alloc: Global, rules: &[u64]) -> Result<Covers, Memory> {
@@ -340,11 +357,18 @@ fn negated(
     accept_negated(alloc, common, AT, here, &due, &atom, &covers)
 }
 
-fn test_negated(rt: &impl Abort, alloc: Global, common: &Common, here: &Place) {
-    for (wanted, written, rules, reason) in NEGATED {
-        let answer = negated(alloc, common, here, *wanted, *written, *rules);
-        assert!(rt; is_outcome(&answer, *reason));
+#[test]
+fn negated_literals_name_their_rules(rt: HostRuntime) -> Result<(), Fail> {
+    let alloc = rt.alloc();
+    let program = facts(alloc)?;
+    let cert = certificate(alloc, &[])?;
+    let common = common_of(&program, &cert)?;
+    let here = here(alloc)?;
+    for (place, (wanted, written, rules, reason)) in NEGATED.iter().enumerate() {
+        let answer = negated(alloc, &common, &here, *wanted, *written, *rules);
+        assert_eq!(rt; answer, outcome(*reason), "row {place}");
     }
+    Ok(())
 }
 
 fn seen(
@@ -360,20 +384,16 @@ fn seen(
     accept_seen(alloc, common, AT, here, &due, &lit, is_shown)
 }
 
-fn test_seen(rt: &impl Abort, alloc: Global, common: &Common, here: &Place) {
-    for (wanted, written, is_shown, reason) in SEEN {
-        let answer = seen(alloc, common, here, *wanted, *written, *is_shown);
-        assert!(rt; is_outcome(&answer, *reason));
-    }
-}
-
 #[test]
-fn literals_stand_on_lines(rt: HostRuntime) -> Result<(), Fail> {
-    let given = given(rt.alloc(), &[])?;
-    let common = common_of(&given.program, &given.cert)?;
-    test_literals(&rt, rt.alloc(), &common, &given.here);
-    test_positives(&rt, rt.alloc(), &common, &given.here);
-    test_negated(&rt, rt.alloc(), &common, &given.here);
-    test_seen(&rt, rt.alloc(), &common, &given.here);
+fn literals_seen_before_were_shown(rt: HostRuntime) -> Result<(), Fail> {
+    let alloc = rt.alloc();
+    let program = facts(alloc)?;
+    let cert = certificate(alloc, &[])?;
+    let common = common_of(&program, &cert)?;
+    let here = here(alloc)?;
+    for (place, (wanted, written, is_shown, reason)) in SEEN.iter().enumerate() {
+        let answer = seen(alloc, &common, &here, *wanted, *written, *is_shown);
+        assert_eq!(rt; answer, outcome(*reason), "row {place}");
+    }
     Ok(())
 }

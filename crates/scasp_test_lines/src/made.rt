@@ -54,12 +54,11 @@ pub enum Tried {
     ByStep(i128, u64, i128, u64),
 }
 
-/// Whether the answer is a refusal of the line for the reason, or none.
-pub fn is_outcome(answer: &Result<(), CheckErr>, reason: Option<Reason>) -> bool {
-    match (answer, reason) {
-        (Ok(()), None) => true,
-        (Err(CheckErr::Refused(refusal)), Some(reason)) => *refusal == Refusal { at: AT, reason },
-        _ => false,
+/// The answer where the line is refused for the reason.
+pub fn outcome(reason: Option<Reason>) -> Result<(), CheckErr> {
+    match reason {
+        None => Ok(()),
+        Some(reason) => Err(CheckErr::Refused(Refusal { at: AT, reason })),
     }
 }
 
@@ -84,29 +83,13 @@ pub fn terms(alloc: Global, written: &[Written]) -> Result<Terms, Memory> {
     Ok(all)
 }
 
-fn pairs(alloc: Global, factors: &[(u64, i128)]) -> Result<RatPairs, RowErr> {
+fn row(alloc: Global, factors: &[(u64, i128)], constant: i128) -> Result<Row, RowErr> {
     let mut pairs = RatPairs::new(alloc);
     for (x, factor) in factors {
         let value = Rat::new(*factor, 1)?;
         pairs.push(RatPair { x: *x, value })?;
     }
-    Ok(pairs)
-}
-
-fn row(alloc: Global, factors: &[(u64, i128)], constant: i128) -> Result<Row, RowErr> {
-    let pairs = pairs(alloc, factors)?;
-    let constant = Rat::new(constant, 1)?;
-    Row::normal(alloc, &pairs, &constant, Op::Lt)
-}
-
-fn equation(alloc: Global, left: Written, right: Written) -> Result<Con, Memory> {
-    let left = term(alloc, left)?;
-    Ok(Con::Eq(left, term(alloc, right)?))
-}
-
-fn disequation(alloc: Global, left: Written, right: Written) -> Result<Con, Memory> {
-    let left = term(alloc, left)?;
-    Ok(Con::Neq(left, term(alloc, right)?))
+    Row::normal(alloc, &pairs, &Rat::new(constant, 1)?, Op::Lt)
 }
 
 /// A row that is too large is want of memory, which no table expects.
@@ -119,8 +102,8 @@ fn below(alloc: Global, factors: &[(u64, i128)], constant: i128) -> Result<Con, 
 
 pub fn con(alloc: Global, told: Told) -> Result<Con, Memory> {
     match told {
-        Told::Equal(left, right) => equation(alloc, left, right),
-        Told::Differ(left, right) => disequation(alloc, left, right),
+        Told::Equal(left, right) => Ok(Con::Eq(term(alloc, left)?, term(alloc, right)?)),
+        Told::Differ(left, right) => Ok(Con::Neq(term(alloc, left)?, term(alloc, right)?)),
         Told::NoShape(x, arity) => Ok(Con::NotShape(x, NameId::new(11), arity)),
         Told::Number(of) => Ok(Con::Num(term(alloc, of)?)),
         Told::NoNumber(of) => Ok(Con::NotNum(term(alloc, of)?)),
@@ -180,24 +163,16 @@ pub fn facts(alloc: Global) -> Result<Program, Memory> {
     program(alloc, &rules, &[&[(true, P)]])
 }
 
-/// A term of four parts.
-fn four(alloc: Global) -> Result<Term, Memory> {
-    let parts = [Written::C, Written::C, Written::C, Written::C];
-    Ok(Term::App(NameId::new(12), terms(alloc, &parts)?))
-}
-
-fn void(alloc: Global) -> Result<Box<Case>, Memory> {
-    Ok(Box::new(alloc, Case::Void { hint: Hint::Terms })?)
-}
-
 /// A split by a term of four parts: as many universal variables can begin there.
 fn room(alloc: Global) -> Result<Case, Memory> {
-    let con = Con::Eq(Term::Var(0), four(alloc)?);
-    let first = void(alloc)?;
+    let parts = [Written::C, Written::C, Written::C, Written::C];
+    let whole = Term::App(NameId::new(12), terms(alloc, &parts)?);
+    let first = Box::new(alloc, Case::Void { hint: Hint::Terms })?;
+    let second = Box::new(alloc, Case::Void { hint: Hint::Terms })?;
     Ok(Case::Split {
-        con,
+        con: Con::Eq(Term::Var(0), whole),
         first,
-        second: void(alloc)?,
+        second,
     })
 }
 
@@ -210,13 +185,11 @@ fn checks(alloc: Global) -> Result<Checks, Memory> {
 
 /// A certificate whose only free variable is V0, of which this is given, and whose universal ones are below V5.
 pub fn certificate(alloc: Global, given: &[Told]) -> Result<Cert, Memory> {
-    let given = cons(alloc, given)?;
-    let sample = terms(alloc, &[Written::C])?;
     Ok(Cert {
         query: 1,
         terms: Terms::new(alloc),
-        given,
-        sample,
+        given: cons(alloc, given)?,
+        sample: terms(alloc, &[Written::C])?,
         trees: Nodes::new(alloc),
         checks: checks(alloc)?,
         clashes: Clashes::new(alloc),
@@ -224,37 +197,13 @@ pub fn certificate(alloc: Global, given: &[Told]) -> Result<Cert, Memory> {
     })
 }
 
-fn opened(alloc: Global) -> Result<Place, Memory> {
+/// A place at which V1, V2, V3 and V5 opened, and V2 is replaced by f(V1).
+pub fn here(alloc: Global) -> Result<Place, Memory> {
     let mut here = Place::start(8);
     for x in [1, 2, 3, 5] {
         here.opened = here.opened.with(alloc, Entry::Ranges(x))?;
     }
-    Ok(here)
-}
-
-/// A place at which V1, V2, V3 and V5 opened, and V2 is replaced by f(V1).
-pub fn here(alloc: Global) -> Result<Place, Memory> {
     let term = term(alloc, Written::F(1))?;
-    let mut here = opened(alloc)?;
     here.replaced = here.replaced.with(alloc, Binding { x: 2, term })?;
     Ok(here)
-}
-
-/// What lines are checked against.
-#[derive(Drop)]
-pub struct Setting {
-    pub program: Program,
-    pub cert: Cert,
-    pub here: Place,
-}
-
-/// The facts, the certificate of which this is given, and the place.
-pub fn given(alloc: Global, told: &[Told]) -> Result<Setting, Memory> {
-    let program = facts(alloc)?;
-    let cert = certificate(alloc, told)?;
-    Ok(Setting {
-        program,
-        cert,
-        here: here(alloc)?,
-    })
 }

@@ -1,15 +1,13 @@
 //! Splits of cases, and which constraints may split one.
 use crate::made::Told::{Below, Differ, Equal, NoNumber, NoShape, Number};
 use crate::made::Written::{C, D, F, V};
-use crate::made::{AT, Told, con, given, is_outcome};
+use crate::made::{AT, Told, certificate, con, facts, here, outcome};
 use scasp_acceptance::Reason;
 use scasp_faults::CheckErr;
 use scasp_line_faults::{Common, accept_split, may_split, may_split_here, universal_of};
-use scasp_name::Memory;
 use scasp_node_faults::common_of;
 use scasp_places::Place;
 use std::alloc::Global;
-use std::process::Abort;
 use std::test::Fail;
 
 /// Constraints, and whether they may split a case. V0 is free, V1 and V3 are universal, and V2 is replaced by f(V1).
@@ -77,33 +75,36 @@ fn split(
     accept_split(alloc, common, AT, next, here, &con)
 }
 
-/// Whether the constraint may split a case by the universal variables of the place, and there.
-fn may(alloc: Global, common: &Common, here: &Place, told: Told) -> Result<(bool, bool), Memory> {
-    let con = con(alloc, told)?;
-    let may_here = may_split_here(alloc, common, here, &con)?;
-    let universal = universal_of(common, here);
-    Ok((may_split(alloc, &universal, &con)?, may_here))
-}
-
-fn test_splitting(rt: &impl Abort, alloc: Global, common: &Common, here: &Place) {
-    for (told, wanted) in SPLITTING {
-        let answer = may(alloc, common, here, *told);
-        assert_eq!(rt; answer, Ok((*wanted, *wanted)));
+#[test]
+fn universal_variables_split(rt: HostRuntime) -> Result<(), Fail> {
+    let alloc = rt.alloc();
+    let program = facts(alloc)?;
+    let cert = certificate(alloc, &[])?;
+    let common = common_of(&program, &cert)?;
+    let here = here(alloc)?;
+    for (place, (told, may)) in SPLITTING.iter().enumerate() {
+        let con = con(alloc, *told)?;
+        assert_eq!(rt;
+            may_split_here(alloc, &common, &here, &con),
+            Ok(*may),
+            "row {place}"
+        );
+        let universal = universal_of(&common, &here);
+        assert_eq!(rt; may_split(alloc, &universal, &con), Ok(*may), "row {place}");
     }
-}
-
-fn test_splits(rt: &impl Abort, alloc: Global, common: &Common, here: &Place) {
-    for (next, told, reason) in SPLITS {
-        let answer = split(alloc, common, here, *next, *told);
-        assert!(rt; is_outcome(&answer, *reason));
-    }
+    Ok(())
 }
 
 #[test]
-fn universal_variables_split(rt: HostRuntime) -> Result<(), Fail> {
-    let given = given(rt.alloc(), &[])?;
-    let common = common_of(&given.program, &given.cert)?;
-    test_splitting(&rt, rt.alloc(), &common, &given.here);
-    test_splits(&rt, rt.alloc(), &common, &given.here);
+fn splits_are_accepted_or_refused(rt: HostRuntime) -> Result<(), Fail> {
+    let alloc = rt.alloc();
+    let program = facts(alloc)?;
+    let cert = certificate(alloc, &[])?;
+    let common = common_of(&program, &cert)?;
+    let here = here(alloc)?;
+    for (place, (next, told, reason)) in SPLITS.iter().enumerate() {
+        let answer = split(alloc, &common, &here, *next, *told);
+        assert_eq!(rt; answer, outcome(*reason), "row {place}");
+    }
     Ok(())
 }

@@ -1,12 +1,14 @@
 //! Small programs, whose odd loops, levels and signs were found by hand.
-use scasp_graph::{Analysis, analyse};
+use scasp_graph::analyse;
 use scasp_name::Memory;
 use scasp_nmr::{CheckItem, checks};
 use scasp_samples::{
     Name, P, P_OF_C, Q, Q_OF_C, R, R_OF_C, Rule, S, S_OF_C, T, U, map_of, program,
 };
-use scasp_syntax::{PredMaps, Program};
+use scasp_syntax::PredMaps;
 use std::alloc::Global;
+use std::process::Abort;
+use std::test::Fail;
 
 /// A program, its odd rules, the level of each predicate and whether its sign is `+`, and the clauses that are
 /// checked, each with whether it has a head.
@@ -196,10 +198,15 @@ const SAMPLES: &[Sample] = &[
     },
 ];
 
-/// Whether these are the entries of the map.
-fn is_map(alloc: Global, map: &PredMaps, entries: &[(Name, u64, bool)]) -> Result<bool, Memory> {
+fn test_map(
+    rt: &impl Abort,
+    alloc: Global,
+    map: &PredMaps,
+    entries: &[(Name, u64, bool)],
+) -> Result<(), Memory> {
     let wanted = map_of(alloc, entries)?;
-    Ok(map.as_slice() == wanted.as_slice())
+    assert_eq!(rt; map.as_slice(), wanted.as_slice());
+    Ok(())
 }
 
 /// Whether these are the items of the clauses.
@@ -210,30 +217,20 @@ fn are_items(items: &[CheckItem], clauses: &[(u64, bool)]) -> bool {
         })
 }
 
-/// Whether the clauses that are checked are those of the sample.
-fn has_checks(
-    alloc: Global,
-    program: &Program,
-    analysis: &Analysis,
-    sample: &Sample,
-) -> Result<bool, Memory> {
-    let items = checks(alloc, program, analysis)?;
-    Ok(are_items(items.as_slice(), sample.checks))
-}
-
-/// Whether the odd rules, the map and the checks are those of the sample.
-fn is_analysed(alloc: Global, sample: &Sample) -> Result<(bool, bool, bool), Memory> {
+fn test_sample(rt: &impl Abort, alloc: Global, sample: &Sample) -> Result<(), Memory> {
     let program = program(alloc, sample.rules, &[])?;
     let analysis = analyse(alloc, &program)?;
-    let are_odd = analysis.odd_rules.as_slice() == sample.odd;
-    let is_map = is_map(alloc, &analysis.map, sample.map)?;
-    let has_checks = has_checks(alloc, &program, &analysis, sample)?;
-    Ok((are_odd, is_map, has_checks))
+    assert_eq!(rt; analysis.odd_rules.as_slice(), sample.odd);
+    test_map(rt, alloc, &analysis.map, sample.map)?;
+    let items = checks(alloc, &program, &analysis)?;
+    assert!(rt; are_items(items.as_slice(), sample.checks));
+    Ok(())
 }
 
 #[test]
-fn programs_have_these_odd_rules_levels_signs_and_checks(rt: HostRuntime) {
+fn programs_have_these_odd_rules_levels_signs_and_checks(rt: HostRuntime) -> Result<(), Fail> {
     for sample in SAMPLES {
-        assert_eq!(rt; is_analysed(rt.alloc(), sample), Ok((true, true, true)));
+        test_sample(&rt, rt.alloc(), sample)?;
     }
+    Ok(())
 }

@@ -2,7 +2,6 @@
 use scasp_graph::{MapFault, map_holds};
 use scasp_name::Memory;
 use scasp_samples::{Name, P, Q, R, Rule, map_of, numbers, program};
-use scasp_syntax::Program;
 use std::alloc::Global;
 use std::process::Abort;
 use std::test::Fail;
@@ -40,37 +39,29 @@ const DENIED: (&[Rule], &[Tried]) = (
     ],
 );
 
-/// What is said of the map.
-fn tried_map(
+fn test_maps(
+    rt: &impl Abort,
     alloc: Global,
-    program: &Program,
-    covered: &[u64],
-    entries: &[(Name, u64, bool)],
-) -> Result<Result<(), MapFault>, Memory> {
-    let covered = numbers(alloc, covered)?;
-    let map = map_of(alloc, entries)?;
-    Ok(map_holds(program, &covered, &map))
-}
-
-fn expected(fault: Option<u64>) -> Result<(), MapFault> {
-    match fault {
-        None => Ok(()),
-        Some(rule) => Err(MapFault { rule }),
-    }
-}
-
-fn test_maps(rt: &impl Abort, alloc: Global, program: &Program, tried: &[Tried]) {
+    rules: &[Rule],
+    tried: &[Tried],
+) -> Result<(), Memory> {
+    let program = program(alloc, rules, &[])?;
     for (covered, entries, fault) in tried {
-        let answer = tried_map(alloc, program, covered, entries);
-        assert_eq!(rt; answer, Ok(expected(*fault)));
+        let covered = numbers(alloc, covered)?;
+        let map = map_of(alloc, entries)?;
+        let expected = match fault {
+            None => Ok(()),
+            Some(rule) => Err(MapFault { rule: *rule }),
+        };
+        assert_eq!(rt; map_holds(&program, &covered, &map), expected);
     }
+    Ok(())
 }
 
 #[test]
 fn maps_hold_or_name_the_first_clause(rt: HostRuntime) -> Result<(), Fail> {
     for (rules, tried) in [EVEN, DENIED] {
-        let program = program(rt.alloc(), rules, &[])?;
-        test_maps(&rt, rt.alloc(), &program, tried);
+        test_maps(&rt, rt.alloc(), rules, tried)?;
     }
     Ok(())
 }

@@ -46,7 +46,7 @@ fn each_predicate_has_its_rules(rt: HostRuntime) -> Result<(), Fail> {
     let plans = plan(rt.alloc(), &program)?;
     assert_eq!(rt; plans.len(), PLANS.len());
     for (plan, (name, rules)) in plans.as_slice().iter().zip(PLANS) {
-        assert!(rt; is_planned(plan, *name, rules));
+        assert!(rt; is_planned(plan, *name, rules), "at {name:?}");
     }
     Ok(())
 }

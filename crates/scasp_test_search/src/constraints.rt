@@ -5,8 +5,6 @@ use crate::written::{assert_same, bindings, constraint, numbers, term, terms};
 use scasp_copying::constraints::{con_vars, not_shaped, push_all_vars, push_vars, read_con};
 use scasp_name::NameId;
 use scasp_num::Op::{Le, Lt, Ne};
-use scasp_syntax::{Con, VarList};
-use std::alloc::Global;
 use std::test::Fail;
 
 /// Half of the greatest number, rounded up: four times it is too large.
@@ -101,34 +99,13 @@ static NESTED: Written = F(6, &[V(2), F(5, &[V(0)]), N(5), V(2)]);
 /// Terms with V3, V3 and V1.
 static LISTED: [Written; 2] = [V(3), F(6, &[V(3), V(1)])];
 
-/// Adds the variables of both, behind 9.
-fn found_in_terms(alloc: Global) -> Result<VarList, Fail> {
-    let mut found = numbers(alloc, &[9])?;
-    push_vars(&term(alloc, &NESTED)?, &mut found)?;
-    push_all_vars(&terms(alloc, &LISTED)?, &mut found)?;
-    Ok(found)
-}
-
-fn found_in(alloc: Global, bound: &[(u64, Written)], told: &Told) -> Result<VarList, Fail> {
-    let bound = bindings(alloc, bound)?;
-    let told = constraint(alloc, told)?;
-    Ok(con_vars(alloc, &told, bound.as_slice())?)
-}
-
-fn as_read(alloc: Global, bound: &[(u64, Written)], told: &Told) -> Result<Con, Fail> {
-    let bound = bindings(alloc, bound)?;
-    let told = constraint(alloc, told)?;
-    Ok(read_con(alloc, &told, bound.as_slice())?)
-}
-
-fn without_shape(alloc: Global, given: &Written, name: u64, arity: u64) -> Result<Con, Fail> {
-    let given = term(alloc, given)?;
-    Ok(not_shaped(alloc, &given, NameId::new(name), arity)?)
-}
-
 #[test]
 fn variables_of_terms_stand_in_order(rt: HostRuntime) -> Result<(), Fail> {
-    let found = found_in_terms(rt.alloc())?;
+    let alloc = rt.alloc();
+    let mut found = numbers(alloc, &[9])?;
+    push_vars(&term(alloc, &NESTED)?, &mut found)?;
+    assert_eq!(rt; found.as_slice(), [9, 2, 0, 2].as_slice());
+    push_all_vars(&terms(alloc, &LISTED)?, &mut found)?;
     assert_eq!(rt; found.as_slice(), [9, 2, 0, 2, 3, 3, 1].as_slice());
     Ok(())
 }
@@ -137,7 +114,9 @@ fn variables_of_terms_stand_in_order(rt: HostRuntime) -> Result<(), Fail> {
 fn variables_of_constraints_are_those_that_they_read(rt: HostRuntime) -> Result<(), Fail> {
     let alloc = rt.alloc();
     for (bound, told, wanted) in &VARIABLES {
-        let found = found_in(alloc, bound, told)?;
+        let bound = bindings(alloc, bound)?;
+        let told = constraint(alloc, told)?;
+        let found = con_vars(alloc, &told, bound.as_slice())?;
         assert_same(&rt, alloc, &found, &numbers(alloc, wanted)?)?;
     }
     Ok(())
@@ -147,7 +126,9 @@ fn variables_of_constraints_are_those_that_they_read(rt: HostRuntime) -> Result<
 fn constraints_read_as_bindings_make_them(rt: HostRuntime) -> Result<(), Fail> {
     let alloc = rt.alloc();
     for (bound, told, wanted) in &READ {
-        let found = as_read(alloc, bound, told)?;
+        let bound = bindings(alloc, bound)?;
+        let told = constraint(alloc, told)?;
+        let found = read_con(alloc, &told, bound.as_slice())?;
         assert_same(&rt, alloc, &found, &constraint(alloc, wanted)?)?;
     }
     Ok(())
@@ -157,7 +138,8 @@ fn constraints_read_as_bindings_make_them(rt: HostRuntime) -> Result<(), Fail> {
 fn terms_have_a_shape_or_not(rt: HostRuntime) -> Result<(), Fail> {
     let alloc = rt.alloc();
     for (given, name, arity, wanted) in &SHAPES {
-        let found = without_shape(alloc, given, *name, *arity)?;
+        let given = term(alloc, given)?;
+        let found = not_shaped(alloc, &given, NameId::new(*name), *arity)?;
         assert_same(&rt, alloc, &found, &constraint(alloc, wanted)?)?;
     }
     Ok(())

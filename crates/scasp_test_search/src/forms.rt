@@ -4,8 +4,6 @@ use crate::written::Written::{self, F, N, V};
 use crate::written::{assert_same, bindings, constraint, terms};
 use scasp_copying::forms::{holds_always, negated, new_parts, read_simple};
 use scasp_num::Op::{Eq, Le, Lt, Ne};
-use scasp_syntax::Con;
-use std::alloc::Global;
 use std::test::Fail;
 
 /// A constraint, and its negation where the variables from 8 on are new.
@@ -93,32 +91,12 @@ static SIMPLE: [(&[(u64, Written)], Told, Told); 13] = [
     ),
 ];
 
-fn negation(alloc: Global, told: &Told) -> Result<Con, Fail> {
-    let told = constraint(alloc, told)?;
-    Ok(negated(alloc, 8, &told)?)
-}
-
-fn holds(alloc: Global, told: &Told) -> Result<bool, Fail> {
-    let told = constraint(alloc, told)?;
-    Ok(holds_always(alloc, &told)?)
-}
-
-fn simple(alloc: Global, bound: &[(u64, Written)], told: &Told) -> Result<Con, Fail> {
-    let bound = bindings(alloc, bound)?;
-    let told = constraint(alloc, told)?;
-    Ok(read_simple(alloc, &told, bound.as_slice())?)
-}
-
 #[test]
 fn new_parts_are_counted_on(rt: HostRuntime) -> Result<(), Fail> {
     let alloc = rt.alloc();
     let wanted = terms(alloc, &[V(4), V(5), V(6)])?;
-    assert_same(&rt, alloc, &new_parts(alloc, 4, 3)?, &wanted)
-}
-
-#[test]
-fn no_new_parts(rt: HostRuntime) -> Result<(), Fail> {
-    assert_eq!(rt; new_parts(rt.alloc(), 4, 0)?.len(), 0);
+    assert_same(&rt, alloc, &new_parts(alloc, 4, 3)?, &wanted)?;
+    assert_eq!(rt; new_parts(alloc, 4, 0)?.len(), 0);
     Ok(())
 }
 
@@ -126,7 +104,7 @@ fn no_new_parts(rt: HostRuntime) -> Result<(), Fail> {
 fn constraints_are_negated(rt: HostRuntime) -> Result<(), Fail> {
     let alloc = rt.alloc();
     for (told, wanted) in &NEGATIONS {
-        let found = negation(alloc, told)?;
+        let found = negated(alloc, 8, &constraint(alloc, told)?)?;
         assert_same(&rt, alloc, &found, &constraint(alloc, wanted)?)?;
     }
     Ok(())
@@ -134,8 +112,10 @@ fn constraints_are_negated(rt: HostRuntime) -> Result<(), Fail> {
 
 #[test]
 fn constraints_hold_always_or_not(rt: HostRuntime) -> Result<(), Fail> {
-    for (told, wanted) in &ALWAYS {
-        assert_eq!(rt; holds(rt.alloc(), told)?, *wanted);
+    let alloc = rt.alloc();
+    for (number, (told, wanted)) in ALWAYS.iter().enumerate() {
+        let told = constraint(alloc, told)?;
+        assert_eq!(rt; holds_always(alloc, &told)?, *wanted, "row {number}");
     }
     Ok(())
 }
@@ -144,7 +124,9 @@ fn constraints_hold_always_or_not(rt: HostRuntime) -> Result<(), Fail> {
 fn constraints_read_in_simple_form(rt: HostRuntime) -> Result<(), Fail> {
     let alloc = rt.alloc();
     for (bound, told, wanted) in &SIMPLE {
-        let found = simple(alloc, bound, told)?;
+        let bound = bindings(alloc, bound)?;
+        let told = constraint(alloc, told)?;
+        let found = read_simple(alloc, &told, bound.as_slice())?;
         assert_same(&rt, alloc, &found, &constraint(alloc, wanted)?)?;
     }
     Ok(())

@@ -2,10 +2,6 @@
 use crate::written::Written::{self, F, N, V};
 use crate::written::{assert_same, bindings, term, terms, written_pairs};
 use scasp_copying::pairs::{pairs, pairs_read, push_pairs};
-use scasp_states::Pairs;
-use scasp_syntax::Term;
-use scasp_unify::Binding;
-use std::alloc::Global;
 use std::test::Fail;
 
 /// Two lists of arguments, and their pairs.
@@ -59,36 +55,13 @@ static READ: [(Written, &[(Written, Written)]); 3] = [
     (V(3), &[(F(5, &[V(2)]), V(3))]),
 ];
 
-fn paired(alloc: Global, left: &[Written], right: &[Written]) -> Result<Pairs, Fail> {
-    let left = terms(alloc, left)?;
-    let right = terms(alloc, right)?;
-    Ok(pairs(alloc, &left, &right)?)
-}
-
-/// Adds what the two terms come to.
-fn push_apart(
-    alloc: Global,
-    left: &Written,
-    right: &Written,
-    found: &mut Pairs,
-) -> Result<(), Fail> {
-    let left = term(alloc, left)?;
-    let right = term(alloc, right)?;
-    push_pairs(alloc, &left, &right, found)?;
-    Ok(())
-}
-
-/// What V0 and the term come to.
-fn read_apart(alloc: Global, bound: &[Binding], right: &Written) -> Result<Pairs, Fail> {
-    let right = term(alloc, right)?;
-    Ok(pairs_read(alloc, &Term::Var(0), &right, bound)?)
-}
-
 #[test]
 fn arguments_are_paired(rt: HostRuntime) -> Result<(), Fail> {
     let alloc = rt.alloc();
     for (left, right, wanted) in &LISTS {
-        let found = paired(alloc, left, right)?;
+        let left = terms(alloc, left)?;
+        let right = terms(alloc, right)?;
+        let found = pairs(alloc, &left, &right)?;
         assert_same(&rt, alloc, &found, &written_pairs(alloc, wanted)?)?;
     }
     Ok(())
@@ -99,7 +72,9 @@ fn terms_are_taken_apart(rt: HostRuntime) -> Result<(), Fail> {
     let alloc = rt.alloc();
     for (left, right, wanted) in &TERMS {
         let mut found = written_pairs(alloc, &[(V(9), N(9))])?;
-        push_apart(alloc, left, right, &mut found)?;
+        let left = term(alloc, left)?;
+        let right = term(alloc, right)?;
+        push_pairs(alloc, &left, &right, &mut found)?;
         assert_same(&rt, alloc, &found, &written_pairs(alloc, wanted)?)?;
     }
     Ok(())
@@ -109,8 +84,10 @@ fn terms_are_taken_apart(rt: HostRuntime) -> Result<(), Fail> {
 fn terms_are_read_and_taken_apart(rt: HostRuntime) -> Result<(), Fail> {
     let alloc = rt.alloc();
     let bound = bindings(alloc, &BOUND)?;
+    let left = term(alloc, &V(0))?;
     for (right, wanted) in &READ {
-        let found = read_apart(alloc, bound.as_slice(), right)?;
+        let right = term(alloc, right)?;
+        let found = pairs_read(alloc, &left, &right, bound.as_slice())?;
         assert_same(&rt, alloc, &found, &written_pairs(alloc, wanted)?)?;
     }
     Ok(())

@@ -2,8 +2,6 @@
 use crate::written::Written::{self, F, N, V};
 use crate::written::{assert_same, atom, bindings, negated_lit, term, terms};
 use scasp_copying::reading::{read, read_atom, read_lit, read_term, read_terms};
-use scasp_syntax::{Atom, Lit, Term, Terms};
-use scasp_unify::Binding;
 use std::alloc::Global;
 use std::process::Abort;
 use std::test::Fail;
@@ -56,73 +54,66 @@ static CASES: [Case; 7] = [
     },
 ];
 
-/// A term as the bindings make it, by either call.
-fn made(alloc: Global, bound: &[Binding], given: &Written, by_read: bool) -> Result<Term, Fail> {
-    let given = term(alloc, given)?;
-    if by_read {
-        Ok(read(alloc, &given, bound)?)
-    } else {
-        Ok(read_term(alloc, &given, bound)?)
-    }
-}
-
-fn made_terms(alloc: Global, bound: &[Binding], given: &[Written]) -> Result<Terms, Fail> {
-    let given = terms(alloc, given)?;
-    Ok(read_terms(alloc, &given, bound)?)
-}
-
-fn made_atom(alloc: Global, bound: &[Binding], given: &[Written]) -> Result<Atom, Fail> {
-    let given = atom(alloc, 2, given)?;
-    Ok(read_atom(alloc, &given, bound)?)
-}
-
-fn made_literal(alloc: Global, bound: &[Binding], given: &[Written]) -> Result<Lit, Fail> {
-    let given = negated_lit(alloc, 2, given)?;
-    Ok(read_lit(alloc, &given, bound)?)
-}
-
-fn terms_read(rt: &impl Abort, alloc: Global, bound: &[Binding], case: &Case) -> Result<(), Fail> {
+fn terms_read(rt: &impl Abort, alloc: Global, case: &Case) -> Result<(), Fail> {
+    let bound = bindings(alloc, case.bound)?;
     for (given, wanted) in case.terms.iter().zip(case.wanted.iter()) {
+        let given = term(alloc, given)?;
         let wanted = term(alloc, wanted)?;
-        assert_same(rt, alloc, &made(alloc, bound, given, true)?, &wanted)?;
-        assert_same(rt, alloc, &made(alloc, bound, given, false)?, &wanted)?;
+        assert_same(rt, alloc, &read(alloc, &given, bound.as_slice())?, &wanted)?;
+        assert_same(
+            rt,
+            alloc,
+            &read_term(alloc, &given, bound.as_slice())?,
+            &wanted,
+        )?;
     }
     Ok(())
 }
 
-fn lists_read(rt: &impl Abort, alloc: Global, bound: &[Binding], case: &Case) -> Result<(), Fail> {
-    let found = made_terms(alloc, bound, case.terms)?;
-    assert_same(rt, alloc, &found, &terms(alloc, case.wanted)?)
+fn lists_read(rt: &impl Abort, alloc: Global, case: &Case) -> Result<(), Fail> {
+    let bound = bindings(alloc, case.bound)?;
+    let given = terms(alloc, case.terms)?;
+    let wanted = terms(alloc, case.wanted)?;
+    assert_same(
+        rt,
+        alloc,
+        &read_terms(alloc, &given, bound.as_slice())?,
+        &wanted,
+    )
 }
 
-fn atoms_read(rt: &impl Abort, alloc: Global, bound: &[Binding], case: &Case) -> Result<(), Fail> {
-    let found = made_atom(alloc, bound, case.terms)?;
-    assert_same(rt, alloc, &found, &atom(alloc, 2, case.wanted)?)
+fn atoms_read(rt: &impl Abort, alloc: Global, case: &Case) -> Result<(), Fail> {
+    let bound = bindings(alloc, case.bound)?;
+    let given = atom(alloc, 2, case.terms)?;
+    let wanted = atom(alloc, 2, case.wanted)?;
+    assert_same(
+        rt,
+        alloc,
+        &read_atom(alloc, &given, bound.as_slice())?,
+        &wanted,
+    )
 }
 
-fn literals_read(
-    rt: &impl Abort,
-    alloc: Global,
-    bound: &[Binding],
-    case: &Case,
-) -> Result<(), Fail> {
-    let found = made_literal(alloc, bound, case.terms)?;
-    assert_same(rt, alloc, &found, &negated_lit(alloc, 2, case.wanted)?)
-}
-
-fn all_read(rt: &impl Abort, alloc: Global, bound: &[Binding], case: &Case) -> Result<(), Fail> {
-    terms_read(rt, alloc, bound, case)?;
-    lists_read(rt, alloc, bound, case)?;
-    atoms_read(rt, alloc, bound, case)?;
-    literals_read(rt, alloc, bound, case)
+fn literals_read(rt: &impl Abort, alloc: Global, case: &Case) -> Result<(), Fail> {
+    let bound = bindings(alloc, case.bound)?;
+    let given = negated_lit(alloc, 2, case.terms)?;
+    let wanted = negated_lit(alloc, 2, case.wanted)?;
+    assert_same(
+        rt,
+        alloc,
+        &read_lit(alloc, &given, bound.as_slice())?,
+        &wanted,
+    )
 }
 
 #[test]
 fn bindings_are_put_in_one_after_the_other(rt: HostRuntime) -> Result<(), Fail> {
     let alloc = rt.alloc();
     for case in &CASES {
-        let bound = bindings(alloc, case.bound)?;
-        all_read(&rt, alloc, bound.as_slice(), case)?;
+        terms_read(&rt, alloc, case)?;
+        lists_read(&rt, alloc, case)?;
+        atoms_read(&rt, alloc, case)?;
+        literals_read(&rt, alloc, case)?;
     }
     Ok(())
 }

@@ -7,8 +7,7 @@ use scasp_states::{
     Bindings, Cover, Covers, Line, Lines, Literal, Literals, Made, Remainder, Remainders, State,
     Task, Tasks, Variables,
 };
-use scasp_syntax::{Cons, Lit, VarList};
-use scasp_unify::Binding;
+use scasp_syntax::{Cons, Lit};
 use std::alloc::Global;
 use std::test::Fail;
 
@@ -46,31 +45,19 @@ pub(crate) fn variables(alloc: Global, given: &[(Kind, u64)]) -> Result<Variable
     Ok(all)
 }
 
-fn replaced(alloc: Global, is_replaced: bool) -> Result<Option<Binding>, Fail> {
-    if is_replaced {
-        Ok(Some(binding(alloc, 1, &REPLACED)?))
-    } else {
-        Ok(None)
-    }
-}
-
-fn fill_remainder(alloc: Global, remainder: &mut Remainder) -> Result<(), Fail> {
-    remainder.region = constraints(alloc, &WAITING)?;
-    remainder.universals = numbers(alloc, &[1, 4])?;
-    remainder.replaced = numbers(alloc, &[2])?;
-    Ok(())
-}
-
 /// A remainder, in which V1 is replaced or not.
 pub(crate) fn remainder(alloc: Global, is_replaced: bool) -> Result<Remainder, Fail> {
-    let mut remainder = Remainder {
-        region: Cons::new(alloc),
-        universals: VarList::new(alloc),
-        replaced: VarList::new(alloc),
-        equation: replaced(alloc, is_replaced)?,
+    let equation = if is_replaced {
+        Some(binding(alloc, 1, &REPLACED)?)
+    } else {
+        None
     };
-    fill_remainder(alloc, &mut remainder)?;
-    Ok(remainder)
+    Ok(Remainder {
+        region: constraints(alloc, &WAITING)?,
+        universals: numbers(alloc, &[1, 4])?,
+        replaced: numbers(alloc, &[2])?,
+        equation,
+    })
 }
 
 fn remainders(alloc: Global) -> Result<Remainders, Fail> {
@@ -88,29 +75,19 @@ pub(crate) fn lines(alloc: Global) -> Result<Lines, Fail> {
     Ok(all)
 }
 
-fn fill_cover(alloc: Global, cover: &mut Cover, region: &[Told]) -> Result<(), Fail> {
-    cover.universals = numbers(alloc, &[4])?;
-    cover.region = constraints(alloc, region)?;
-    cover.waiting = remainders(alloc)?;
-    cover.before = lines(alloc)?;
-    Ok(())
-}
-
 fn cover(alloc: Global, depth: u64, region: &[Told]) -> Result<Cover, Fail> {
-    let mut cover = Cover {
+    Ok(Cover {
         clause: 3,
         first: 5,
         checks_head: true,
         plain: false,
         depth,
         case: 6,
-        universals: VarList::new(alloc),
-        region: Cons::new(alloc),
-        waiting: Remainders::new(alloc),
-        before: Lines::new(alloc),
-    };
-    fill_cover(alloc, &mut cover, region)?;
-    Ok(cover)
+        universals: numbers(alloc, &[4])?,
+        region: constraints(alloc, region)?,
+        waiting: remainders(alloc)?,
+        before: lines(alloc)?,
+    })
 }
 
 /// The open covers, the inner one first.
@@ -128,36 +105,24 @@ fn positive_lit(alloc: Global) -> Result<Lit, Fail> {
     })
 }
 
-/// The literal that is done.
-fn done(alloc: Global) -> Result<Literal, Fail> {
-    let cases = numbers(alloc, &[6, 7])?;
-    Ok(Literal {
+fn literals(alloc: Global) -> Result<Literals, Fail> {
+    let mut all = Literals::new(alloc);
+    all.push(Literal {
         number: 8,
         lit: positive_lit(alloc)?,
-        cases,
+        cases: numbers(alloc, &[6, 7])?,
         is_done: true,
         loops: false,
         is_general: false,
-    })
-}
-
-/// The literal that is not done.
-fn open(alloc: Global) -> Result<Literal, Fail> {
-    let cases = numbers(alloc, &[6])?;
-    Ok(Literal {
+    })?;
+    all.push(Literal {
         number: 9,
         lit: negated_lit(alloc, 3, &[V(0)])?,
-        cases,
+        cases: numbers(alloc, &[6])?,
         is_done: false,
         loops: true,
         is_general: true,
-    })
-}
-
-fn literals(alloc: Global) -> Result<Literals, Fail> {
-    let mut all = Literals::new(alloc);
-    all.push(done(alloc)?)?;
-    all.push(open(alloc)?)?;
+    })?;
     Ok(all)
 }
 
@@ -169,12 +134,11 @@ pub(crate) fn work(alloc: Global) -> Result<Tasks, Fail> {
     Ok(all)
 }
 
-/// A state without anything.
-fn bare(alloc: Global) -> State {
+fn bare(made: Variables, bound: Bindings, given: Cons, alloc: Global) -> State {
     State {
-        made: Variables::new(alloc),
-        bound: Bindings::new(alloc),
-        given: Cons::new(alloc),
+        made,
+        bound,
+        given,
         covers: Covers::new(alloc),
         cases: 7,
         literals: Literals::new(alloc),
@@ -183,25 +147,20 @@ fn bare(alloc: Global) -> State {
     }
 }
 
-fn fill_variables(alloc: Global, state: &mut State) -> Result<(), Fail> {
-    state.made = variables(alloc, &MADE)?;
-    state.bound = bindings(alloc, &BOUND)?;
-    state.given = constraints(alloc, &GIVEN)?;
-    Ok(())
-}
-
-fn fill_work(alloc: Global, state: &mut State) -> Result<(), Fail> {
-    state.covers = covers(alloc)?;
-    state.literals = literals(alloc)?;
-    state.lines = lines(alloc)?;
-    state.work = work(alloc)?;
-    Ok(())
+/// The state, without covers, literals, lines and work.
+fn started(alloc: Global) -> Result<State, Fail> {
+    let made = variables(alloc, &MADE)?;
+    let bound = bindings(alloc, &BOUND)?;
+    let given = constraints(alloc, &GIVEN)?;
+    Ok(bare(made, bound, given, alloc))
 }
 
 /// The state.
 pub(crate) fn state(alloc: Global) -> Result<State, Fail> {
-    let mut state = bare(alloc);
-    fill_variables(alloc, &mut state)?;
-    fill_work(alloc, &mut state)?;
+    let mut state = started(alloc)?;
+    state.covers = covers(alloc)?;
+    state.literals = literals(alloc)?;
+    state.lines = lines(alloc)?;
+    state.work = work(alloc)?;
     Ok(state)
 }

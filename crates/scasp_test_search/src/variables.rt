@@ -1,5 +1,5 @@
 //! Variables of a state: kinds, depths and bindings.
-use crate::sample::{MADE, state, variables};
+use crate::sample::{state, variables};
 use crate::written::Told::{self, Compared, Differ, Equal, NoNumber, NoShape, Number};
 use crate::written::Written::{self, F, N, V};
 use crate::written::{assert_same, binding, bindings, constraint, numbers, term};
@@ -11,7 +11,6 @@ use scasp_copying::variables::{
 use scasp_num::Op::Lt;
 use scasp_states::Kind::{self, Existential, Matched, Universal};
 use scasp_states::{Made, State};
-use scasp_syntax::VarList;
 use scasp_unify::Binding;
 use std::alloc::Global;
 use std::test::Fail;
@@ -92,121 +91,83 @@ fn variables_have_kinds_and_depths(rt: HostRuntime) -> Result<(), Fail> {
             kind: *kind,
             depth: *depth,
         };
-        assert_eq!(rt; made_at(&state, *x), made);
-        assert_eq!(rt; depth_of(&state, *x), *depth);
-        assert_eq!(rt; is_universal(&state, *x), *kind == Universal);
+        assert_eq!(rt; made_at(&state, *x), made, "V{x}");
+        assert_eq!(rt; depth_of(&state, *x), *depth, "V{x}");
+        assert_eq!(rt; is_universal(&state, *x), *kind == Universal, "V{x}");
     }
     Ok(())
 }
 
-fn universal(alloc: Global) -> Result<VarList, Fail> {
-    let state = state(alloc)?;
-    Ok(universal_among(alloc, &state, &[4, 0, 1, 2, 4, 9])?)
-}
-
 #[test]
 fn universal_variables_are_found(rt: HostRuntime) -> Result<(), Fail> {
-    let found = universal(rt.alloc())?;
-    assert_eq!(rt; found.as_slice(), [4, 1, 4].as_slice());
-    Ok(())
-}
-
-#[test]
-fn a_universal_variable_is_found(rt: HostRuntime) -> Result<(), Fail> {
-    let state = state(rt.alloc())?;
-    assert!(rt; has_universal(&state, &[0, 4]));
-    assert!(rt; !has_universal(&state, &[0, 2, 9]));
-    Ok(())
-}
-
-fn universal_in(alloc: Global, state: &State, told: &Told) -> Result<VarList, Fail> {
-    let told = constraint(alloc, told)?;
-    Ok(universals_of(alloc, state, &told)?)
-}
-
-#[test]
-fn universal_variables_of_constraints_are_found(rt: HostRuntime) -> Result<(), Fail> {
     let alloc = rt.alloc();
     let state = state(alloc)?;
+    let found = universal_among(alloc, &state, &[4, 0, 1, 2, 4, 9])?;
+    assert_eq!(rt; found.as_slice(), [4, 1, 4].as_slice());
+    assert!(rt; has_universal(&state, &[0, 4]));
+    assert!(rt; !has_universal(&state, &[0, 2, 9]));
     for (told, wanted) in &UNIVERSALS {
-        let found = universal_in(alloc, &state, told)?;
+        let found = universals_of(alloc, &state, &constraint(alloc, told)?)?;
         assert_same(&rt, alloc, &found, &numbers(alloc, wanted)?)?;
     }
     Ok(())
 }
 
-fn with_more(alloc: Global) -> Result<State, Fail> {
-    Ok(with_new(state(alloc)?, Universal, 3, 2)?)
-}
-
-/// The state with these variables.
-fn with_variables(alloc: Global, made: &[(Kind, u64)]) -> Result<State, Fail> {
-    let mut wanted = state(alloc)?;
-    wanted.made = variables(alloc, made)?;
-    Ok(wanted)
-}
-
 #[test]
 fn variables_are_made(rt: HostRuntime) -> Result<(), Fail> {
     let alloc = rt.alloc();
-    let found = with_more(alloc)?;
-    assert_same(&rt, alloc, &found, &with_variables(alloc, &MORE)?)
+    let found = with_new(state(alloc)?, Universal, 3, 2)?;
+    let mut wanted = state(alloc)?;
+    wanted.made = variables(alloc, &MORE)?;
+    assert_same(&rt, alloc, &found, &wanted)
 }
 
 #[test]
 fn depths_are_lowered(rt: HostRuntime) -> Result<(), Fail> {
     let alloc = rt.alloc();
-    let found = lower_all(0, &[0, 1, 2, 9, 3], variables(alloc, &MADE)?);
+    let found = lower_all(0, &[0, 1, 2, 9, 3], state(alloc)?.made);
     assert_same(&rt, alloc, &found, &variables(alloc, &LOWER)?)
 }
 
-fn with_value(alloc: Global) -> Result<State, Fail> {
-    let value = term(alloc, &VALUE)?;
-    Ok(with_binding(state(alloc)?, 5, value)?)
+/// The state in which V5 is bound, too.
+fn bound(alloc: Global) -> Result<State, Fail> {
+    let mut wanted = state(alloc)?;
+    wanted.bound = bindings(alloc, &BOUND)?;
+    Ok(wanted)
 }
 
-/// The state with these variables in which V5 is bound, too.
-fn bound(alloc: Global, made: &[(Kind, u64)]) -> Result<State, Fail> {
-    let mut wanted = with_variables(alloc, made)?;
-    wanted.bound = bindings(alloc, &BOUND)?;
+/// The state in which V5 is bound, too, and the depths are lowered.
+fn bound_and_lowered(alloc: Global) -> Result<State, Fail> {
+    let mut wanted = bound(alloc)?;
+    wanted.made = variables(alloc, &BINDING)?;
     Ok(wanted)
 }
 
 #[test]
 fn variables_are_bound(rt: HostRuntime) -> Result<(), Fail> {
     let alloc = rt.alloc();
-    let found = with_value(alloc)?;
-    assert_same(&rt, alloc, &found, &bound(alloc, &MADE)?)
-}
-
-fn bound_to_value(alloc: Global) -> Result<State, Fail> {
     let value = term(alloc, &VALUE)?;
-    Ok(bind(alloc, state(alloc)?, 5, value)?)
+    let found = with_binding(state(alloc)?, 5, value)?;
+    assert_same(&rt, alloc, &found, &bound(alloc)?)
 }
 
 #[test]
 fn binding_lowers_depths(rt: HostRuntime) -> Result<(), Fail> {
     let alloc = rt.alloc();
-    let found = bound_to_value(alloc)?;
-    assert_same(&rt, alloc, &found, &bound(alloc, &BINDING)?)
-}
-
-fn replaced(alloc: Global, told: &Told) -> Result<Option<Binding>, Fail> {
-    let told = constraint(alloc, told)?;
-    Ok(replacement(alloc, &told)?)
+    let value = term(alloc, &VALUE)?;
+    let found = bind(alloc, state(alloc)?, 5, value)?;
+    assert_same(&rt, alloc, &found, &bound_and_lowered(alloc)?)
 }
 
 #[test]
 fn equations_of_variables_are_replacements(rt: HostRuntime) -> Result<(), Fail> {
     let alloc = rt.alloc();
-    let wanted = Some(binding(alloc, 0, &V(1))?);
-    assert_same(&rt, alloc, &replaced(alloc, &Equal(V(0), V(1)))?, &wanted)
-}
-
-#[test]
-fn other_constraints_replace_nothing(rt: HostRuntime) -> Result<(), Fail> {
-    for told in &OTHERS {
-        assert!(rt; replaced(rt.alloc(), told)?.is_none());
+    let told = constraint(alloc, &Equal(V(0), V(1)))?;
+    let wanted: Option<Binding> = Some(binding(alloc, 0, &V(1))?);
+    assert_same(&rt, alloc, &replacement(alloc, &told)?, &wanted)?;
+    for (number, told) in OTHERS.iter().enumerate() {
+        let told = constraint(alloc, told)?;
+        assert!(rt; replacement(alloc, &told)?.is_none(), "row {number}");
     }
     Ok(())
 }

@@ -67,35 +67,20 @@ pub(crate) fn negated_lit(alloc: Global, name: u64, args: &[Written]) -> Result<
     })
 }
 
-fn factors(alloc: Global, terms: &[(u64, i128)]) -> Result<RatPairs, Fail> {
+fn row(alloc: Global, terms: &[(u64, i128)], constant: i128, op: Op) -> Result<Row, Fail> {
     let mut pairs = RatPairs::new(alloc);
     for (x, c) in terms {
         let value = Rat::new(*c, 1)?;
         pairs.push(RatPair { x: *x, value })?;
     }
-    Ok(pairs)
-}
-
-fn row(alloc: Global, terms: &[(u64, i128)], constant: i128, op: Op) -> Result<Row, Fail> {
-    let pairs = factors(alloc, terms)?;
-    let constant = Rat::new(constant, 1)?;
-    Ok(Row::normal(alloc, &pairs, &constant, op)?)
-}
-
-fn equation(alloc: Global, left: &Written, right: &Written) -> Result<Con, Fail> {
-    let left = term(alloc, left)?;
-    Ok(Con::Eq(left, term(alloc, right)?))
-}
-
-fn disequation(alloc: Global, left: &Written, right: &Written) -> Result<Con, Fail> {
-    let left = term(alloc, left)?;
-    Ok(Con::Neq(left, term(alloc, right)?))
+    let made = Row::normal(alloc, &pairs, &Rat::new(constant, 1)?, op)?;
+    Ok(made)
 }
 
 pub(crate) fn constraint(alloc: Global, given: &Told) -> Result<Con, Fail> {
     match given {
-        Told::Equal(left, right) => equation(alloc, left, right),
-        Told::Differ(left, right) => disequation(alloc, left, right),
+        Told::Equal(left, right) => Ok(Con::Eq(term(alloc, left)?, term(alloc, right)?)),
+        Told::Differ(left, right) => Ok(Con::Neq(term(alloc, left)?, term(alloc, right)?)),
         Told::NoShape(x, name, arity) => Ok(Con::NotShape(*x, NameId::new(*name), *arity)),
         Told::Number(written) => Ok(Con::Num(term(alloc, written)?)),
         Told::NoNumber(written) => Ok(Con::NotNum(term(alloc, written)?)),
@@ -126,18 +111,13 @@ pub(crate) fn bindings(alloc: Global, given: &[(u64, Written)]) -> Result<Bindin
     Ok(all)
 }
 
-fn pair(alloc: Global, left: &Written, right: &Written) -> Result<Pair, Fail> {
-    let left = term(alloc, left)?;
-    Ok(Pair {
-        left,
-        right: term(alloc, right)?,
-    })
-}
-
 pub(crate) fn written_pairs(alloc: Global, given: &[(Written, Written)]) -> Result<Pairs, Fail> {
     let mut all = Pairs::new(alloc);
     for (left, right) in given {
-        all.push(pair(alloc, left, right)?)?;
+        all.push(Pair {
+            left: term(alloc, left)?,
+            right: term(alloc, right)?,
+        })?;
     }
     Ok(all)
 }
@@ -185,17 +165,12 @@ static NEAR: [(Told, Told); 6] = [
     ),
 ];
 
-fn shown_constraint(alloc: Global, told: &Told) -> Result<String, Fail> {
-    let told = constraint(alloc, told)?;
-    shown(alloc, &told)
-}
-
 #[test]
 fn texts_tell_values_apart(rt: HostRuntime) -> Result<(), Fail> {
     let alloc = rt.alloc();
     for (one, other) in &NEAR {
-        let one = shown_constraint(alloc, one)?;
-        let other = shown_constraint(alloc, other)?;
+        let one = shown(alloc, &constraint(alloc, one)?)?;
+        let other = shown(alloc, &constraint(alloc, other)?)?;
         assert_ne!(rt; one.as_str(), other.as_str());
     }
     Ok(())
