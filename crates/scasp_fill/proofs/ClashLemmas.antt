@@ -58,15 +58,19 @@ told_on-some (t ∷ ts) a h = by (nat_eq t.at a.at) refl (told_on-some ts a)
 
 pub pairs-members : (ts : List Told) (ab : Told × Told) → Contains (all_pairs ts) ab → Contains ts ab.0 × Contains ts ab.1 × (is_pair ab.0 ab.1 ≡ true)
 pairs-members [] ab h = absurd (Contains-none ab h)
-pairs-members (t ∷ ts) ab h = elim (Contains-append_cases (map (λ b. (t, b)) (filter (is_pair t) ts)) (all_pairs ts) ab h) [ inl k ↦
-    (let m = Contains-from_map (λ (b : Told). (t, b)) (filter (is_pair t) ts) ab k in
-     let i = Contains-from_filter (is_pair t) ts m.0 m.1 in
-     let e : (t, m.0) ≡ ab = m.2 in
-     let x : t ≡ ab.0 = ap (λ (z : Told × Told). z.0) e in
-     let y : m.0 ≡ ab.1 = ap (λ (z : Told × Told). z.1) e in
-     (subst (λ (z : Told). Contains (t ∷ ts) z) x (Contains-here t ts),
-      subst (λ (z : Told). Contains (t ∷ ts) z) y (Contains-there t ts m.0 i.0),
-      subst (λ (z : Told). is_pair ab.0 z ≡ true) y (subst (λ (z : Told). is_pair z m.0 ≡ true) x i.1))) | inr k ↦ (let m = pairs-members ts ab k in (Contains-there t ts ab.0 m.0, Contains-there t ts ab.1 m.1, m.2)) ]
+pairs-members (t ∷ ts) ab h = elim (Contains-append_cases (map (λ b. (t, b)) (filter (is_pair t) ts)) (all_pairs ts) ab h) [
+  | inl k ↦
+      (let m = Contains-from_map (λ (b : Told). (t, b)) (filter (is_pair t) ts) ab k in
+      let i = Contains-from_filter (is_pair t) ts m.0 m.1 in
+      let e : (t, m.0) ≡ ab = m.2 in
+      let x : t ≡ ab.0 = ap (λ (z : Told × Told). z.0) e in
+      let y : m.0 ≡ ab.1 = ap (λ (z : Told × Told). z.1) e in (
+        subst (λ (z : Told). Contains (t ∷ ts) z) x (Contains-here t ts),
+        subst (λ (z : Told). Contains (t ∷ ts) z) y (Contains-there t ts m.0 i.0),
+        subst (λ (z : Told). is_pair ab.0 z ≡ true) y (subst (λ (z : Told). is_pair z m.0 ≡ true) x i.1),
+      ))
+  | inr k ↦ (let m = pairs-members ts ab k in (Contains-there t ts ab.0 m.0, Contains-there t ts ab.1 m.1, m.2))
+]
 
 pair-turned : (a b : Told) → is_pair a b ≡ true → is_pair b a ≡ true
 pair-turned a b e =
@@ -134,7 +138,6 @@ module _ (free : ℕ) (given : List Con) where
       by true m = by-either a b _ k refl m
       by false m = absurd (Contains-none k m)
 
-
 module _ (p : Program) (c : Certificate) where
   abbrev ts : List Told
   ts = all_told (lines p c)
@@ -194,7 +197,7 @@ module _ (p : Program) (c : Certificate) where
       let x = Contains-from_flat_map (clash_for (free_of c) c.given) (all_pairs ts) k h in
       let m = pairs-members ts x.0 x.1 in
       elim (clash-from (free_of c) c.given x.0.0 x.0.1 k x.2) [
-        inl s ↦ record { one = x.0.0; other = x.0.1; one_there = m.0; other_there = m.1; pair = inl m.2; clash = s }
+        | inl s ↦ record { one = x.0.0; other = x.0.1; one_there = m.0; other_there = m.1; pair = inl m.2; clash = s }
         | inr s ↦ record { one = x.0.1; other = x.0.0; one_there = m.1; other_there = m.0; pair = inr m.2; clash = s }
       ]
 
@@ -209,7 +212,7 @@ module _ (p : Program) (c : Certificate) where
             let x = told-unique m.one a m.one_there ha (sym m.clash.first ∙ f) in
             let y = told-unique m.other b m.other_there hb (sym m.clash.second ∙ s) in
             let q : found (apart_list a b) ≡ hint k.hint =
-                subst (λ (z : Told). found (apart_list a z) ≡ hint k.hint) y (subst (λ (z : Told). found (apart_list z m.other) ≡ hint k.hint) x m.clash.hinted) in
+            subst (λ (z : Told). found (apart_list a z) ≡ hint k.hint) y (subst (λ (z : Told). found (apart_list z m.other) ≡ hint k.hint) x m.clash.hinted) in
             found-hint (apart_list a b) k.hint (normal (a, b) i).0 q
 
         turned : k.first ≡ b.at → k.second ≡ a.at → fault_of (apart_list b a) k.hint ≡ None
@@ -217,22 +220,22 @@ module _ (p : Program) (c : Certificate) where
             let x = told-unique m.one b m.one_there hb (sym m.clash.first ∙ f) in
             let y = told-unique m.other a m.other_there ha (sym m.clash.second ∙ s) in
             let q : found (apart_list b a) ≡ hint k.hint =
-                subst (λ (z : Told). found (apart_list b z) ≡ hint k.hint) y (subst (λ (z : Told). found (apart_list z m.other) ≡ hint k.hint) x m.clash.hinted) in
+            subst (λ (z : Told). found (apart_list b z) ≡ hint k.hint) y (subst (λ (z : Told). found (apart_list z m.other) ≡ hint k.hint) x m.clash.hinted) in
             found-hint (apart_list b a) k.hint (normal (a, b) i).1 q
 
         lines_named : (k.first ≡ a.at) × (k.second ≡ b.at) ⊎ (k.first ≡ b.at) × (k.second ≡ a.at)
         lines_named = elim (or_cases (nat_eq k.first a.at && nat_eq k.second b.at) (nat_eq k.first b.at && nat_eq k.second a.at) e) [
-          inl x ↦ (let q = and_parts (nat_eq k.first a.at) (nat_eq k.second b.at) x in inl (same-number k.first a.at q.0, same-number k.second b.at q.1))
+          | inl x ↦ (let q = and_parts (nat_eq k.first a.at) (nat_eq k.second b.at) x in inl (same-number k.first a.at q.0, same-number k.second b.at q.1))
           | inr x ↦ (let q = and_parts (nat_eq k.first b.at) (nat_eq k.second a.at) x in inr (same-number k.first b.at q.0, same-number k.second a.at q.1))
         ]
 
         by : (test : Bool) → nat_eq k.first a.at ≡ test → fault_of (clash_list (free_of c) c.given a b k) k.hint ≡ None
         by true f = rw f (elim lines_named [
-          inl n ↦ straight n.0 n.1
+          | inl n ↦ straight n.0 n.1
           | inr n ↦ absurd (apart (sym (same-number k.first a.at f) ∙ n.0))
         ])
         by false f = rw f (elim lines_named [
-          inl n ↦ (let q : nat_eq k.first a.at ≡ true = number-same k.first a.at n.0 in cc)
+          | inl n ↦ (let q : nat_eq k.first a.at ≡ true = number-same k.first a.at n.0 in cc)
           | inr n ↦ turned n.0 n.1
         ])
 
@@ -266,7 +269,7 @@ module _ (p : Program) (c : Certificate) where
         there nothing e (hint x) f = rw (asked, e, f) (other_way x)
         there nothing e unknown_list f = absurd (turned_known f)
         there nothing e nothing f = elim shown [
-          inl s ↦ absurd (found-unshown (apart_list a b) h (normal (a, b) i).0 e s)
+          | inl s ↦ absurd (found-unshown (apart_list a b) h (normal (a, b) i).0 e s)
           | inr s ↦ absurd (found-unshown (apart_list b a) h (normal (a, b) i).1 f s)
         ]
 

@@ -214,21 +214,21 @@ module _ (p : Program) (c : Certificate) (normal : AreRowsNormal p c) where
         given_known = h.given_known;
         each_item = count-same positives g found_clashes ∙ sym (count-same positives f ks) ∙ h.each_item;
         lines_hold =
-          subst (Hold positives g found_clashes) (sym (whole-same positives g found_clashes))
-          (each-map (line_hinted g) (LineHolds (hinted_whole positives g found_clashes)) (lines p c)
-           (λ l i. line-holds (hinted_whole positives g found_clashes) (line_hinted g l)
+            subst (Hold positives g found_clashes) (sym (whole-same positives g found_clashes))
+            (each-map (line_hinted g) (LineHolds (hinted_whole positives g found_clashes)) (lines p c)
+            (λ l i. line-holds (hinted_whole positives g found_clashes) (line_hinted g l)
             (line-serves (setting p.clauses c) c.given positives (lines p c) f g l (line-fault positives f ks h l i)
-             (λ cs m. hint-serves l i cs m (known.0 cs (Contains-flat_map (λ (l : Line). part_lists c.given l.here l.part) (lines p c) l cs i m)) (f l.at)
-              (line-shown (setting p.clauses c) c.given positives (lines p c) f l (line-fault positives f ks h l i) cs m)))));
+            (λ cs m. hint-serves l i cs m (known.0 cs (Contains-flat_map (λ (l : Line). part_lists c.given l.here l.part) (lines p c) l cs i m)) (f l.at)
+            (line-shown (setting p.clauses c) c.given positives (lines p c) f l (line-fault positives f ks h l i) cs m)))));
         apart =
-          subst (λ (ts : List Told). Each (AreApart (filled p c)) (all_pairs ts)) (sym (told-same positives g found_clashes))
-          (each-from (AreApart (filled p c)) (all_pairs (all_told (lines p c)))
-           (λ ab i. pair-serves p c pairs-normal f g ks ab.0 ab.1 i (known.1 ab i).0 (known.1 ab i).1
+            subst (λ (ts : List Told). Each (AreApart (filled p c)) (all_pairs ts)) (sym (told-same positives g found_clashes))
+            (each-from (AreApart (filled p c)) (all_pairs (all_told (lines p c)))
+            (λ ab i. pair-serves p c pairs-normal f g ks ab.0 ab.1 i (known.1 ab i).0 (known.1 ab i).1
             (Each-member (AreApart (shown_by f ks c)) (all_pairs (all_told (lines p c))) ab
-             (subst (λ (ts : List Told). Each (AreApart (shown_by f ks c)) (all_pairs ts)) (told-same positives f ks) h.apart) i)));
+            (subst (λ (ts : List Told). Each (AreApart (shown_by f ks c)) (all_pairs ts)) (told-same positives f ks) h.apart) i)));
         clashes =
-          subst (λ (ts : List Told). Each (IsOfPair ts) found_clashes) (sym (told-same positives g found_clashes))
-          (each-from (IsOfPair (all_told (lines p c))) found_clashes (clash-paired p c));
+            subst (λ (ts : List Told). Each (IsOfPair ts) found_clashes) (sym (told-same positives g found_clashes))
+            (each-from (IsOfPair (all_told (lines p c))) found_clashes (clash-paired p c));
         sample_ground = h.sample_ground;
         sample_meets = h.sample_meets;
         map = h.map;

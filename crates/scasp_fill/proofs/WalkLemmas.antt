@@ -64,7 +64,7 @@ module _ (f : ℕ → Hint) where
           let rest = nodes-hinted here (at + lines_of t) old.next (other_dues dues) ts in
           both _ _ old (nodes_walk s here (at + lines_of t) old.next (other_dues dues) ts) first
           (ap (λ n. nodes_walk s here n (node_walk s here at next (first_due dues) (hinted f at t)).next (other_dues dues) (all_hinted f (at + lines_of t) ts)) (ap (λ n. at + n) (same-lines f at t))
-           ∙ ap (λ (w : Walked). nodes_walk s here (at + lines_of t) w.next (other_dues dues) (all_hinted f (at + lines_of t) ts)) first ∙ rest)
+          ∙ ap (λ (w : Walked). nodes_walk s here (at + lines_of t) w.next (other_dues dues) (all_hinted f (at + lines_of t) ts)) first ∙ rest)
 
       pub case-hinted : (here : Place) (at next : ℕ) (body : Body) (b : Branch) → branch_walk s here at next body (case_hinted f at b) ≡ walk_hinted (branch_walk s here at next body b)
       case-hinted here at next body (split c one two) =
@@ -74,8 +74,8 @@ module _ (f : ℕ → Hint) where
           let rest = case-hinted x.second (suc at + lines_at one) old.next (split_body body) two in
           above (record { at = at; next = next; here = here; part = of_case body (split c one two) }) _ _
           (both _ _ old (branch_walk s x.second (suc at + lines_at one) old.next (split_body body) two) first
-           (ap (λ n. branch_walk s x.second n (branch_walk s x.first (suc at) x.next (split_body body) (case_hinted f (suc at) one)).next (split_body body) (case_hinted f (suc at + lines_at one) two)) (ap (λ n. suc at + n) (same-at f (suc at) one))
-            ∙ ap (λ (w : Walked). branch_walk s x.second (suc at + lines_at one) w.next (split_body body) (case_hinted f (suc at + lines_at one) two)) first ∙ rest))
+          (ap (λ n. branch_walk s x.second n (branch_walk s x.first (suc at) x.next (split_body body) (case_hinted f (suc at) one)).next (split_body body) (case_hinted f (suc at + lines_at one) two)) (ap (λ n. suc at + n) (same-at f (suc at) one))
+          ∙ ap (λ (w : Walked). branch_walk s x.second (suc at + lines_at one) w.next (split_body body) (case_hinted f (suc at + lines_at one) two)) first ∙ rest))
       case-hinted here at next body (void shown) = refl
       case-hinted here at next body (leaf k children) =
           above (record { at = at; next = next; here = here; part = of_case body (leaf k children) }) _ _ (nodes-hinted _ (suc at) next _ children)
@@ -87,12 +87,12 @@ module _ (f : ℕ → Hint) where
       covers-hinted here at next a (branch k b bs) =
           let i = inside_rule (numbered s.clauses k) a next here in
           let first =
-              above (record { at = at; next = next; here = here; part = of_rule k a b }) _ _ (case-hinted i.here (suc at) i.next i.body b) in
+          above (record { at = at; next = next; here = here; part = of_rule k a b }) _ _ (case-hinted i.here (suc at) i.next i.body b) in
           let old = rule_walk s here at next k a b in
           let rest = covers-hinted here (at + (1 + lines_at b)) old.next a bs in
           both _ _ old (covers_walk s here (at + (1 + lines_at b)) old.next a bs) first
           (ap (λ n. covers_walk s here n (rule_walk s here at next k a (case_hinted f (suc at) b)).next a (covers_hinted f (at + (1 + lines_at b)) bs)) (ap (λ n. at + (1 + n)) (same-at f (suc at) b))
-           ∙ ap (λ (w : Walked). covers_walk s here (at + (1 + lines_at b)) w.next a (covers_hinted f (at + (1 + lines_at b)) bs)) first ∙ rest)
+          ∙ ap (λ (w : Walked). covers_walk s here (at + (1 + lines_at b)) w.next a (covers_hinted f (at + (1 + lines_at b)) bs)) first ∙ rest)
 
     check-hinted : (here : Place) (at next k : ℕ) (b : Branch) → check_walk s here at next k (case_hinted f (suc at) b) ≡ walk_hinted (check_walk s here at next k b)
     check-hinted here at next k b =
@@ -107,13 +107,13 @@ module _ (f : ℕ → Hint) where
         let rest = checks-hinted here (at + (1 + lines_at c.1)) old.next cs in
         both _ _ old (checks_walk s here (at + (1 + lines_at c.1)) old.next cs) first
         (ap (λ n. checks_walk s here n (check_walk s here at next c.0 (case_hinted f (suc at) c.1)).next (checks_hinted f (at + (1 + lines_at c.1)) cs)) (ap (λ n. at + (1 + n)) (same-at f (suc at) c.1))
-         ∙ ap (λ (w : Walked). checks_walk s here (at + (1 + lines_at c.1)) w.next (checks_hinted f (at + (1 + lines_at c.1)) cs)) first ∙ rest)
+        ∙ ap (λ (w : Walked). checks_walk s here (at + (1 + lines_at c.1)) w.next (checks_hinted f (at + (1 + lines_at c.1)) cs)) first ∙ rest)
 
   pub same-setting : (cs : List Clause) (ks : List Clash) (c : Certificate) → setting cs (shown_by f ks c) ≡ setting cs c
   same-setting cs ks c =
       ap (λ n. record { clauses = cs; free = free_of c; top = free_of c + n })
       (sums (ap (room_below cs) (listed-hinted f 1 c.trees) ∙ same-room_below f cs 1 (listed c.trees))
-       (same-room_under f cs (1 + lines_below (listed c.trees)) c.checks))
+      (same-room_under f cs (1 + lines_below (listed c.trees)) c.checks))
 
   query-hinted : (cs : List Clause) (qs : List Query) (ks : List Clash) (c : Certificate) → query_walk cs qs (shown_by f ks c) ≡ walk_hinted (query_walk cs qs c)
   query-hinted cs qs ks c =
@@ -132,9 +132,9 @@ module _ (f : ℕ → Hint) where
       let at = 1 + lines_below (listed c.trees) in
       both _ _ old (checks_walk s (start s.top) at old.next c.checks) first
       (ap (λ (z : Setting). checks_walk z (start z.top) (1 + lines_below (listed (trees_hinted f 1 c.trees))) (query_walk cs qs (shown_by f ks c)).next (checks_hinted f at c.checks)) (same-setting cs ks c)
-       ∙ ap (λ n. checks_walk s (start s.top) (1 + n) (query_walk cs qs (shown_by f ks c)).next (checks_hinted f at c.checks)) (same-start ks c)
-       ∙ ap (λ (w : Walked). checks_walk s (start s.top) at w.next (checks_hinted f at c.checks)) first
-       ∙ checks-hinted s (start s.top) at old.next c.checks)
+      ∙ ap (λ n. checks_walk s (start s.top) (1 + n) (query_walk cs qs (shown_by f ks c)).next (checks_hinted f at c.checks)) (same-start ks c)
+      ∙ ap (λ (w : Walked). checks_walk s (start s.top) at w.next (checks_hinted f at c.checks)) first
+      ∙ checks-hinted s (start s.top) at old.next c.checks)
 
   -- the lines with these hints
   pub lines-hinted : (p : Program) (ks : List Clash) (c : Certificate) → lines p (shown_by f ks c) ≡ map line_hinted (lines p c)

@@ -76,4 +76,4 @@ abbrev pub ListsAreKnown : Program → Certificate → Type 0
 ListsAreKnown p c =
     ((cs : List Con) → Contains (hint_lists p c) cs → IsKnown cs)
     × ((ab : Told × Told) → Contains (all_pairs (all_told (lines p c))) ab
-       → IsKnown (pair_list (free_of c) c.given ab.0 ab.1) × IsKnown (pair_list (free_of c) c.given ab.1 ab.0))
+    → IsKnown (pair_list (free_of c) c.given ab.0 ab.1) × IsKnown (pair_list (free_of c) c.given ab.1 ab.0))
