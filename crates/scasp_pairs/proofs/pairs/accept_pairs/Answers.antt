@@ -1,0 +1,15 @@
+use Rattle.std.proofs.Common.{◌∙◌, ap}
+use Rattle.std.specs.List.{flat_map}
+use Rattle.scasp_cert.specs.Certificate.{certificate_of}
+use Rattle.scasp_lines.specs.Lines.{free_of}
+use Rattle.scasp_shown.specs.Standings.{told_by}
+use Rattle.scasp_shown.specs.TableView.{table_value}
+use Rattle.scasp_pairs.specs.Inside.Partners.{group_faults, grouped}
+use Rattle.scasp_pairs.proofs.PartnerLemmas.{grouped-faults}
+use Rattle.scasp_pairs.proofs.pairs.accept_pairs.Goals as goal
+
+pub loop-partners-init : goal.loop-partners-init
+loop-partners-init c =
+    let cert = c.args.against.now.cert.now in
+    ap (flat_map (group_faults (free_of (certificate_of cert)) cert.given cert.clashes)) (c.in_ok-left.ensures ∙ ap grouped c.in_ok-sayings.ensures)
+    ∙ grouped-faults (free_of (certificate_of cert)) cert.given cert.clashes (flat_map told_by (table_value c.args.table.now))

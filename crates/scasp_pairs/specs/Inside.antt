@@ -1,0 +1,5 @@
+-- What private functions alone speak of.
+pub mod Against
+pub mod Clashes
+pub mod Named
+pub mod Partners

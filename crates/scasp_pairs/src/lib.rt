@@ -1,0 +1,9 @@
+//! Pairs of literals, which have to be shown apart.
+#![tactic(auto)]
+
+mod clash_lines;
+mod clashes;
+mod pairs;
+mod partners;
+
+pub use pairs::accept_apart;
