@@ -1,6 +1,5 @@
 pub mod Carried
 pub mod Examples
 pub mod Existence
-pub mod Good
 pub mod MapLevels
 pub mod Support

@@ -1,8 +1,6 @@
-//! Tests of certificates and of their checker.
+//! Tests of certificates and of their text.
 #![tactic(auto)]
 
-#[cfg(test)]
-mod checked;
 #[cfg(test)]
 mod counted;
 #[cfg(test)]

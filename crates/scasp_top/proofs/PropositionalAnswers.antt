@@ -1,4 +1,4 @@
--- Each answer of the search over a propositional program is accepted: an invariant of the states that it goes through.
+-- Each answer of the search over a propositional program is shown by its rules, and so accepted: an invariant of the states that it goes through.
 use Rattle.std.proofs.Common.{◌≡◌, ◌∙◌, ℕ, zero, suc, ◌+◌, ◌==◌, Bool, true, false, ◌&&◌, not, IsTrue, List, [], ◌∷◌, ◌++◌, Option, None, Some, slice_get, refl, ap, sym, subst, arith, append_assoc, length, if◌then◌else◌}
 use Rattle.std.specs.List.{list_all}
 use Rattle.std.proofs.lemmas.Bool.{and_parts, eqb-true}
@@ -21,7 +21,8 @@ use Rattle.scasp_syntax.proofs.SameLemmas.{atom_decided}
 use Rattle.scasp_cert.specs.Certificate.{Certificate}
 use Rattle.scasp_cert.specs.States.{Level, Opened, State, closed}
 use Rattle.scasp_cert.specs.Trees.{Tree, pos_tree, listed}
-use Rattle.scasp_checker.specs.Accepted.{IsAccepted, AreAccepted, IsInstance, Accepts}
+use Rattle.scasp_acceptance.specs.Accepted.{Accepts}
+use Rattle.scasp_top.proofs.PositiveLines.{IsShown, AreShown, IsInstance, ShowsQuery, shown-accepted}
 use Rattle.scasp_program.specs.Propositional.{is_empty, has_no_argument, are_plain_calls, has_plain_head, is_propositional_rule, is_propositional_query, are_propositional}
 use Rattle.scasp_written.specs.Machine.{Found, answered, spent, first_event, pick, cost, Finds}
 use Rattle.scasp_written.specs.Run.{search_for, certificate, answer, pays, start}
@@ -58,18 +59,18 @@ plain-body c e =
     let parts = and_parts (has_plain_head c.head && are_plain_calls c.body) (c.vars == 0) e in
     (and_parts (has_plain_head c.head) (are_plain_calls c.body) parts.0).1
 
-accepted-behind : (clauses : List Clause) (dues : List FlatItem) (ts : List Tree) (due : FlatItem) (t : Tree)
-    → AreAccepted clauses [] dues (listed ts) → IsAccepted clauses [] due t → AreAccepted clauses [] (dues ++ due ∷ []) (listed (ts ++ t ∷ []))
-accepted-behind clauses [] [] due t h k = (k, tt)
-accepted-behind clauses [] (u ∷ ts) due t h k = absurd h
-accepted-behind clauses (d ∷ dues) [] due t h k = absurd h
-accepted-behind clauses (d ∷ dues) (u ∷ ts) due t h k = (h.0, accepted-behind clauses dues ts due t h.1 k)
+shown-behind : (clauses : List Clause) (dues : List FlatItem) (ts : List Tree) (due : FlatItem) (t : Tree)
+    → AreShown clauses [] dues (listed ts) → IsShown clauses [] due t → AreShown clauses [] (dues ++ due ∷ []) (listed (ts ++ t ∷ []))
+shown-behind clauses [] [] due t h k = (k, tt)
+shown-behind clauses [] (u ∷ ts) due t h k = absurd h
+shown-behind clauses (d ∷ dues) [] due t h k = absurd h
+shown-behind clauses (d ∷ dues) (u ∷ ts) due t h k = (h.0, shown-behind clauses dues ts due t h.1 k)
 
--- The list is in the making for what is due: the trees that are done are accepted for what comes first, and the rest is left to show.
+-- The list is in the making for what is due: the trees that are done show what comes first, and the rest is left to show.
 pub record IsPart (clauses : List Clause) (dues : List FlatItem) (level : Level) : Type 0 where
   pub shown : List FlatItem
   pub parts : dues ≡ shown ++ flat_body level.todo
-  pub trees : AreAccepted clauses [] shown (listed level.done)
+  pub trees : AreShown clauses [] shown (listed level.done)
   pub plain : are_plain_calls level.todo ≡ true
 
 -- the open literal is called for this literal of a body, and goes by this clause
@@ -105,17 +106,17 @@ AreSound-append clauses dues (x ∷ xs) ys h g = (h.0, AreSound-append clauses d
 
 -- the next item of a list has been shown
 part-shown : (clauses : List Clause) (dues : List FlatItem) (done : List Tree) (l : Lit) (todo : List Item) (t : Tree)
-    → IsPart clauses dues (record { done = done; todo = Call l ∷ todo }) → IsAccepted clauses [] (flat.Call l) t
+    → IsPart clauses dues (record { done = done; todo = Call l ∷ todo }) → IsShown clauses [] (flat.Call l) t
     → IsPart clauses dues (record { done = done ++ t ∷ []; todo = todo })
 part-shown clauses dues done l todo t part k = record {
   shown = part.shown ++ flat.Call l ∷ [];
   parts = part.parts ∙ sym (append_assoc part.shown (flat.Call l ∷ []) (flat_body todo));
-  trees = accepted-behind clauses part.shown done (flat.Call l) t part.trees k;
+  trees = shown-behind clauses part.shown done (flat.Call l) t part.trees k;
   plain = (and_parts (l.positive && has_no_argument l.atom.args) (are_plain_calls todo) part.plain).1;
 }
 
 fits-shown : (clauses : List Clause) (dues : List FlatItem) (above : List Opened) (done : List Tree) (l : Lit) (todo : List Item) (t : Tree)
-    → Fits clauses dues above (record { done = done; todo = Call l ∷ todo }) → IsAccepted clauses [] (flat.Call l) t
+    → Fits clauses dues above (record { done = done; todo = Call l ∷ todo }) → IsShown clauses [] (flat.Call l) t
     → Fits clauses dues above (record { done = done ++ t ∷ []; todo = todo })
 fits-shown clauses dues [] done l todo t h k = part-shown clauses dues done l todo t h k
 fits-shown clauses dues (o ∷ above) done l todo t h k = (h.0, h.1, h.2, part-shown clauses (flat_body (h.0).body) done l todo t h.3 k, h.4)
@@ -124,15 +125,15 @@ fits-plain : (clauses : List Clause) (dues : List FlatItem) (above : List Opened
 fits-plain clauses dues [] level h = h.plain
 fits-plain clauses dues (o ∷ above) level h = (h.3).plain
 
--- a literal with nothing left to show is an accepted tree
-open-accepted : (clauses : List Clause) (o : Opened) (c : Clause) (l : Lit) (done : List Tree)
+-- a literal with nothing left to show is a tree that shows it
+open-shown : (clauses : List Clause) (o : Opened) (c : Clause) (l : Lit) (done : List Tree)
     → IsOpenBy clauses o c l → IsPart clauses (flat_body c.body) (record { done = done; todo = [] }) → (l.positive && has_no_argument l.atom.args) ≡ true
-    → IsAccepted clauses [] (flat.Call l) (pos_tree o.atom o.rule o.terms (listed done))
-open-accepted clauses o c l done op part e =
+    → IsShown clauses [] (flat.Call l) (pos_tree o.atom o.rule o.terms (listed done))
+open-shown clauses o c l done op part e =
     let plain = and_parts l.positive (has_no_argument l.atom.args) e in
     let ground : are_ground o.atom.args ≡ true = ap (λ (a : Atom). are_ground a.args) op.atom ∙ no_argument-ground l.atom.args plain.1 in
-    let P : Tms → Type 0 = λ ts. IsAccepted clauses [] (flat.Call l) (pos_tree o.atom o.rule ts (listed done)) in
-    let Q : List FlatItem → Type 0 = λ dues. AreAccepted clauses [] dues (listed done) in
+    let P : Tms → Type 0 = λ ts. IsShown clauses [] (flat.Call l) (pos_tree o.atom o.rule ts (listed done)) in
+    let Q : List FlatItem → Type 0 = λ dues. AreShown clauses [] dues (listed done) in
     subst P (sym op.terms) (
       c,
       record {
@@ -154,7 +155,7 @@ closed-sound clauses dues done [] (o ∷ above) h =
     let plain = and_parts (l.positive && has_no_argument l.atom.args) (are_plain_calls (o.outer).todo) (fits-plain clauses dues above (pending o l) h.4) in
     let t : Tree = pos_tree o.atom o.rule o.terms (listed done) in
     closed-sound clauses dues ((o.outer).done ++ t ∷ []) (o.outer).todo above
-    (fits-shown clauses dues above (o.outer).done l (o.outer).todo t h.4 (open-accepted clauses o c l done h.2 h.3 plain.0))
+    (fits-shown clauses dues above (o.outer).done l (o.outer).todo t h.4 (open-shown clauses o c l done h.2 h.3 plain.0))
 
 -- a call is tried by a rule of its atom
 entered-sound : (clauses : List Clause) (dues : List FlatItem) (s : State) (l : Lit) (items : List Item) (rule : ℕ) (c : Clause)
@@ -204,19 +205,19 @@ successors-sound clauses dues s (Linear l ∷ items) e h = tt
 next-sound : (clauses : List Clause) (dues : List FlatItem) (s : State) → list_all is_propositional_rule clauses ≡ true → IsSound clauses dues s → AreSound clauses dues (next clauses s)
 next-sound clauses dues s e h = successors-sound clauses dues s (s.level).todo e h.fits
 
--- the certificate is that of accepted trees for what is due of the query
+-- the certificate is that of trees that show what is due of the query
 pub record IsShownBy (clauses : List Clause) (dues : List FlatItem) (number : ℕ) (c : Certificate) : Type 0 where
   pub trees : List Tree
   pub is : c ≡ certificate number trees
-  pub accepted : AreAccepted clauses [] dues (listed trees)
+  pub shown : AreShown clauses [] dues (listed trees)
 
 answer-shown : (clauses : List Clause) (dues : List FlatItem) (number : ℕ) (above : List Opened) (done : List Tree) (todo : List Item) (c : Certificate)
     → Fits clauses dues above (record { done = done; todo = todo }) → (todo ≡ [] → above ≡ []) → answer number todo done ≡ Some c → IsShownBy clauses dues number c
 answer-shown clauses dues number above done (item ∷ todo) c h over e = cc
 answer-shown clauses dues number (o ∷ above) done [] c h over e = let none = over refl in cc
 answer-shown clauses dues number [] done [] c h over e =
-    let Q : List FlatItem → Type 0 = λ ds. AreAccepted clauses [] ds (listed done) in
-    record { trees = done; is = cc; accepted = subst Q (sym (h.parts ∙ append-nil h.shown)) h.trees }
+    let Q : List FlatItem → Type 0 = λ ds. AreShown clauses [] ds (listed done) in
+    record { trees = done; is = cc; shown = subst Q (sym (h.parts ∙ append-nil h.shown)) h.trees }
 
 walk-shown : (clauses : List Clause) (dues : List FlatItem) (number budget n : ℕ) (states : List State) (calls : ℕ) (found : Found State Certificate) (c : Certificate)
     → list_all is_propositional_rule clauses ≡ true → AreSound clauses dues states
@@ -269,33 +270,31 @@ event-shown p plain number query named budget calls rest c found =
     closed-sound p.clauses (flat_body query.body) [] query.body [] (record { shown = []; parts = refl; trees = tt; plain = parts.0 }) in
     (walk-shown p.clauses (flat_body query.body) number budget found.0 (start query.body ∷ []) 0 _ c both.0 (begins, tt) found.1 refl, parts.1)
 
+pub answers-shown : (p : Program) → IsTrue (are_propositional p.clauses p.queries)
+    → (number : ℕ) (query : Query) → numbered p.queries number ≡ Some query
+    → (budget calls : ℕ) (rest : List State) (c : Certificate)
+    → Finds (search_for p.clauses number) budget (start query.body ∷ []) 0 (record { event = answered c; calls = calls; rest = rest })
+    → ShowsQuery p c
+answers-shown p plain number query named budget calls rest c found =
+    let answer = event-shown p plain number query named budget calls rest c found in
+    let shown : IsShownBy p.clauses (flat_body query.body) number c = answer.0 in
+    subst (ShowsQuery p) (sym shown.is) (record {
+      query = query;
+      named = named;
+      each_variable = no-length query.names answer.1;
+      no_variable = refl;
+      nothing_given = refl;
+      trees = shown.shown;
+      no_check = refl;
+      no_clash = refl;
+      sample = refl;
+      no_map = refl;
+    })
+
 pub answers-accepted : (p : Program) → IsTrue (are_propositional p.clauses p.queries)
     → (number : ℕ) (query : Query) → numbered p.queries number ≡ Some query
     → (budget calls : ℕ) (rest : List State) (c : Certificate)
     → Finds (search_for p.clauses number) budget (start query.body ∷ []) 0 (record { event = answered c; calls = calls; rest = rest })
     → Accepts p c
 answers-accepted p plain number query named budget calls rest c found =
-    let answer = event-shown p plain number query named budget calls rest c found in
-    let shown : IsShownBy p.clauses (flat_body query.body) number c = answer.0 in
-    subst (Accepts p) (sym shown.is) (record {
-      query = query;
-      named = named;
-      each_variable = no-length query.names answer.1;
-      no_variable = refl;
-      nothing_given = refl;
-      trees = shown.accepted;
-      no_check = refl;
-      no_clash = refl;
-      sample = refl;
-      map = refl;
-    })
-
--- an answer of the search gives no level and no sign
-pub answers-without_map : (p : Program) → IsTrue (are_propositional p.clauses p.queries)
-    → (number : ℕ) (query : Query) → numbered p.queries number ≡ Some query
-    → (budget calls : ℕ) (rest : List State) (c : Certificate)
-    → Finds (search_for p.clauses number) budget (start query.body ∷ []) 0 (record { event = answered c; calls = calls; rest = rest })
-    → c.map ≡ []
-answers-without_map p plain number query named budget calls rest c found =
-    let shown : IsShownBy p.clauses (flat_body query.body) number c = (event-shown p plain number query named budget calls rest c found).0 in
-    ap (λ (z : Certificate). z.map) shown.is
+    shown-accepted p c (answers-shown p plain number query named budget calls rest c found)

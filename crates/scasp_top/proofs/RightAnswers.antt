@@ -11,9 +11,8 @@ use Rattle.scasp_syntax.specs.declared.clause.Query.{Query}
 use Rattle.scasp_syntax.specs.declared.predicate_map.PredMap.{PredMap}
 use Rattle.scasp_syntax.specs.declared.program.Program.{Program}
 use Rattle.scasp_cert.specs.Certificate.{Certificate}
-use Rattle.scasp_checker.specs.Accepted.{Accepts}
 use Rattle.scasp_sound.specs.MapLevels.{covered}
-use Rattle.scasp_checker.proofs.Soundness.{accepted-good_right}
+use Rattle.scasp_soundness.proofs.PromiseLemmas.{keeps-promise}
 use Rattle.scasp_graph.specs.Map.{MapHolds, map_faults, is_positive_item, is_positive_rule}
 use Rattle.scasp_graph.proofs.MapLemmas.{empty_map_holds}
 use Rattle.scasp_program.specs.Propositional.{has_plain_head, is_plain_call, are_plain_calls, has_no_argument, is_propositional_rule, is_propositional_query, are_propositional, is_run_today}
@@ -21,7 +20,8 @@ use Rattle.scasp_list.proofs.MemberLemmas.{list_all-from, list_all-member}
 use Rattle.scasp_written.specs.Machine.{Outcome, answered, ended, spent, overflowed}
 use Rattle.scasp_top.specs.Runs.{Meets, IsRight, AnswersRightly, AnswersAreRight}
 use Rattle.scasp_top.specs.declared.program_run.TheConstants.{BUDGET}
-use Rattle.scasp_top.proofs.PropositionalAnswers.{answers-accepted, answers-without_map}
+use Rattle.scasp_top.proofs.PositiveLines.{ShowsQuery, shown-accepted, shown-normal}
+use Rattle.scasp_top.proofs.PropositionalAnswers.{answers-shown}
 
 -- a propositional rule is a rule without `not`
 plain-call : (item : Item) → is_plain_call item ≡ true → is_positive_item item ≡ true
@@ -48,18 +48,17 @@ propositional-map p e =
     let q = and_parts (list_all is_propositional_rule p.clauses) (list_all is_propositional_query p.queries) e in
     (empty_map_holds p).1 (list_all-from is_positive_rule p.clauses (λ c i. propositional-positive c (list_all-member is_propositional_rule p.clauses c q.0 i)))
 
-accepted-right : (p : Program) (c : Certificate) → MapHolds p [] [] → Accepts p c → c.map ≡ [] → IsRight p c
-accepted-right p c kept accepted without =
-    let none : covered c ≡ [] = ap (map (λ k. k.0)) accepted.no_check in
-    let holds : MapHolds p (covered c) c.map = ap (λ ns. map_faults p ns c.map) none ∙ ap (λ (ms : List PredMap). map_faults p [] ms) without ∙ kept in
-    record { accepted = accepted; map = holds; good = accepted-good_right p c accepted holds }
+shown-right : (p : Program) (c : Certificate) → MapHolds p [] [] → ShowsQuery p c → IsRight p c
+shown-right p c kept shown =
+    let none : covered c ≡ [] = ap (map (λ k. k.0)) shown.no_check in
+    let holds : MapHolds p (covered c) c.map = ap (λ ns. map_faults p ns c.map) none ∙ ap (λ (ms : List PredMap). map_faults p [] ms) shown.no_map ∙ kept in
+    let accepted = shown-accepted p c shown in
+    record { accepted = accepted; map = holds; good = (keeps-promise true p c (shown-normal p c shown) accepted).right holds }
 
 event-right : (p : Program) (query : Query) (event : Outcome Certificate) → IsTrue (are_propositional p.clauses p.queries)
     → numbered p.queries 1 ≡ Some query → Meets p.clauses 1 query event → AnswersRightly p event
 event-right p query (answered c) plain named meets =
-    accepted-right p c (propositional-map p plain)
-    (answers-accepted p plain 1 query named BUDGET meets.0 meets.1 c meets.2)
-    (answers-without_map p plain 1 query named BUDGET meets.0 meets.1 c meets.2)
+    shown-right p c (propositional-map p plain) (answers-shown p plain 1 query named BUDGET meets.0 meets.1 c meets.2)
 event-right p query ended plain named meets = tt
 event-right p query spent plain named meets = tt
 event-right p query overflowed plain named meets = tt

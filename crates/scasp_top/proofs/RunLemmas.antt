@@ -1,4 +1,4 @@
-use Rattle.std.proofs.Common.{◌≡◌, ◌∙◌, ◌⊎◌, inl, inr, ℕ, ◌<◌, true, false, Option, None, Some, IfSome, IsSome, List, ◌++◌, length, refl, ap, sym, subst, Result, Ok, Err, IfOk, MatchOption}
+use Rattle.std.proofs.Common.{◌≡◌, ◌∙◌, inl, inr, ℕ, ◌<◌, true, false, Option, None, Some, IfSome, IsSome, List, ◌++◌, length, refl, ap, sym, subst, Result, Ok, Err, IfOk, MatchOption}
 use Rattle.std.proofs.lemmas.Bool.{lt-ltb}
 use Rattle.scasp_name.specs.Texts.{list_names}
 use Rattle.scasp_phrase.specs.Faults.{fault_at}

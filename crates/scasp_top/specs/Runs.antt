@@ -6,10 +6,10 @@ use Rattle.scasp_syntax.specs.declared.clause.Query.{Query}
 use Rattle.scasp_syntax.specs.declared.program.Program.{Program}
 use Rattle.scasp_cert.specs.Certificate.{Certificate}
 use Rattle.scasp_cert.specs.States.{State}
-use Rattle.scasp_checker.specs.Accepted.{Accepts}
+use Rattle.scasp_acceptance.specs.Accepted.{Accepts}
 use Rattle.scasp_sound.specs.MapLevels.{covered}
 use Rattle.scasp_graph.specs.Map.{MapHolds}
-use Rattle.scasp_sound.specs.Good.{GoodRight}
+use Rattle.scasp_soundness.specs.Good.{GoodRight}
 use Rattle.scasp_written.specs.Machine.{Outcome, answered, ended, spent, overflowed, Finds}
 use Rattle.scasp_written.specs.Run.{search_for, start}
 use Rattle.scasp_top.specs.Texts.{header_line, query_text, status_of}

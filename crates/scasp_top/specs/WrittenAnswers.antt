@@ -5,7 +5,7 @@ use Rattle.scasp_syntax.specs.declared.clause.Query.{Query}
 use Rattle.scasp_syntax.specs.declared.program.Program.{Program}
 use Rattle.scasp_cert.specs.Certificate.{Certificate}
 use Rattle.scasp_cert.specs.States.{State}
-use Rattle.scasp_checker.specs.Accepted.{Accepts}
+use Rattle.scasp_acceptance.specs.Accepted.{Accepts}
 use Rattle.scasp_program.specs.Propositional.{are_propositional}
 use Rattle.scasp_written.specs.Machine.{answered, Finds}
 use Rattle.scasp_written.specs.Run.{search_for, start}

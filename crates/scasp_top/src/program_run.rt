@@ -10,10 +10,10 @@ ghost use Rattle.scasp_top.specs.Runs.{RunsProgram, RunsRightly, IsRight, Answer
 use crate::output::{Output, one_line};
 use crate::status::Status;
 use scasp_cert::Cert;
-use scasp_checker::{CheckErr, Verdict, check};
 use scasp_name::{Memory, Names};
 use scasp_print::print_cert;
 use scasp_syntax::Program;
+use scasp_verdict::{CheckErr, Verdict, check};
 use scasp_written::{Event, Written};
 use std::alloc::Global;
 

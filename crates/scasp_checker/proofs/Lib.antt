@@ -1,9 +1,0 @@
-pub mod Calls
-pub mod ClosedDomains
-pub mod Counting
-pub mod FaultLemmas
-pub mod FoundedLines
-pub mod GroundTerms
-pub mod Judging
-pub mod Soundness
-pub mod VerdictLemmas

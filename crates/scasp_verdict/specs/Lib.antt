@@ -1,0 +1,2 @@
+pub mod DefaultOverVariable
+pub mod Verdicts
