@@ -1,0 +1,4 @@
+-- Words for contracts of private functions.
+pub mod Apart
+pub mod Lists
+pub mod Values

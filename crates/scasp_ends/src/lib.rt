@@ -1,0 +1,11 @@
+//! The end of a branch of the written search: whether its literals are apart, and the sample of its answer.
+#![tactic(auto)]
+
+mod answers;
+mod differing;
+mod pairs;
+mod plain;
+mod sampling;
+
+pub use answers::answer_at;
+pub use sampling::sample;

@@ -1,0 +1,4 @@
+pub mod CountLemmas
+pub mod FirstLemmas
+pub mod MetLemmas
+pub mod StackLemmas

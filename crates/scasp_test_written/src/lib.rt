@@ -1,0 +1,17 @@
+//! Tests of the written search over the whole language.
+#![tactic(auto)]
+
+#[cfg(test)]
+mod birds;
+#[cfg(test)]
+mod denials;
+#[cfg(test)]
+mod loops;
+#[cfg(test)]
+mod numbers;
+#[cfg(test)]
+mod runs;
+#[cfg(test)]
+mod terms;
+#[cfg(test)]
+mod trials;

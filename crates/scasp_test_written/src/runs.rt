@@ -1,0 +1,78 @@
+//! Runs of a query, told as the blocks of its answers and the calls before each event.
+use scasp_cert::Cert;
+use scasp_name::Names;
+use scasp_print::print_cert;
+use scasp_program::read_program;
+use scasp_search::{Event, Written};
+use std::alloc::Global;
+use std::process::Abort;
+use std::test::Fail;
+
+/// An event: the block of an answer, the end, the end of the budget, an overflow.
+pub(crate) enum Told {
+    Block(&'static str),
+    Ended,
+    Spent,
+    Overflow,
+}
+
+/// A program's text, the number of a query, the budget, and the events with the calls before each.
+pub(crate) struct Run {
+    pub text: &'static str,
+    pub query: u64,
+    pub budget: u64,
+    pub events: &'static [(Told, u64)],
+}
+
+/// Whether the block of the certificate is this one.
+fn is_block(alloc: Global, names: &Names, cert: &Cert, told: &Told) -> Result<bool, Fail> {
+    match told {
+        Told::Block(text) => {
+            let block = print_cert(alloc, names, cert, 1)?;
+            Ok(block.as_slice() == text.as_bytes())
+        }
+        Told::Ended | Told::Spent | Told::Overflow => Ok(false),
+    }
+}
+
+/// Whether the event is this one.
+fn is_told(alloc: Global, names: &Names, event: &Event, told: &Told) -> Result<bool, Fail> {
+    match event {
+        Event::Answer(cert) => is_block(alloc, names, cert, told),
+        Event::Ended => Ok(matches!(told, Told::Ended)),
+        Event::Spent => Ok(matches!(told, Told::Spent)),
+        Event::Overflow => Ok(matches!(told, Told::Overflow)),
+    }
+}
+
+/// Each event is the one that is told, with the calls before it.
+fn check_events(
+    rt: &impl Abort,
+    alloc: Global,
+    names: &Names,
+    search: Written,
+    events: &[(Told, u64)],
+) -> Result<(), Fail> {
+    let mut search = search;
+    for (told, calls) in events {
+        let event = search.next()?;
+        assert!(rt; is_told(alloc, names, &event, told)?);
+        assert_eq!(rt; search.calls(), *calls);
+    }
+    Ok(())
+}
+
+/// Opens the search of the run, and checks its events. The names of samples are `w0` and `w1`.
+pub(crate) fn check(rt: &impl Abort, alloc: Global, run: &Run) -> Result<(), Fail> {
+    let (program, table) = read_program(alloc, run.text.as_bytes(), Names::new(alloc)?)?;
+    let mut names = table;
+    let fresh = names.len();
+    let _first = names.intern("w0")?;
+    let _second = names.intern("w1")?;
+    if program.query(run.query).is_none() {
+        assert!(rt; false);
+        return Ok(());
+    }
+    let search = Written::open(alloc, &program, run.query, run.budget, fresh)?;
+    check_events(rt, alloc, &names, search, run.events)
+}

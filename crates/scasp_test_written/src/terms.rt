@@ -1,0 +1,166 @@
+//! Given constraints, universal variables and samples.
+use crate::runs::{Run, Told, check};
+use std::test::Fail;
+
+static RUNS: [Run; 6] = [
+    Run {
+        text: "p(X) :- not q(X). q(a). ?- p(X).",
+        query: 1,
+        budget: 50,
+        events: &[
+            (
+                Told::Block(
+                    "answer 1.1 [V0]\ngiven V0 \\= a\nsample [w0]\ntree\n pos p(V0) rule 1 [V0]\n  neg q(V0)\n   rule 2\n    void terms\nmap p/1 1 +\nmap q/1 0 +\nend\n",
+                ),
+                2,
+            ),
+            (Told::Ended, 3),
+        ],
+    },
+    Run {
+        text: "p(X) :- X = f(X). ?- p(Y).",
+        query: 1,
+        budget: 50,
+        events: &[(Told::Ended, 1)],
+    },
+    Run {
+        text: "p :- q(X), not r(X). q(a). q(b). r(a). r(b). ?- not p.",
+        query: 1,
+        budget: 100,
+        events: &[(
+            Told::Block(
+                "answer 1.1 []
+sample []
+tree
+ neg p
+  rule 1
+   split V0 \\= a
+    split V0 \\= b
+     leaf 1
+      neg q(V0)
+       rule 2
+        void terms
+       rule 3
+        void terms
+     leaf 2
+      pos q(b) rule 3 []
+      pos r(b) rule 5 []
+    leaf 2
+     pos q(a) rule 2 []
+     pos r(a) rule 4 []
+map p/0 1 +
+map q/1 0 +
+map r/1 0 +
+end
+",
+            ),
+            13,
+        )],
+    },
+    // A listed term has a universal variable below a name.
+    Run {
+        text: "p :- not r(X). r(X) :- s(f(X)). s(Y). ?- not p.",
+        query: 1,
+        budget: 100,
+        events: &[(
+            Told::Block(
+                "answer 1.1 []
+sample []
+tree
+ neg p
+  rule 1
+   leaf 1
+    pos r(V0) rule 2 [V0]
+     pos s(f(V0)) rule 3 [f(V0)]
+map p/0 2 +
+map r/1 1 +
+map s/1 0 +
+end
+",
+            ),
+            4,
+        )],
+    },
+    // The variable has not the name, or has it with another argument; with the constant the fact holds.
+    Run {
+        text: "q(f(a)). p(X) :- not q(X). ?- p(X).",
+        query: 1,
+        budget: 100,
+        events: &[
+            (
+                Told::Block(
+                    "answer 1.1 [V0]
+given V0 \\= f/1
+sample [w0]
+tree
+ pos p(V0) rule 2 [V0]
+  neg q(V0)
+   rule 1
+    void terms
+map q/1 0 +
+map p/1 1 +
+end
+",
+                ),
+                2,
+            ),
+            (
+                Told::Block(
+                    "answer 1.1 [f(V0)]
+given V0 \\= a
+sample [w0]
+tree
+ pos p(f(V0)) rule 2 [f(V0)]
+  neg q(f(V0))
+   rule 1
+    void terms
+map q/1 0 +
+map p/1 1 +
+end
+",
+                ),
+                2,
+            ),
+            (Told::Ended, 3),
+        ],
+    },
+    // The value with which the first item holds is left for the second one.
+    Run {
+        text: "all :- not missing. missing :- node(X), not seen(X). node(a). seen(a). ?- all.",
+        query: 1,
+        budget: 100,
+        events: &[(
+            Told::Block(
+                "answer 1.1 []
+sample []
+tree
+ pos all rule 1 []
+  neg missing
+   rule 2
+    split V0 \\= a
+     leaf 1
+      neg node(V0)
+       rule 3
+        void terms
+     leaf 2
+      pos node(a) rule 3 []
+      pos seen(a) rule 4 []
+map all/0 2 +
+map missing/0 1 +
+map node/1 0 +
+map seen/1 0 +
+end
+",
+            ),
+            9,
+        )],
+    },
+];
+
+#[test]
+fn terms_are_met(rt: HostRuntime) -> Result<(), Fail> {
+    for run in &RUNS {
+        check(&rt, rt.alloc(), run)?;
+    }
+    Ok(())
+}
