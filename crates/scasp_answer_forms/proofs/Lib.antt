@@ -1,0 +1,3 @@
+mod ConLemmas
+mod FitLemmas
+mod LineLemmas

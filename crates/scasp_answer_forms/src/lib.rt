@@ -1,0 +1,15 @@
+//! The forms of lines of an answer file, read from their bytes.
+#![tactic(auto)]
+
+mod bounds;
+mod constraints;
+mod edges;
+mod line;
+mod lines;
+mod nodes;
+mod predicates;
+mod reasons;
+
+pub use bounds::fits;
+pub use line::{End, Line};
+pub use lines::line_in;

@@ -1,0 +1,37 @@
+//! Lines, from their bytes.
+ghost use Rattle.std.specs.Prelude.{◌≡◌};
+ghost use Rattle.scasp_phrase.specs.Names.{place_in};
+ghost use Rattle.scasp_answer_lines.specs.Forms as spec;
+ghost use Rattle.scasp_answer_lines.specs.View.{Reads};
+ghost use Rattle.scasp_answer_forms.specs.View.{line_of, Finds};
+
+use crate::edges::any_line;
+use crate::line::Line;
+use scasp_answer_lines::{Cursor, Stop, Token};
+use scasp_name::Names;
+use std::alloc::Global;
+
+/// Takes a line.
+#[tactic(auto, unfolding(scasp_answer_lines::specs::Forms::line_at))]
+fn line(alloc: Global, cursor: &mut Cursor<'_>, names: &Names) -> Result<Line, Stop>
+    ensures { Reads line_of (spec.line_at (place_in names.now) cursor.old) result cursor.new }
+{
+    let Some(Token::Word(word)) = cursor.next() else {
+        return Err(Stop::NoForm);
+    };
+    cursor.take();
+    any_line(alloc, word, cursor, names)
+}
+
+/// The line that these bytes are, blanks aside, if they are one.
+#[tactic(auto, unfolding(scasp_answer_lines::specs::Forms::line_in))]
+pub fn line_in(alloc: Global, bytes: &[u8], names: &Names) -> Result<Line, Stop>
+    ensures { Finds (spec.line_in (place_in names.now) bytes.now) result }
+{
+    let mut cursor = Cursor::new(bytes);
+    let line = line(alloc, &mut cursor, names)?;
+    if cursor.next().is_some() {
+        return Err(Stop::NoForm);
+    }
+    Ok(line)
+}

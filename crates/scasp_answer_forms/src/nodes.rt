@@ -1,0 +1,110 @@
+//! Lines of trees.
+ghost use Rattle.std.specs.Prelude.{◌≡◌, ◌++◌};
+ghost use Rattle.scasp_phrase.specs.Names.{place_in};
+ghost use Rattle.scasp_answer_lines.specs.Forms as spec;
+ghost use Rattle.scasp_answer_lines.specs.Hints.{hint_at};
+ghost use Rattle.scasp_answer_lines.specs.Lines as lines;
+ghost use Rattle.scasp_answer_lines.specs.Readers.{made, behind_word};
+ghost use Rattle.scasp_answer_lines.specs.Terms.{atom_at};
+ghost use Rattle.scasp_answer_lines.specs.View.{Reads};
+ghost use Rattle.scasp_answer_forms.specs.View.{line_of};
+
+use crate::edges::{spaced_con, spaced_number};
+use crate::line::Line;
+use scasp_answer_lines::{Cursor, Stop};
+use scasp_answer_rows::hint;
+use scasp_answer_terms::{atom, list, literal};
+use scasp_name::Names;
+use scasp_syntax::{Hint, Lit};
+use std::alloc::Global;
+
+/// Takes what stands behind `pos`.
+fn pos(alloc: Global, cursor: &mut Cursor<'_>, names: &Names) -> Result<Line, Stop>
+    ensures { Reads line_of (made (λ r. lines.pos_line r.0 r.1.0 r.1.1) (spec.spaced_at (spec.pos_at (place_in names.now)) cursor.old)) result cursor.new }
+{
+    cursor.expect(b" ")?;
+    let atom = atom(alloc, cursor, names)?;
+    cursor.expect(b" rule ")?;
+    let rule = cursor.number()?;
+    cursor.expect(b" ")?;
+    let terms = list(alloc, cursor, names)?;
+    Ok(Line::Pos(atom, rule, terms))
+}
+
+/// Takes what stands behind `neg`.
+fn neg(alloc: Global, cursor: &mut Cursor<'_>, names: &Names) -> Result<Line, Stop>
+    ensures { Reads line_of (made lines.neg_line (spec.spaced_at (atom_at (place_in names.now)) cursor.old)) result cursor.new }
+{
+    cursor.expect(b" ")?;
+    let atom = atom(alloc, cursor, names)?;
+    Ok(Line::Neg(atom))
+}
+
+/// Takes a literal, and the line that it repeats.
+fn repeat(alloc: Global, cursor: &mut Cursor<'_>, names: &Names) -> Result<(Lit, u128), Stop>
+    ensures { Reads (λ r. r) (spec.spaced_at (spec.repeat_at (place_in names.now)) cursor.old) result cursor.new }
+{
+    cursor.expect(b" ")?;
+    let lit = literal(alloc, cursor, names)?;
+    cursor.expect(b" at ")?;
+    let at = cursor.number()?;
+    Ok((lit, at))
+}
+
+/// Takes what stands behind `test`.
+fn test(alloc: Global, cursor: &mut Cursor<'_>, names: &Names) -> Result<Line, Stop>
+    ensures { Reads line_of (made (λ r. lines.test_line r.0 r.1) (spec.spaced_at (spec.test_at (place_in names.now)) cursor.old)) result cursor.new }
+{
+    let con = spaced_con(alloc, cursor, names)?;
+    let hint = spaced_hint(alloc, cursor)?;
+    Ok(Line::Test(con, hint))
+}
+
+/// Takes a blank and a hint.
+fn spaced_hint(alloc: Global, cursor: &mut Cursor<'_>) -> Result<Hint, Stop>
+    ensures { Reads (λ h. h) (spec.spaced_at hint_at cursor.old) result cursor.new }
+{
+    cursor.expect(b" ")?;
+    hint(alloc, cursor)
+}
+
+/// Takes the rest of a line with this first word, which is that of a node, a rule or a case.
+pub fn node(alloc: Global, word: &str, cursor: &mut Cursor<'_>, names: &Names) -> Result<Line, Stop>
+    ensures { let place = place_in names.now in
+        Reads line_of (behind_word (spec.node_forms place ++ spec.case_forms place) word.now cursor.old) result cursor.new }
+{
+    if word == "pos" {
+        pos(alloc, cursor, names)
+    } else if word == "neg" {
+        neg(alloc, cursor, names)
+    } else if word == "loop" {
+        let (lit, at) = repeat(alloc, cursor, names)?;
+        Ok(Line::Loop(lit, at))
+    } else if word == "seen" {
+        let (lit, at) = repeat(alloc, cursor, names)?;
+        Ok(Line::Seen(lit, at))
+    } else if word == "test" {
+        test(alloc, cursor, names)
+    } else {
+        case(alloc, word, cursor, names)
+    }
+}
+
+/// The same of a line of a rule or a case.
+fn case(alloc: Global, word: &str, cursor: &mut Cursor<'_>, names: &Names) -> Result<Line, Stop>
+    ensures { Reads line_of (behind_word (spec.case_forms (place_in names.now)) word.now cursor.old) result cursor.new }
+{
+    if word == "rule" {
+        Ok(Line::Rule(spaced_number(cursor)?))
+    } else if word == "split" {
+        Ok(Line::Split(spaced_con(alloc, cursor, names)?))
+    } else if word == "void" {
+        Ok(Line::Void(spaced_hint(alloc, cursor)?))
+    } else if word == "leaf" {
+        Ok(Line::Leaf(spaced_number(cursor)?))
+    } else if word == "head" {
+        Ok(Line::Head)
+    } else {
+        Err(Stop::NoForm)
+    }
+}
