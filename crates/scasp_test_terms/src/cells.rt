@@ -83,25 +83,29 @@ const ROWS: [Row; 4] = [
     },
 ];
 
+fn take(rt: &impl Abort, cells: &mut Cells<u64>, steps: &[(Step, Option<u64>)]) {
+    for (step, want) in steps {
+        assert_eq!(rt; answer(rt, cells, *step), *want);
+    }
+}
+
+fn hold(rt: &impl Abort, cells: &Cells<u64>, items: &[u64]) {
+    assert_eq!(rt; cells.len(), items.len() as u64);
+    assert_eq!(rt; cells.is_empty(), items.is_empty());
+    for (at, item) in items.iter().enumerate() {
+        let at = at as u64;
+        assert!(rt; at < cells.len());
+        assert_eq!(rt; *cells.get(at), *item);
+    }
+}
+
 #[test]
 fn rows(rt: HostRuntime) {
-    for (number, row) in ROWS.iter().enumerate() {
+    for row in &ROWS {
         let mut cells = Cells::new(rt.alloc());
-        for (step, want) in row.steps {
-            assert_eq!(rt;
-                answer(&rt, &mut cells, *step),
-                *want,
-                "{step:?} of row {number}"
-            );
-        }
-        assert_eq!(rt; cells.len(), row.items.len() as u64, "row {number}");
-        assert_eq!(rt; cells.is_empty(), row.items.is_empty(), "row {number}");
-        for (at, item) in row.items.iter().enumerate() {
-            let at = at as u64;
-            assert!(rt; at < cells.len());
-            assert_eq!(rt; *cells.get(at), *item, "row {number}");
-        }
-        assert!(rt; row.least_spare <= cells.spare(), "row {number}");
+        take(&rt, &mut cells, row.steps);
+        hold(&rt, &cells, row.items);
+        assert!(rt; row.least_spare <= cells.spare());
     }
 }
 
@@ -119,28 +123,42 @@ impl Drop for Noted {
     }
 }
 
-#[test]
-fn drops(rt: HostRuntime) -> Result<(), Fail> {
-    let log = Rc::new(rt.alloc(), Cell::new(0))?;
-    let mut cells = Cells::new(rt.alloc());
+fn with_number(number: u64, log: &Rc<Cell<u64>>) -> Result<Noted, Fail> {
+    Ok(Noted {
+        number,
+        log: log.clone()?,
+    })
+}
+
+fn push_five(rt: &impl Abort, cells: &mut Cells<Noted>, log: &Rc<Cell<u64>>) -> Result<(), Fail> {
     for number in 1..6 {
-        let item = Noted {
-            number,
-            log: log.clone()?,
-        };
         assert!(rt; cells.len() < 9);
+        let item = with_number(number, log)?;
         assert!(rt; cells.push(item).is_ok());
     }
+    Ok(())
+}
+
+fn replace_first(
+    rt: &impl Abort,
+    cells: &mut Cells<Noted>,
+    log: &Rc<Cell<u64>>,
+) -> Result<(), Fail> {
     assert!(rt; 3 <= cells.len());
     cells.rewind(3);
     assert_eq!(rt; log.get(), 54);
     assert!(rt; 1 <= cells.len());
-    let item = Noted {
-        number: 6,
-        log: log.clone()?,
-    };
-    let _ = cells.set(0, item);
+    let _ = cells.set(0, with_number(6, log)?);
     assert_eq!(rt; log.get(), 541);
+    Ok(())
+}
+
+#[test]
+fn drops(rt: HostRuntime) -> Result<(), Fail> {
+    let log = Rc::new(rt.alloc(), Cell::new(0))?;
+    let mut cells = Cells::new(rt.alloc());
+    push_five(&rt, &mut cells, &log)?;
+    replace_first(&rt, &mut cells, &log)?;
     drop(cells);
     assert_eq!(rt; log.get(), 541326);
     Ok(())

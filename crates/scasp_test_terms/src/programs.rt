@@ -7,8 +7,8 @@ ghost use Rattle.scasp_syntax.specs.WellFormed.{is_clause_well_formed};
 use scasp_name::{Memory, NameId};
 use scasp_num::{Op, Rat, RatPair, RatPairs, Row};
 use scasp_syntax::{
-    Atom, Clause, Con, DeepCopy, FlatItem, Hint, Item, Lin, Lit, PredMap, Program, Sequence, Term,
-    Terms, flat,
+    Atom, Clause, Con, DeepCopy, FlatItem, FlatItems, Hint, Item, Items, Lin, Lit, PredMap,
+    Program, Sequence, Term, Terms, flat,
 };
 use std::alloc::Global;
 use std::test::Fail;
@@ -44,82 +44,141 @@ fn rule(alloc: Global) -> Result<Clause, Memory>
     })
 }
 
-#[test]
-fn programs_are_copied(rt: HostRuntime) -> Result<(), Fail> {
-    let alloc = rt.alloc();
+/// The program of this rule alone.
+fn program(alloc: Global) -> Result<Program, Memory> {
     let mut clauses = Sequence::new(alloc);
     clauses.push(rule(alloc)?)?;
-    let program = Program {
+    Ok(Program {
         clauses,
         queries: Sequence::new(alloc),
-    };
-    let copied = program.copy(alloc)?;
+    })
+}
+
+fn copied_program(alloc: Global) -> Result<Program, Memory> {
+    let program = program(alloc)?;
+    program.copy(alloc)
+}
+
+#[test]
+fn programs_are_copied(rt: HostRuntime) -> Result<(), Fail> {
+    let copied = copied_program(rt.alloc())?;
     assert!(rt; copied.clause(0).is_none());
     assert!(rt; copied.clause(2).is_none());
     assert!(rt; copied.query(1).is_none());
-    let clause = copied.clause(1).ok_or("a clause")?;
-    let head = clause.head.as_ref().ok_or("a head")?;
-    assert_eq!(rt; head.pred().arity, 1);
-    assert!(rt; head.pred().minus);
-    assert_eq!(rt; clause.body.len(), 1);
+    Ok(())
+}
+
+/// How many arguments the head has, whether it has `-`, and how many items the body has; none where there is no head.
+fn told(clause: &Clause) -> Option<(u64, bool, usize)> {
+    let pred = clause.head.as_ref()?.pred();
+    Some((pred.arity, pred.minus, clause.body.len()))
+}
+
+#[test]
+fn rules_are_copied(rt: HostRuntime) -> Result<(), Fail> {
+    let copied = copied_program(rt.alloc())?;
+    assert!(rt; copied.clause(1).and_then(told) == Some((1, true, 1)));
+    Ok(())
+}
+
+fn entry(alloc: Global) -> Result<PredMap, Memory> {
+    let pred = literal(alloc, true)?.atom.pred();
+    Ok(PredMap {
+        pred,
+        level: 4,
+        plus: true,
+    })
+}
+
+#[test]
+fn maps_are_copied(rt: HostRuntime) -> Result<(), Fail> {
+    let alloc = rt.alloc();
+    let entry = entry(alloc)?;
+    let mut map = Sequence::new(alloc);
+    map.push(entry)?;
+    assert_eq!(rt; map.copy(alloc)?.as_slice(), [entry].as_slice());
     Ok(())
 }
 
 #[test]
-fn other_values_are_copied(rt: HostRuntime) -> Result<(), Fail> {
+fn tests_are_copied(rt: HostRuntime) -> Result<(), Fail> {
     let alloc = rt.alloc();
-    let mut map = Sequence::new(alloc);
-    let pred = literal(alloc, true)?.atom.pred();
-    map.push(PredMap {
-        pred,
-        level: 4,
-        plus: true,
-    })?;
-    let copied = map.copy(alloc)?;
-    assert_eq!(rt; copied.get(0).copied(), map.get(0).copied());
     let test = FlatItem::Test(Con::Num(Term::Var(0)));
     assert!(rt; matches!(&test.copy(alloc)?, FlatItem::Test(Con::Num(_))));
-    assert!(rt; matches!(&Hint::Terms.copy(alloc)?, Hint::Terms));
     Ok(())
 }
 
-/// The item `V0 #> 10`, written with V0 and V1, whose row is `-V0+10 #< 0`.
-fn above_ten(alloc: Global) -> Result<Item, Fail> {
+#[test]
+fn hints_are_copied(rt: HostRuntime) -> Result<(), Fail> {
+    assert!(rt; matches!(&Hint::Terms.copy(rt.alloc())?, Hint::Terms));
+    Ok(())
+}
+
+/// The row `-V0+10 #< 0`.
+fn row(alloc: Global) -> Result<Row, Fail> {
     let mut pairs = RatPairs::new(alloc);
     pairs.push(RatPair {
         x: 0,
         value: Rat::new(-1, 1)?,
     })?;
+    Ok(Row::normal(alloc, &pairs, &Rat::new(10, 1)?, Op::Lt)?)
+}
+
+/// V0 and V1.
+fn variables(alloc: Global) -> Result<Sequence<u64>, Memory> {
     let mut vars = Sequence::new(alloc);
     vars.push(0u64)?;
     vars.push(1u64)?;
+    Ok(vars)
+}
+
+/// The item `V0 #> 10`, written with V0 and V1.
+fn above_ten(alloc: Global) -> Result<Item, Fail> {
+    let vars = variables(alloc)?;
     Ok(Item::Linear(Lin {
         vars,
-        row: Row::normal(alloc, &pairs, &Rat::new(10, 1)?, Op::Lt)?,
+        row: row(alloc)?,
     }))
 }
 
-#[test]
-fn bodies_are_made_flat(rt: HostRuntime) -> Result<(), Fail> {
-    let alloc = rt.alloc();
-    let mut body = Sequence::new(alloc);
+fn push_items(alloc: Global, body: &mut Items) -> Result<(), Fail> {
     body.push(Item::Call(literal(alloc, true)?))?;
     body.push(above_ten(alloc)?)?;
     body.push(Item::Equal(Term::Var(0), Term::Var(1)))?;
     body.push(above_ten(alloc)?)?;
+    Ok(())
+}
+
+fn flat_items(alloc: Global) -> Result<FlatItems, Fail> {
+    let mut body = Sequence::new(alloc);
+    push_items(alloc, &mut body)?;
     let clause = Clause {
         head: None,
         body,
         vars: 2,
     };
-    let items = flat(alloc, &clause)?;
-    let items = items.as_slice();
+    Ok(flat(alloc, &clause)?)
+}
+
+/// What an item is, in a word.
+fn kind(item: &FlatItem) -> &'static str {
+    match item {
+        FlatItem::Call(_) => "call",
+        FlatItem::Test(Con::Num(Term::Var(0))) => "num(V0)",
+        FlatItem::Test(Con::Num(Term::Var(1))) => "num(V1)",
+        FlatItem::Test(Con::Row(_)) => "row",
+        FlatItem::Test(Con::Eq(..)) => "equation",
+        FlatItem::Test(_) => "other",
+    }
+}
+
+#[test]
+fn bodies_are_made_flat(rt: HostRuntime) -> Result<(), Fail> {
+    let items = flat_items(rt.alloc())?;
     assert_eq!(rt; items.len(), 6);
-    assert!(rt; matches!(&items[0], FlatItem::Call(_)));
-    assert!(rt; matches!(&items[1], FlatItem::Test(Con::Num(Term::Var(0)))));
-    assert!(rt; matches!(&items[2], FlatItem::Test(Con::Num(Term::Var(1)))));
-    assert!(rt; matches!(&items[3], FlatItem::Test(Con::Row(_))));
-    assert!(rt; matches!(&items[4], FlatItem::Test(Con::Eq(..))));
-    assert!(rt; matches!(&items[5], FlatItem::Test(Con::Row(_))));
+    let wanted = ["call", "num(V0)", "num(V1)", "row", "equation", "row"];
+    for (item, word) in items.as_slice().iter().zip(wanted) {
+        assert!(rt; kind(item) == word);
+    }
     Ok(())
 }

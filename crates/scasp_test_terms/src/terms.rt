@@ -21,16 +21,39 @@ fn application(alloc: Global, name: u64, arg: Term) -> Result<Term, Memory>
     Ok(Term::App(NameId::new(name), args))
 }
 
+/// The term with this variable.
+fn of_variable(alloc: Global, x: u64) -> Result<Term, Memory>
+    ensures { IfOk result (λ term. tm_of term ≡ app 2 (cons (tm_of (Term.Var x)) nil)) }
+{
+    application(alloc, 2, Term::Var(x))
+}
+
+fn is_copied(alloc: Global, x: u64) -> Result<bool, Memory> {
+    let term = of_variable(alloc, x)?;
+    same(alloc, &copy(alloc, &term)?, &term)
+}
+
+fn are_same(alloc: Global, x: u64, y: u64) -> Result<bool, Memory> {
+    let term = of_variable(alloc, x)?;
+    same(alloc, &term, &of_variable(alloc, y)?)
+}
+
+/// Whether the term with one variable, raised, is that with the other.
+fn is_raised_to(alloc: Global, x: u64, by: u64) -> Result<bool, Memory>
+    requires { x + by + 1 < 2 ^ 64 }
+{
+    let term = of_variable(alloc, x)?;
+    let raised = rename(alloc, &term, by)?;
+    same(alloc, &raised, &of_variable(alloc, x + by)?)
+}
+
 fn test_term(rt: &impl Abort, alloc: Global, x: u64, by: u64) -> Result<(), Memory>
     requires { x + by + 1 < 2 ^ 64 }
 {
-    let term = application(alloc, 2, Term::Var(x))?;
-    assert!(rt; same(alloc, &copy(alloc, &term)?, &term)?);
-    assert_eq!(rt; size(alloc, &term)?, 2);
-    let other = application(alloc, 2, Term::Var(x + 1))?;
-    assert!(rt; !same(alloc, &term, &other)?);
-    let raised = application(alloc, 2, Term::Var(x + by))?;
-    assert!(rt; same(alloc, &rename(alloc, &term, by)?, &raised)?);
+    assert!(rt; is_copied(alloc, x)?);
+    assert_eq!(rt; size(alloc, &of_variable(alloc, x)?)?, 2);
+    assert!(rt; !are_same(alloc, x, x + 1)?);
+    assert!(rt; is_raised_to(alloc, x, by)?);
     Ok(())
 }
 
@@ -42,24 +65,35 @@ fn terms_are_copied_renamed_counted_and_compared(rt: HostRuntime) -> Result<(), 
     Ok(())
 }
 
-/// The term under this many names.
-fn nested(alloc: Global, depth: u64, inner: Term) -> Result<Term, Memory> {
+/// The term under 10,000 names.
+fn nested(alloc: Global, inner: Term) -> Result<Term, Memory> {
     let mut term = inner;
-    for _level in 0..depth {
+    for _level in 0..10_000 {
         term = application(alloc, 2, term)?;
     }
     Ok(term)
 }
 
 #[test]
-fn deep_terms_are_compared_and_counted(rt: HostRuntime) -> Result<(), Fail> {
+fn deep_terms_are_compared(rt: HostRuntime) -> Result<(), Fail> {
     let alloc = rt.alloc();
-    let open = nested(alloc, 10_000, Term::Var(0))?;
-    let other = nested(alloc, 10_000, Term::Var(1))?;
-    let closed = nested(alloc, 10_000, Term::Num(Rat::new(1, 2)?))?;
+    let open = nested(alloc, Term::Var(0))?;
     assert!(rt; same(alloc, &open, &open)?);
-    assert!(rt; !same(alloc, &open, &other)?);
-    assert!(rt; !is_ground(alloc, &open)?);
+    assert!(rt; !same(alloc, &open, &nested(alloc, Term::Var(1))?)?);
+    Ok(())
+}
+
+#[test]
+fn deep_terms_are_open(rt: HostRuntime) -> Result<(), Fail> {
+    let open = nested(rt.alloc(), Term::Var(0))?;
+    assert!(rt; !is_ground(rt.alloc(), &open)?);
+    Ok(())
+}
+
+#[test]
+fn deep_terms_are_counted(rt: HostRuntime) -> Result<(), Fail> {
+    let alloc = rt.alloc();
+    let closed = nested(alloc, Term::Num(Rat::new(1, 2)?))?;
     assert!(rt; is_ground(alloc, &closed)?);
     assert_eq!(rt; size(alloc, &closed)?, 10_001);
     Ok(())
@@ -84,22 +118,37 @@ fn literal(alloc: Global, positive: bool) -> Result<Lit, Memory> {
 fn literals_are_copied_and_compared(rt: HostRuntime) -> Result<(), Fail> {
     let alloc = rt.alloc();
     let positive = literal(alloc, true)?;
-    let negative = literal(alloc, false)?;
     assert!(rt; same_lit(alloc, &positive, &positive.copy(alloc)?)?);
-    assert!(rt; !same_lit(alloc, &positive, &negative)?);
+    assert!(rt; !same_lit(alloc, &positive, &literal(alloc, false)?)?);
     Ok(())
+}
+
+/// The atom `-p(V0)`.
+fn open(alloc: Global) -> Result<Atom, Memory> {
+    Ok(literal(alloc, true)?.atom)
+}
+
+/// The atom `-p(7/2)`.
+fn closed(alloc: Global) -> Result<Atom, Fail> {
+    let mut values = Terms::new(alloc);
+    values.push(Term::Num(Rat::new(7, 2)?))?;
+    Ok(instance_atom(alloc, &open(alloc)?, &values)?)
 }
 
 #[test]
 fn atoms_are_instantiated(rt: HostRuntime) -> Result<(), Fail> {
     let alloc = rt.alloc();
-    let open = literal(alloc, true)?.atom;
-    let mut values = Terms::new(alloc);
-    values.push(Term::Num(Rat::new(7, 2)?))?;
-    let closed = instance_atom(alloc, &open, &values)?;
-    assert!(rt; !are_ground(alloc, &open.args)?);
+    let closed = closed(alloc)?;
     assert!(rt; are_ground(alloc, &closed.args)?);
-    assert!(rt; !same_atom(alloc, &open, &closed)?);
+    assert!(rt; !same_atom(alloc, &open(alloc)?, &closed)?);
+    Ok(())
+}
+
+#[test]
+fn atoms_stay_without_values(rt: HostRuntime) -> Result<(), Fail> {
+    let alloc = rt.alloc();
+    let open = open(alloc)?;
+    assert!(rt; !are_ground(alloc, &open.args)?);
     let unchanged = instance_atom(alloc, &open, &Terms::new(alloc))?;
     assert!(rt; same_atom(alloc, &open, &unchanged)?);
     Ok(())

@@ -2,9 +2,8 @@
 use scasp_name::{Memory, NameId};
 use scasp_num::{Coeff, Op, Rat, RatPair, RatPairs, Row};
 use scasp_syntax::{Con, Term, Terms};
-use scasp_unify::{fails_by_terms, resolved_row, resolved_sides, resolver_of};
+use scasp_unify::{Resolver, fails_by_terms, resolved_row, resolved_sides, resolver_of};
 use std::alloc::Global;
-use std::process::Abort;
 use std::test::Fail;
 
 /// The name under these terms.
@@ -22,83 +21,99 @@ fn constant(alloc: Global) -> Result<Term, Memory> {
     application(alloc, 2, [None, None])
 }
 
-/// Whether the list of the equation and the other constraint unifies, and whether it fails.
+/// Whether the constraints unify, and whether they fail.
+fn answer(alloc: Global, constraints: &[Con]) -> Result<(bool, bool), Memory> {
+    let resolver = resolver_of(alloc, constraints)?;
+    let unifies = resolver.unifies;
+    Ok((unifies, fails_by_terms(alloc, constraints, &resolver)?))
+}
+
+/// The answer of the equation and the other constraint.
 fn tried(alloc: Global, left: Term, right: Term, other: Con) -> Result<(bool, bool), Memory> {
     let mut constraints = Vec::new(alloc);
     constraints.push(Con::Eq(left, right))?;
     constraints.push(other)?;
-    let resolver = resolver_of(alloc, constraints.as_slice())?;
-    let unifies = resolver.unifies;
-    let fails = fails_by_terms(alloc, constraints.as_slice(), &resolver)?;
-    Ok((unifies, fails))
+    answer(alloc, constraints.as_slice())
 }
 
-fn test_lists(rt: &impl Abort, alloc: Global) -> Result<(), Memory> {
-    // f(V0, V1) = f(V1, a), V0 \= a
+/// f(V0, V1) = f(V1, a), V0 \= a
+fn below_a_name(alloc: Global) -> Result<(bool, bool), Memory> {
     let left = application(alloc, 3, [Some(Term::Var(0)), Some(Term::Var(1))])?;
     let right = application(alloc, 3, [Some(Term::Var(1)), Some(constant(alloc)?)])?;
     let same = Con::Neq(Term::Var(0), constant(alloc)?);
-    assert!(rt; tried(alloc, left, right, same)? == (true, true));
-    // V0 = f(V0)
+    tried(alloc, left, right, same)
+}
+
+/// V0 = f(V0)
+fn inside(alloc: Global) -> Result<(bool, bool), Memory> {
     let inside = application(alloc, 3, [Some(Term::Var(0)), None])?;
-    assert!(rt; tried(alloc, Term::Var(0), inside, Con::Num(Term::Var(1)))? == (false, true));
-    // a = V0, not num(V0)
-    assert!(rt;
-        tried(
-            alloc,
-            constant(alloc)?,
-            Term::Var(0),
-            Con::NotNum(Term::Var(0))
-        )? == (true, false)
-    );
-    // V0 = V1, num(V0), where V1 is no number
-    assert!(rt;
-        tried(
-            alloc,
-            Term::Var(0),
-            Term::Var(1),
-            Con::NotShape(1, NameId::new(2), 0)
-        )? == (true, false)
-    );
-    Ok(())
+    tried(alloc, Term::Var(0), inside, Con::Num(Term::Var(1)))
+}
+
+/// a = V0, not num(V0)
+fn of_a_name(alloc: Global) -> Result<(bool, bool), Memory> {
+    let name = constant(alloc)?;
+    tried(alloc, name, Term::Var(0), Con::NotNum(Term::Var(0)))
+}
+
+/// V0 = V1, where V1 is no constant
+fn of_variables(alloc: Global) -> Result<(bool, bool), Memory> {
+    let other = Con::NotShape(1, NameId::new(2), 0);
+    tried(alloc, Term::Var(0), Term::Var(1), other)
 }
 
 #[test]
 fn lists_unify_and_fail(rt: HostRuntime) -> Result<(), Fail> {
-    test_lists(&rt, rt.alloc())?;
+    assert!(rt; below_a_name(rt.alloc())? == (true, true));
+    assert!(rt; inside(rt.alloc())? == (false, true));
+    assert!(rt; of_a_name(rt.alloc())? == (true, false));
+    assert!(rt; of_variables(rt.alloc())? == (true, false));
     Ok(())
 }
 
-#[test]
-fn rows_and_sides_are_resolved(rt: HostRuntime) -> Result<(), Fail> {
-    let alloc = rt.alloc();
-    let Ok(two) = Rat::new(2, 1) else {
-        return Ok(());
-    };
+/// 2 for V0.
+fn two(alloc: Global) -> Result<Resolver, Fail> {
     let mut constraints = Vec::new(alloc);
-    constraints.push(Con::Eq(Term::Var(0), Term::Num(two)))?;
-    let resolver = resolver_of(alloc, constraints.as_slice())?;
-    // V0 + V1 =< 0 with 2 for V0 is V1 + 2 =< 0
+    constraints.push(Con::Eq(Term::Var(0), Term::Num(Rat::new(2, 1)?)))?;
+    Ok(resolver_of(alloc, constraints.as_slice())?)
+}
+
+/// V0 + V1 =< 0
+fn row(alloc: Global) -> Result<Row, Fail> {
     let mut pairs = RatPairs::new(alloc);
     for x in 0..2u64 {
-        pairs.push(RatPair {
-            x,
-            value: Rat::new(1, 1)?,
-        })?;
+        let value = Rat::new(1, 1)?;
+        pairs.push(RatPair { x, value })?;
     }
-    let row = Row::normal(alloc, &pairs, &Rat::new(0, 1)?, Op::Le)?;
-    let resolved = resolved_row(alloc, &row, resolver.bindings.as_slice())?;
+    Ok(Row::normal(alloc, &pairs, &Rat::new(0, 1)?, Op::Le)?)
+}
+
+fn row_with_two(alloc: Global) -> Result<Row, Fail> {
+    let resolver = two(alloc)?;
+    let row = row(alloc)?;
+    Ok(resolved_row(alloc, &row, resolver.bindings.as_slice())?)
+}
+
+/// V1 + 2 =< 0
+#[test]
+fn rows_are_resolved(rt: HostRuntime) -> Result<(), Fail> {
+    let resolved = row_with_two(rt.alloc())?;
+    let coeffs = resolved.coeffs().as_slice();
     assert_eq!(rt; resolved.constant(), 2);
-    assert_eq!(rt;
-        resolved.coeffs().as_slice(),
-        [Coeff { x: 1, c: 1 }].as_slice()
-    );
-    let sides = resolved_sides(
-        alloc,
-        &Term::Var(0),
-        &Term::Var(1),
-        resolver.bindings.as_slice(),
-    )?;
-    assert_eq!(rt; sides.map(|parts| parts.len()), Some(1));
+    assert_eq!(rt; coeffs, [Coeff { x: 1, c: 1 }].as_slice());
+    Ok(())
+}
+
+/// In how many parts V0 and V1 differ.
+fn parts(alloc: Global) -> Result<Option<usize>, Fail> {
+    let resolver = two(alloc)?;
+    let bindings = resolver.bindings.as_slice();
+    let sides = resolved_sides(alloc, &Term::Var(0), &Term::Var(1), bindings)?;
+    Ok(sides.map(|parts| parts.len()))
+}
+
+#[test]
+fn sides_are_resolved(rt: HostRuntime) -> Result<(), Fail> {
+    assert_eq!(rt; parts(rt.alloc())?, Some(1));
     Ok(())
 }
