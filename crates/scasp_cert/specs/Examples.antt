@@ -4,20 +4,14 @@ use Rattle.std.proofs.Common.{refl}
 use Rattle.scasp_num.specs.Linear.{Linear}
 use Rattle.scasp_num.specs.declared.linear.Op.TheVariants as op
 use Rattle.scasp_syntax.specs.Tm.{Tms, var, app, nil, cons}
-use Rattle.scasp_syntax.specs.Values.{Sub}
 use Rattle.scasp_syntax.specs.declared.atom.Atom.{Atom}
-use Rattle.scasp_syntax.specs.declared.clause.Item.{Item}
-use Rattle.scasp_syntax.specs.declared.clause.Item.TheVariants.{Call}
 use Rattle.scasp_syntax.specs.declared.con.Con.{Con}
 use Rattle.scasp_syntax.specs.declared.con.Con.TheVariants as con
 use Rattle.scasp_syntax.specs.declared.hint.Hint.TheVariants as hint
-use Rattle.scasp_syntax.specs.declared.program.Program.{Program}
 use Rattle.scasp_syntax.specs.declared.term.Term.TheVariants.{Var}
 use Rattle.scasp_cert.specs.Certificate.{Certificate}
 use Rattle.scasp_cert.specs.Flat.{is_flat}
-use Rattle.scasp_cert.specs.Instances.{true_atoms, false_atoms, is_closed_over}
 use Rattle.scasp_cert.specs.Lines.{all_lines}
-use Rattle.scasp_cert.specs.States.{Opened, closed}
 use Rattle.scasp_cert.specs.Trees.{Tree, Branch, pos_tree, neg_tree, loop_tree, test_tree, split, leaf, listed, covering}
 
 abbrev atom : ℕ → Tms → Atom
@@ -38,25 +32,12 @@ by_rule a rule children = pos_tree a rule nil (listed children)
 abbrev answer : List Tree → List (ℕ × Branch) → Certificate
 answer trees checks = record { query = 1; terms = nil; given = []; sample = nil; trees = trees; checks = checks; clashes = []; map = [] }
 
-abbrev no_program : Program
-no_program = record { clauses = []; queries = []; well_formed = refl }
-
--- V0 is a
-abbrev values : Sub
-values x = app 9 nil
-
 -- p :- q, r. q. r :- q. ?- p.
 abbrev shared_goal : Certificate
 shared_goal = answer (by_rule p 1 (by_rule q 2 [] ∷ by_rule r 3 (by_rule q 2 [] ∷ []) ∷ []) ∷ []) []
 
 shared_goal_lines : all_lines shared_goal ≡ 4
 shared_goal_lines = refl
-
-shared_goal_true : true_atoms no_program shared_goal values [] ≡ p ∷ q ∷ r ∷ q ∷ []
-shared_goal_true = refl
-
-shared_goal_false : false_atoms no_program shared_goal values [] ≡ []
-shared_goal_false = refl
 
 -- p :- not q, r. q :- not r. r :- p. ?- not p.
 abbrev loop_through_negation : Certificate
@@ -67,12 +48,6 @@ loop_through_negation =
 
 loop_lines : all_lines loop_through_negation ≡ 8
 loop_lines = refl
-
-loop_true : true_atoms no_program loop_through_negation values [] ≡ q ∷ []
-loop_true = refl
-
-loop_false : false_atoms no_program loop_through_negation values [] ≡ p ∷ r ∷ []
-loop_false = refl
 
 -- q. :- 2*X #> 3, 2*X #< 3. ?- q.
 abbrev below : Linear
@@ -99,12 +74,6 @@ cases =
 linear_denial_lines : all_lines (answer (by_rule q 1 [] ∷ []) ((2, cases) ∷ [])) ≡ 13
 linear_denial_lines = refl
 
--- of a split, the side counts on which the constraint is true
-one_side :
-    true_atoms no_program (answer [] ((2, split (con.NotNum (Var 0)) (leaf 1 (listed (by_rule p 1 [] ∷ []))) (leaf 1 (listed (by_rule q 1 [] ∷ [])))) ∷ [])) values []
-    ≡ p ∷ []
-one_side = refl
-
 -- p :- not r(X). r(X) :- s(f(X)). s(Y). ?- not p.
 abbrev over_variable : List Tree → Certificate
 over_variable trees =
@@ -116,26 +85,3 @@ variable_is_flat = refl
 compound_is_not :
     is_flat (over_variable (pos_tree (atom 5 (cons (app 6 (cons (var 0) nil)) nil)) 3 (cons (app 6 (cons (var 0) nil)) nil) (listed []) ∷ [])) ≡ false
 compound_is_not = refl
-
--- a line that lists b
-abbrev lists_b : Certificate
-lists_b = answer (pos_tree (atom 4 (cons (app 8 nil) nil)) 2 (cons (app 8 nil) nil) (listed []) ∷ []) []
-
-closed_over_b : is_closed_over no_program lists_b values (app 9 nil ∷ app 8 nil ∷ []) ≡ true
-closed_over_b = refl
-
-not_closed_over_a : is_closed_over no_program lists_b values (app 9 nil ∷ []) ≡ false
-not_closed_over_a = refl
-
--- q has been shown below p, and nothing else is left
-abbrev open_p : Opened
-open_p = record { atom = p; rule = 1; terms = nil; outer = record { done = []; todo = [] } }
-
-all_closed : closed (by_rule q 2 [] ∷ []) [] (open_p ∷ []) ≡ record { level = record { done = by_rule p 1 (by_rule q 2 [] ∷ []) ∷ []; todo = [] }; above = [] }
-all_closed = refl
-
-call_r : Item
-call_r = Call (record { positive = true; atom = r })
-
-left_open : closed [] (call_r ∷ []) (open_p ∷ []) ≡ record { level = record { done = []; todo = call_r ∷ [] }; above = open_p ∷ [] }
-left_open = refl

@@ -2,7 +2,6 @@
 #![tactic(auto)]
 
 mod certificate;
-mod copies;
 mod count;
 mod flatness;
 mod lists;
@@ -10,7 +9,6 @@ mod skeletons;
 mod tree;
 
 pub use certificate::{Cert, Check, Checks, Clash, Clashes};
-pub use copies::{copy_case, copy_node, copy_nodes};
 pub use count::lines;
 pub use flatness::flat;
 pub use skeletons::skeleton;

@@ -5,3 +5,4 @@ pub mod Inside
 pub mod Lookup
 pub mod MemoryFiles
 pub mod MemorySink
+pub mod Taken

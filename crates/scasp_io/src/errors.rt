@@ -1,6 +1,8 @@
 ghost use Rattle.std.specs.Prelude.{◌≡◌};
+ghost use Rattle.scasp_io.specs.declared.errors.OutputErr.TheVariants as output_err;
 ghost use Rattle.scasp_io.specs.declared.errors.ReadErr.TheVariants as read_err;
 
+use scasp_list::Memory;
 use std::alloc::AllocError;
 use thiserror::Error;
 
@@ -44,5 +46,30 @@ impl From<AllocError> for ReadErr {
 
     fn from(_error: AllocError) -> ReadErr {
         ReadErr::Memory
+    }
+}
+
+/// Why a text that is made and written piece by piece was not written to its end.
+#[derive(Clone, Copy, Debug, PartialEq, Eq, Error)]
+pub enum OutputErr {
+    #[error("a write failed")]
+    Write,
+    #[error("out of memory")]
+    Memory,
+}
+
+impl From<SinkFault> for OutputErr {
+    ghost from_gives = { λ _ error. error ≡ output_err.Write };
+
+    fn from(_error: SinkFault) -> OutputErr {
+        OutputErr::Write
+    }
+}
+
+impl From<Memory> for OutputErr {
+    ghost from_gives = { λ _ error. error ≡ output_err.Memory };
+
+    fn from(_error: Memory) -> OutputErr {
+        OutputErr::Memory
     }
 }

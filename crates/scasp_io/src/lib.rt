@@ -10,7 +10,7 @@ mod outside;
 mod sure;
 mod whole;
 
-pub use errors::{Failed, ReadErr, SinkFault};
+pub use errors::{Failed, OutputErr, ReadErr, SinkFault};
 pub use lists::{Bytes, CallList, MemFile, MemFileList};
 pub use memory_files::MemFiles;
 pub use memory_sink::MemSink;

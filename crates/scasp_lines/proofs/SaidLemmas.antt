@@ -9,10 +9,9 @@ use Rattle.scasp_syntax.specs.Values.{Sub, under}
 use Rattle.scasp_syntax.specs.declared.atom.Atom.{Atom}
 use Rattle.scasp_syntax.specs.declared.program.Program.{Program}
 use Rattle.scasp_cert.specs.Certificate.{Certificate}
-use Rattle.scasp_cert.specs.Instances.{Said}
 use Rattle.scasp_cert.specs.Trees.{Tree, pos_tree, neg_tree, loop_tree, seen_tree, test_tree}
 use Rattle.scasp_lines.specs.Known.{is_known, are_known}
-use Rattle.scasp_lines.specs.Said.{are_in, said_by_node, said_by_part, said_by_line, said, atoms_of, is_closed_over, is_node_known, is_part_known, is_line_known, are_lines_known, SaysAt}
+use Rattle.scasp_lines.specs.Said.{Said, are_in, said_by_node, said_by_part, said_by_line, said, atoms_of, is_closed_over, is_node_known, is_part_known, is_line_known, are_lines_known, SaysAt}
 use Rattle.scasp_lines.specs.Opened.{knows, well}
 use Rattle.scasp_lines.specs.Walk.{Part, of_node, of_rule, of_check, of_case, Line}
 use Rattle.scasp_lines.specs.Lines.{free_of, lines}

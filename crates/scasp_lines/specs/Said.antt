@@ -8,13 +8,19 @@ use Rattle.scasp_syntax.specs.Values.{Sub, under}
 use Rattle.scasp_syntax.specs.declared.atom.Atom.{Atom}
 use Rattle.scasp_syntax.specs.declared.program.Program.{Program}
 use Rattle.scasp_cert.specs.Certificate.{Certificate}
-use Rattle.scasp_cert.specs.Instances.{Said}
 use Rattle.scasp_cert.specs.Trees.{Tree, pos_tree, neg_tree, loop_tree, seen_tree, test_tree}
 use Rattle.scasp_lines.specs.Known.{are_known}
 use Rattle.scasp_lines.specs.Lines.{free_of, lines}
 use Rattle.scasp_lines.specs.Opened.{knows, well, IsInstance}
 use Rattle.scasp_lines.specs.Walk.{Part, of_node, of_rule, of_check, of_case, Line}
 use Rattle.scasp_lines.specs.Ways.{ways}
+
+-- An instance of a line for a positive or a negated literal: its sign, its atom, and the terms that it lists for the variables of
+-- its rule.
+pub record Said : Type 0 where
+  pub positive : Bool
+  pub atom : Atom
+  pub terms : List Tm
 
 -- what a node says by itself where the variables have these values
 abbrev pub said_by_node : Sub → Tree → List Said

@@ -14,7 +14,6 @@ ghost use Rattle.scasp_syntax.specs.declared.con.Con.{Con as ThisCon};
 ghost use Rattle.scasp_syntax.specs.declared.program.Program.{Program as ThisProgram};
 ghost use Rattle.scasp_cert.specs.Certificate.{Certificate};
 ghost use Rattle.scasp_cert.specs.Flat.{is_flat};
-ghost use Rattle.scasp_cert.specs.Instances.{Said};
 ghost use Rattle.scasp_cert.specs.Lines.{all_lines};
 ghost use Rattle.scasp_cert.specs.Trees.{Branch, listed};
 ghost use Rattle.scasp_lines.specs.Below.{HasBelow, HasQueryItems};
@@ -32,7 +31,7 @@ ghost use Rattle.scasp_lines.specs.Opened.{IsInstance, Opened, knows, well, AllM
 ghost use Rattle.scasp_lines.specs.OpeningLaws.{CoverGrows, CoverIsMet, OpeningFits, OpeningGrows, OpeningIsMet, OpeningSays};
 ghost use Rattle.scasp_lines.specs.Openings.{Opening, open_terms};
 ghost use Rattle.scasp_lines.specs.Places.{start};
-ghost use Rattle.scasp_lines.specs.Said.{SaysAt, are_in, are_lines_known, atoms_of, is_closed_over, said};
+ghost use Rattle.scasp_lines.specs.Said.{Said, SaysAt, are_in, are_lines_known, atoms_of, is_closed_over, said};
 ghost use Rattle.scasp_lines.specs.Scopes.{PartFits, are_lines_scoped, excludes_no_parts};
 ghost use Rattle.scasp_lines.specs.Surroundings.{PartSurrounded};
 ghost use Rattle.scasp_lines.specs.Walk.{Line, Setting, of_case};

@@ -1,3 +1,1 @@
 pub mod Programs
-pub mod Propositional
-pub mod Examples

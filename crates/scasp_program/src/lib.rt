@@ -3,9 +3,7 @@
 
 mod denials;
 pub mod laws;
-mod propositional;
 mod reading;
 
 pub use denials::denial_of;
-pub use propositional::is_run_today;
 pub use reading::read_program;

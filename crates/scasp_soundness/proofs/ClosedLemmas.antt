@@ -16,13 +16,12 @@ use Rattle.scasp_syntax.proofs.ValueLemmas.{is_ground-under}
 use Rattle.scasp_model.specs.Grounding.{is_domain}
 use Rattle.scasp_cert.specs.Certificate.{Certificate}
 use Rattle.scasp_cert.specs.Flat.{is_flat, is_flat_term, is_variable}
-use Rattle.scasp_cert.specs.Instances.{Said}
 use Rattle.scasp_cert.specs.Trees.{pos_tree, neg_tree, loop_tree, seen_tree, test_tree}
 use Rattle.scasp_sound.proofs.DomainLemmas.{within, within-contains, grown, grown-domain, grown-has, grown-from}
 use Rattle.scasp_lines.specs.Known.{is_known, are_known}
 use Rattle.scasp_lines.specs.Lines.{free_of, lines, setting}
 use Rattle.scasp_lines.specs.Opened.{knows, well, IsInstance}
-use Rattle.scasp_lines.specs.Said.{are_in, are_lines_known, is_line_known, is_part_known, said_by_part, SaysAt}
+use Rattle.scasp_lines.specs.Said.{Said, are_in, are_lines_known, is_line_known, is_part_known, said_by_part, SaysAt}
 use Rattle.scasp_lines.specs.Walk.{Part, of_node, of_rule, of_check, of_case, Line}
 use Rattle.scasp_lines.proofs.FitLemmas.{lines-known}
 use Rattle.scasp_lines.proofs.SaidLemmas.{closed-from}

@@ -13,13 +13,12 @@ use Rattle.scasp_syntax.proofs.SameLemmas.{atom_decided}
 use Rattle.scasp_model.specs.Atoms.{among}
 use Rattle.scasp_model.specs.Grounding.{is_domain}
 use Rattle.scasp_cert.specs.Certificate.{Certificate}
-use Rattle.scasp_cert.specs.Instances.{Said}
 use Rattle.scasp_cert.specs.Trees.{Tree, Trees, pos_tree, neg_tree, loop_tree, seen_tree, test_tree}
 use Rattle.scasp_list.proofs.MemberLemmas.{Contains-none, Contains-here, Contains-single, Contains-from_flat_map, list_all-member, list_any-from, list_any-member}
 use Rattle.scasp_lines.specs.Dues.{Due, goal}
 use Rattle.scasp_lines.specs.Lines.{free_of, lines}
 use Rattle.scasp_lines.specs.Opened.{knows, well}
-use Rattle.scasp_lines.specs.Said.{said, said_by_line, said_by_node, said_by_part, atoms_of, is_closed_over, is_line_known, is_part_known}
+use Rattle.scasp_lines.specs.Said.{Said, said, said_by_line, said_by_node, said_by_part, atoms_of, is_closed_over, is_line_known, is_part_known}
 use Rattle.scasp_lines.specs.Surroundings.{IsNodeOf}
 use Rattle.scasp_lines.specs.Walk.{Part, of_node, of_rule, of_check, of_case, Line}
 use Rattle.scasp_lines.specs.Ways.{ways}

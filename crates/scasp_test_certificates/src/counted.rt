@@ -1,8 +1,6 @@
-//! A certificate of each form, made, counted and copied.
+//! A certificate of several forms, made, counted and taken to its skeleton.
 use crate::made::{boxed, certificate, covers, nodes};
-use scasp_cert::{
-    Case, Cert, Check, Clash, Node, Nodes, copy_case, copy_node, copy_nodes, flat, lines, skeleton,
-};
+use scasp_cert::{Case, Cert, Check, Clash, Node, Nodes, flat, lines, skeleton};
 use scasp_name::Memory;
 use scasp_samples::{P, atom, literal};
 use scasp_syntax::{Con, Hint, Term};
@@ -32,28 +30,17 @@ fn two_cases(alloc: Global) -> Result<Case, Memory> {
     })
 }
 
-fn copied_cases(alloc: Global) -> Result<Case, Memory> {
-    let cases = two_cases(alloc)?;
-    copy_case(alloc, &cases)
-}
-
 /// A negated atom with one rule, which has two cases.
 fn negated(alloc: Global) -> Result<Node, Memory> {
     let atom = atom(alloc, P)?;
-    let covers = covers(alloc, 1, copied_cases(alloc)?)?;
+    let covers = covers(alloc, 1, two_cases(alloc)?)?;
     Ok(Node::Neg { atom, covers })
 }
 
-/// The list of a copy of the line.
-fn copied(alloc: Global, node: &Node) -> Result<Nodes, Memory> {
-    nodes(alloc, copy_node(alloc, node)?)
-}
-
-/// The negated atom behind its copy.
+/// The negated atom twice.
 fn trees(alloc: Global) -> Result<Nodes, Memory> {
-    let negated = negated(alloc)?;
-    let mut trees = copied(alloc, &negated)?;
-    trees.push(negated)?;
+    let mut trees = nodes(alloc, negated(alloc)?)?;
+    trees.push(negated(alloc)?)?;
     Ok(trees)
 }
 
@@ -68,14 +55,9 @@ fn push_check(alloc: Global, cert: &mut Cert) -> Result<(), Memory> {
     })
 }
 
-fn copied_trees(alloc: Global) -> Result<Nodes, Memory> {
-    let trees = trees(alloc)?;
-    copy_nodes(alloc, &trees)
-}
-
-/// The certificate of copies of the trees, with a check and a clash.
+/// The certificate of the trees, with a check and a clash.
 fn all_kinds(alloc: Global) -> Result<Cert, Memory> {
-    let mut cert = certificate(alloc, copied_trees(alloc)?);
+    let mut cert = certificate(alloc, trees(alloc)?);
     push_check(alloc, &mut cert)?;
     Ok(cert)
 }

@@ -1,7 +1,7 @@
 //! Texts, and the programs that are read from them.
 use scasp_name::{NameId, Names};
 use scasp_phrase::Stop;
-use scasp_program::{is_run_today, read_program};
+use scasp_program::read_program;
 use scasp_syntax::{Item, Items, Program};
 use std::alloc::Global;
 use std::test::Fail;
@@ -55,75 +55,60 @@ fn show(alloc: Global, program: &Program, names: &Names) -> Result<String, Fail>
     Ok(shown)
 }
 
-/// Texts, each with its names and calls, if it is in the grammar; and whether its program is run today.
-const TEXTS: &[(&str, Option<&str>, bool)] = &[
-    ("p. ?- p.", Some("p.?-p.3"), true),
-    ("p :- p. ?- p.", Some("p:-p.?-p.3"), true),
-    ("p :- q. p. ?- p.", Some("p:-q.p.?-p.4"), true),
-    (
-        "p :- q, r. q. r :- q. ?- p.",
-        Some("p:-q,r.q.r:-q.?-p.5"),
-        true,
-    ),
-    ("?- p.", Some("?-p.3"), true),
-    (
-        "p:-q,r.q.?-a_B9,notp.",
-        Some("p:-q,r.q.?-a_B9,notp.7"),
-        true,
-    ),
-    ("nota.?-not_.", Some("nota.?-not_.4"), true),
-    (
-        "\tp\n:-\r\nq , r .\n\n?-\tp . \r\n",
-        Some("p:-q,r.?-p.5"),
-        true,
-    ),
-    ("", Some("2"), true),
-    (" \n", Some("2"), true),
-    ("p.", Some("p.3"), true),
-    ("?- p. p.", Some("p.?-p.3"), true),
-    ("p. ?- p. %", Some("p.?-p.3"), true),
-    ("% p\np. ?- p.", Some("p.?-p.3"), true),
-    ("?- p. ?- q.", Some("?-p.?-q.4"), false),
-    ("p. ?- not p.", Some("p.?-!.3"), false),
-    ("p(a). ?- p.", Some("p.?-p.4"), false),
-    ("p. ?- p(X).", Some("p.?-p.4"), false),
-    (":- p. ?- p.", Some("!:-p.?-p.3"), false),
-    ("-p. ?- p.", Some("p.!:-p,!.?-p.3"), false),
-    ("p :- X = X. ?- p.", Some("p:-!.?-p.3"), false),
-    ("p. ?- not.", None, false),
-    ("p q. ?- p.", None, false),
-    ("p. ?- p", None, false),
-    ("p. ?-.", None, false),
-    ("p. ?- p,.", None, false),
-    ("p :- . ?- p.", None, false),
-    ("p :- q r. ?- p.", None, false),
-    (". ?- p.", None, false),
-    ("p : - q. ?- p.", None, false),
-    ("p. ? - p.", None, false),
-    ("P. ?- p.", None, false),
-    ("9. ?- p.", None, false),
-    ("_a. ?- p.", None, false),
-    ("p\u{b}. ?- p.", None, false),
-    ("p. ?- \u{e9}.", None, false),
+/// Texts, each with its names and calls, if it is in the grammar.
+const TEXTS: &[(&str, Option<&str>)] = &[
+    ("p. ?- p.", Some("p.?-p.3")),
+    ("p :- p. ?- p.", Some("p:-p.?-p.3")),
+    ("p :- q. p. ?- p.", Some("p:-q.p.?-p.4")),
+    ("p :- q, r. q. r :- q. ?- p.", Some("p:-q,r.q.r:-q.?-p.5")),
+    ("?- p.", Some("?-p.3")),
+    ("p:-q,r.q.?-a_B9,notp.", Some("p:-q,r.q.?-a_B9,notp.7")),
+    ("nota.?-not_.", Some("nota.?-not_.4")),
+    ("\tp\n:-\r\nq , r .\n\n?-\tp . \r\n", Some("p:-q,r.?-p.5")),
+    ("", Some("2")),
+    (" \n", Some("2")),
+    ("p.", Some("p.3")),
+    ("?- p. p.", Some("p.?-p.3")),
+    ("p. ?- p. %", Some("p.?-p.3")),
+    ("% p\np. ?- p.", Some("p.?-p.3")),
+    ("?- p. ?- q.", Some("?-p.?-q.4")),
+    ("p. ?- not p.", Some("p.?-!.3")),
+    ("p(a). ?- p.", Some("p.?-p.4")),
+    ("p. ?- p(X).", Some("p.?-p.4")),
+    (":- p. ?- p.", Some("!:-p.?-p.3")),
+    ("-p. ?- p.", Some("p.!:-p,!.?-p.3")),
+    ("p :- X = X. ?- p.", Some("p:-!.?-p.3")),
+    ("p. ?- not.", None),
+    ("p q. ?- p.", None),
+    ("p. ?- p", None),
+    ("p. ?-.", None),
+    ("p. ?- p,.", None),
+    ("p :- . ?- p.", None),
+    ("p :- q r. ?- p.", None),
+    (". ?- p.", None),
+    ("p : - q. ?- p.", None),
+    ("p. ? - p.", None),
+    ("P. ?- p.", None),
+    ("9. ?- p.", None),
+    ("_a. ?- p.", None),
+    ("p\u{b}. ?- p.", None),
+    ("p. ?- \u{e9}.", None),
 ];
 
-/// The program of the text, shown, or none where it is refused; and whether it is run today.
-fn read(alloc: Global, text: &str) -> Result<(Option<String>, bool), Fail> {
+/// The program of the text, shown, or none where it is refused.
+fn read(alloc: Global, text: &str) -> Result<Option<String>, Fail> {
     match read_program(alloc, text.as_bytes(), Names::new(alloc)?) {
-        Ok((program, names)) => {
-            let shown = show(alloc, &program, &names)?;
-            Ok((Some(shown), is_run_today(&program)))
-        }
-        Err(Stop::At(_)) | Err(Stop::Memory) => Ok((None, false)),
+        Ok((program, names)) => Ok(Some(show(alloc, &program, &names)?)),
+        Err(Stop::At(_)) | Err(Stop::Memory) => Ok(None),
     }
 }
 
 #[test]
 fn reads_the_grammar_and_nothing_else(rt: HostRuntime) -> Result<(), Fail> {
-    for (text, want, is_run) in TEXTS {
-        let (shown, runs) = read(rt.alloc(), text)?;
+    for (text, want) in TEXTS {
+        let shown = read(rt.alloc(), text)?;
         assert!(rt;
-            shown.as_ref().map(|it| it.as_str()) == *want && runs == *is_run,
+            shown.as_ref().map(|it| it.as_str()) == *want,
             "at {text:?}"
         );
     }
