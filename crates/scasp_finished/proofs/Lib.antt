@@ -1,4 +1,4 @@
+pub mod BuiltLemmas
 pub mod CountLemmas
 pub mod FirstLemmas
 pub mod MetLemmas
-pub mod StackLemmas

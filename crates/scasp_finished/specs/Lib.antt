@@ -1,2 +1,2 @@
 pub mod About
-pub mod Stacked
+pub mod Onto

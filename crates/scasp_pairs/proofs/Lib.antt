@@ -1,4 +1,4 @@
 pub mod ClashLemmas
 pub mod ClashLineLemmas
 pub mod FaultLemmas
-pub mod PartnerLemmas
+pub mod GroupLemmas

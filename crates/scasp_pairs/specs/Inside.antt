@@ -1,5 +1,4 @@
 -- What private functions alone speak of.
 pub mod Against
 pub mod Clashes
-pub mod Named
-pub mod Partners
+pub mod Groups

@@ -4,6 +4,5 @@
 mod clash_lines;
 mod clashes;
 mod pairs;
-mod partners;
 
 pub use pairs::accept_apart;

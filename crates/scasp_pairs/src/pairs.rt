@@ -14,30 +14,22 @@ ghost use Rattle.scasp_shown.specs.TableView.{table_value, told_from, told_of};
 ghost use Rattle.scasp_shown.specs.Standings.{told_by};
 ghost use Rattle.scasp_syntax.specs.declared.hint.Hint.TheVariants as hint;
 ghost use Rattle.scasp_pairs.specs.Inside.Against.{Finds};
-ghost use Rattle.scasp_pairs.specs.Inside.Named.{differ_by_names};
-ghost use Rattle.scasp_pairs.specs.Inside.Partners.{group_faults, group_of};
+ghost use Rattle.scasp_pairs.specs.Inside.Groups.{group_faults};
+ghost use Rattle.scasp_partners.specs.Partners.{group_of};
 ghost use Rattle.scasp_table_faults.specs.Tables.{Tells};
 
 use crate::clash_lines::{Against, accept_clash, accept_clash_lines};
 use crate::clashes::first_clashes;
-use crate::partners::{Partners, items_in, partners_of};
 use scasp_cert::Cert;
 use scasp_disjoint::pair_list;
-use scasp_faults::{CheckErr, clash_among};
+use scasp_faults::CheckErr;
 use scasp_hint::{HintErr, unsat};
 use scasp_line_faults::Common;
 use scasp_list::Memory;
+use scasp_partners::{Partners, differ_by_names, items_in, partners_of};
 use scasp_shown::{Saying, Table};
 use scasp_syntax::{Con, Hint};
 use std::alloc::Global;
-
-/// Whether they have as many arguments and differ by a name or a number.
-fn differ_by_names(first: &Saying, second: &Saying) -> bool
-    ensures { result ≡ differ_by_names (told_of first.now) (told_of second.now) }
-{
-    first.atom.args.len() == second.atom.args.len()
-        && clash_among(&first.atom.args, &second.atom.args)
-}
 
 /// Whether the terms show the two literals apart.
 fn differ_by_terms(

@@ -1,5 +1,6 @@
 use Rattle.std.proofs.Common.{◌≡◌, vec_len}
-use Rattle.scasp_finished.specs.Stacked.{built_of, onto}
+use Rattle.scasp_building.specs.Stacked.{built_of}
+use Rattle.scasp_finished.specs.Onto.{onto}
 use Rattle.scasp_successors.specs.Trees.{built}
 use Rattle.scasp_finished.proofs.building.built.Given as goal
 

@@ -7,7 +7,7 @@ use Rattle.scasp_lines.specs.Lines.{free_of}
 use Rattle.scasp_shown.specs.TableView.{told_from, told_of}
 use Rattle.scasp_shown.specs.declared.table.Saying.{Saying}
 use Rattle.scasp_syntax.proofs.Walks.{drop-at}
-use Rattle.scasp_pairs.specs.Inside.Partners.{group_faults}
+use Rattle.scasp_pairs.specs.Inside.Groups.{group_faults}
 use Rattle.scasp_pairs.proofs.FaultLemmas.{first-passed, first-refused}
 use Rattle.scasp_pairs.proofs.pairs.accept_each.Goals as goal
 

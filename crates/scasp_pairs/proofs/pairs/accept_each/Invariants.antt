@@ -2,7 +2,7 @@ use Rattle.std.proofs.Common.{◌≡◌, drop, map}
 use Rattle.scasp_cert.specs.Certificate.{certificate_of}
 use Rattle.scasp_lines.specs.Lines.{free_of}
 use Rattle.scasp_shown.specs.TableView.{told_from, told_of}
-use Rattle.scasp_pairs.specs.Inside.Partners.{group_faults}
+use Rattle.scasp_pairs.specs.Inside.Groups.{group_faults}
 use Rattle.scasp_pairs.proofs.pairs.accept_each.Given as goal
 
 abbrev pub invariant-loop-second : goal.invariant-loop-second

@@ -4,8 +4,9 @@ use Rattle.scasp_cert.specs.Certificate.{certificate_of}
 use Rattle.scasp_lines.specs.Lines.{free_of}
 use Rattle.scasp_shown.specs.Standings.{told_by}
 use Rattle.scasp_shown.specs.TableView.{table_value}
-use Rattle.scasp_pairs.specs.Inside.Partners.{group_faults, grouped}
-use Rattle.scasp_pairs.proofs.PartnerLemmas.{grouped-faults}
+use Rattle.scasp_pairs.specs.Inside.Groups.{group_faults}
+use Rattle.scasp_partners.specs.Partners.{grouped}
+use Rattle.scasp_pairs.proofs.GroupLemmas.{grouped-faults}
 use Rattle.scasp_pairs.proofs.pairs.accept_pairs.Goals as goal
 
 pub loop-partners-init : goal.loop-partners-init

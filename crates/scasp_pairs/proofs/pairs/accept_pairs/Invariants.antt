@@ -5,7 +5,8 @@ use Rattle.scasp_cert.specs.Certificate.{certificate_of}
 use Rattle.scasp_lines.specs.Lines.{free_of}
 use Rattle.scasp_shown.specs.Standings.{told_by}
 use Rattle.scasp_shown.specs.TableView.{table_value}
-use Rattle.scasp_pairs.specs.Inside.Partners.{group_faults, group_of}
+use Rattle.scasp_pairs.specs.Inside.Groups.{group_faults}
+use Rattle.scasp_partners.specs.Partners.{group_of}
 use Rattle.scasp_pairs.proofs.pairs.accept_pairs.Given as goal
 
 abbrev pub invariant-loop-partners : goal.invariant-loop-partners

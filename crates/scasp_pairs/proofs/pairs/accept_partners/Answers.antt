@@ -7,7 +7,7 @@ use Rattle.scasp_faults.specs.Judged.{Judges}
 use Rattle.scasp_lines.specs.Lines.{free_of}
 use Rattle.scasp_shown.specs.TableView.{told_from}
 use Rattle.scasp_shown.specs.declared.table.Saying.{Saying}
-use Rattle.scasp_pairs.specs.Inside.Partners.{group_faults}
+use Rattle.scasp_pairs.specs.Inside.Groups.{group_faults}
 use Rattle.scasp_pairs.proofs.pairs.accept_partners.Goals as goal
 
 pub returns : goal.returns

@@ -1,15 +1,11 @@
-use Rattle.std.proofs.Common.{◌≡◌, ◌∙◌, nat_eq, length, List, ap, sym, subst}
+use Rattle.std.proofs.Common.{◌≡◌, ◌∙◌, List, ap, sym, subst}
 use Rattle.std.specs.Prelude.{IfOk, is_none}
-use Rattle.std.proofs.lemmas.Bool.{and_parts}
-use Rattle.std.proofs.lemmas.Bool.Decides.{Decides-eqb}
 use Rattle.scasp_acceptance.specs.PairLists.{pair_list}
 use Rattle.scasp_cert.specs.Certificate.{certificate_of}
-use Rattle.scasp_faults.proofs.NameClashLemmas.{shown-by_names}
-use Rattle.scasp_faults.specs.NameClashes.{clash_among}
+use Rattle.scasp_partners.proofs.NamedLemmas.{named-apart}
 use Rattle.scasp_hint.specs.Showing.{fault_of}
 use Rattle.scasp_lines.specs.Lines.{free_of}
 use Rattle.scasp_shown.specs.TableView.{told_of}
-use Rattle.scasp_syntax.specs.Tm.{items}
 use Rattle.scasp_syntax.specs.declared.con.Con.{Con}
 use Rattle.scasp_syntax.specs.declared.hint.Hint.TheVariants as hint
 use Rattle.scasp_pairs.proofs.pairs.differ_by_terms.Goals as goal
@@ -17,12 +13,7 @@ use Rattle.scasp_pairs.proofs.pairs.differ_by_terms.Goals as goal
 pub returns-then-differ_by_names : goal.returns-then-differ_by_names
 returns-then-differ_by_names c =
     let cert = c.args.cert.now in
-    let a = told_of c.args.first.now in
-    let b = told_of c.args.second.now in
-    let n = length (items a.atom.args) in
-    let m = length (items b.atom.args) in
-    let k = and_parts (nat_eq n m) (clash_among a.atom.args b.atom.args) (sym c.differ_by_names.ensures ∙ c.if-differ_by_names.true) in
-    sym (ap is_none (shown-by_names (free_of (certificate_of cert)) cert.given a b ((Decides-eqb n m).0 k.0) k.1))
+    sym (ap is_none (named-apart (free_of (certificate_of cert)) cert.given (told_of c.args.first.now) (told_of c.args.second.now) (sym c.differ_by_names.ensures ∙ c.if-differ_by_names.true)))
 
 pub returns : goal.returns
 returns c =

@@ -1,0 +1,43 @@
+//! Lines, and what stands on them.
+
+use scasp_cert::{Case, Node};
+use scasp_dues::Due;
+use scasp_places::{Body, Place};
+use scasp_syntax::Atom;
+use std::rc::Rc;
+
+/// What stands on a line with all that is below it.
+#[derive(Drop)]
+pub enum Part<'a> {
+    /// A node, and what it is due for.
+    Node {
+        due: Due,
+        node: &'a Node,
+    },
+    /// A rule under a negated literal with this atom.
+    Rule {
+        clause: u64,
+        atom: &'a Atom,
+        case: &'a Case,
+    },
+    /// A clause that is checked beside the query.
+    Check {
+        clause: u64,
+        case: &'a Case,
+    },
+    /// A case of a body, which is plain where the body is bare.
+    Case {
+        body: Rc<Body>,
+        bare: bool,
+        case: &'a Case,
+    },
+}
+
+/// A line: its number from 1, the number of the next universal variable, what holds there, and what stands there.
+#[derive(Drop)]
+pub struct Line<'a> {
+    pub at: u64,
+    pub next: u64,
+    pub here: Place,
+    pub part: Part<'a>,
+}
