@@ -28,7 +28,7 @@ use Rattle.scasp_acceptance.specs.PairLists.{pair_list}
 use Rattle.scasp_acceptance.specs.Pairs.{all_pairs, is_pair, is_clash_at, clash_of, clash_list, told_on}
 use Rattle.scasp_acceptance.specs.Told.{Told, told_at, all_told}
 use Rattle.scasp_acceptance.proofs.TestLemmas.{bool_decided}
-use Rattle.scasp_fill.specs.Filled.{hint_of, clash_by, clash_or, clash_for, clashes_found, IsKnown}
+use Rattle.scasp_fill.specs.Filled.{hint_of, clash_by, clash_or, clash_for, clashes_found, is_either_known}
 use Rattle.scasp_fill.specs.Hinted.{shown_by}
 
 -- ---- equal numbers
@@ -248,11 +248,11 @@ module _ (p : Program) (c : Certificate) where
     some-is (Some why) e = refl
 
     -- where some hint shows the pair apart, in either order, the clash lines that are found do
-    clash-serves : (a b : Told) (h : Hint) → Contains (all_pairs ts) (a, b) → IsKnown (apart_list a b) → IsKnown (apart_list b a)
+    clash-serves : (a b : Told) (h : Hint) → Contains (all_pairs ts) (a, b) → is_either_known (found (apart_list a b)) (found (apart_list b a)) ≡ true
         → fault_of (apart_list a b) hints.Terms ≢ None
         → (fault_of (apart_list a b) h ≡ None) ⊎ (fault_of (apart_list b a) h ≡ None)
         → HasClash a b (clash_for (free_of c) c.given (a, b))
-    clash-serves a b h i known turned_known terms shown = there (found (apart_list a b)) refl (found (apart_list b a)) refl
+    clash-serves a b h i known terms shown = there (found (apart_list a b)) refl (found (apart_list b a)) refl
       where
         asked : is_some (fault_of (apart_list a b) hints.Terms) ≡ true
         asked = some-is (fault_of (apart_list a b) hints.Terms) terms
@@ -263,11 +263,16 @@ module _ (p : Program) (c : Certificate) where
         other_way : (x : Hint) → HasClash a b (record { first = b.at; second = a.at; hint = x } ∷ [])
         other_way x = (record { first = b.at; second = a.at; hint = x }, Contains-here _ [], or_right _ _ (and_from _ _ (number-same b.at b.at refl) (number-same a.at a.at refl)))
 
+        unknown : {o u : Found} → found (apart_list a b) ≡ o → found (apart_list b a) ≡ u → is_either_known (found (apart_list a b)) (found (apart_list b a)) ≡ true → is_either_known o u ≡ true
+        unknown e f k = (λ i. is_either_known (sym e i) (sym f i)) ∙ k
+
         there : (o : Found) → found (apart_list a b) ≡ o → (u : Found) → found (apart_list b a) ≡ u → HasClash a b (clash_for (free_of c) c.given (a, b))
         there (hint x) e u f = rw (asked, e) (one_way x)
-        there unknown_list e u f = absurd (known e)
+        there unknown_list e (hint x) f = rw (asked, e, f) (other_way x)
+        there unknown_list e nothing f = (let k = unknown e f known in cc)
+        there unknown_list e unknown_list f = (let k = unknown e f known in cc)
         there nothing e (hint x) f = rw (asked, e, f) (other_way x)
-        there nothing e unknown_list f = absurd (turned_known f)
+        there nothing e unknown_list f = (let k = unknown e f known in cc)
         there nothing e nothing f = elim shown [
           | inl s ↦ absurd (found-unshown (apart_list a b) h (normal (a, b) i).0 e s)
           | inr s ↦ absurd (found-unshown (apart_list b a) h (normal (a, b) i).1 f s)
@@ -284,16 +289,16 @@ module _ (p : Program) (c : Certificate) where
         by false f = inr f
 
     -- a pair that is shown apart with some clash lines is shown apart with those that are found
-    pub pair-serves : (f g : ℕ → Hint) (ks : List Clash) (a b : Told) → Contains (all_pairs ts) (a, b) → IsKnown (apart_list a b) → IsKnown (apart_list b a)
+    pub pair-serves : (f g : ℕ → Hint) (ks : List Clash) (a b : Told) → Contains (all_pairs ts) (a, b) → is_either_known (found (apart_list a b)) (found (apart_list b a)) ≡ true
         → AreApart (shown_by f ks c) (a, b) → AreApart (shown_by g (clashes_found p c) c) (a, b)
-    pair-serves f g ks a b i known turned_known h = by (fault_of (apart_list a b) hints.Terms) refl h
+    pair-serves f g ks a b i known h = by (fault_of (apart_list a b) hints.Terms) refl h
       where
         by : (o : Option HintFault) → fault_of (apart_list a b) hints.Terms ≡ o → AreApart (shown_by f ks c) (a, b) → AreApart (shown_by g (clashes_found p c) c) (a, b)
         by None e s = inl e
         by (Some why) e (inl n) = cc
         by (Some why) e (inr s) =
             let m = pairs-members ts (a, b) i in
-            let w = clash-serves a b s.clash.hint i known turned_known (λ n. cc) (shown-either a b s.clash s.shown) in
+            let w = clash-serves a b s.clash.hint i known (λ n. cc) (shown-either a b s.clash s.shown) in
             let z = clash-some a.at b.at (clashes_found p c) w.0 (Contains-flat_map (clash_for (free_of c) c.given) (all_pairs ts) (a, b) w.0 i w.1) w.2 in
             inr (record { clash = z.0; found = z.1; shown = shown-there a b z.0 i m.0 m.1 (not-paired a b m.0 m.1 m.2) (comes z.0 z.2) z.3 })
 

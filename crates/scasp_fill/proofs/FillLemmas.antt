@@ -1,9 +1,9 @@
 -- A certificate is accepted with the hints and clash lines that are found, where it is with any.
-use Rattle.std.proofs.Common.{◌≡◌, ◌∙◌, ℕ, ◌+◌, ◌<◌, max, nat_lt, arith, Bool, false, None, List, [], ◌∷◌, ◌++◌, map, refl, ap, sym, subst}
-use Rattle.std.specs.List.{Contains}
-use Rattle.std.proofs.lemmas.Bool.{cond_both, ltb-true}
+use Rattle.std.proofs.Common.{◌≡◌, ◌∙◌, ℕ, ◌+◌, ◌<◌, max, nat_lt, arith, Bool, true, false, None, List, [], ◌∷◌, ◌++◌, map, refl, ap, sym, subst}
+use Rattle.std.specs.List.{Contains, list_all}
+use Rattle.std.proofs.lemmas.Bool.{and_parts, cond_both, ltb-true}
 use Rattle.scasp_list.specs.Each.{Each}
-use Rattle.scasp_list.proofs.MemberLemmas.{Contains-none, Contains-here, Contains-there, Contains-single, Contains-map, Contains-flat_map, Contains-from_flat_map}
+use Rattle.scasp_list.proofs.MemberLemmas.{Contains-none, Contains-here, Contains-there, Contains-single, Contains-map, Contains-flat_map, Contains-from_flat_map, list_all-member}
 use Rattle.scasp_syntax.specs.declared.con.Con.{Con}
 use Rattle.scasp_syntax.specs.declared.con.Con.TheVariants as con
 use Rattle.scasp_syntax.specs.Tm.{Tms, nil, cons}
@@ -36,8 +36,8 @@ use Rattle.scasp_acceptance.proofs.RenamedRows.{renamed-normal}
 use Rattle.scasp_acceptance.proofs.TestLemmas.{lt-is}
 use Rattle.scasp_acceptance.specs.LineFaults.{line_faults}
 use Rattle.scasp_acceptance.proofs.NormalityLemmas.{normal-append, negated-normal, context-normal, opened-normal}
-use Rattle.scasp_successors.specs.Answers.{part_lists}
-use Rattle.scasp_fill.specs.Filled.{hint_of, or_terms, hint_for, hint_at, found_on, clashes_found, filled, IsKnown, ListsAreKnown}
+use Rattle.scasp_successors.specs.Answers.{hint_lists, part_lists}
+use Rattle.scasp_fill.specs.Filled.{hint_of, or_terms, hint_for, hint_at, found_on, clashes_found, filled, is_known, is_pair_known, is_filling_known}
 use Rattle.scasp_fill.specs.Hinted.{trees_hinted, shown_by}
 use Rattle.scasp_fill.proofs.HintedLemmas.{same-count, listed-hinted}
 use Rattle.scasp_fill.proofs.WalkLemmas.{line_hinted, same-setting, lines-hinted}
@@ -57,12 +57,12 @@ each-map h P (x ∷ xs) f = (f x (Contains-here x xs), each-map h P xs (λ y i. 
 
 -- ---- a list that is asked has a hint
 
-list-found : (cs : List Con) (h : Hint) → RowsNormal cs → IsKnown cs → fault_of cs h ≡ None → fault_of cs (or_terms (hint_of (found cs))) ≡ None
+list-found : (cs : List Con) (h : Hint) → RowsNormal cs → is_known (found cs) ≡ true → fault_of cs h ≡ None → fault_of cs (or_terms (hint_of (found cs))) ≡ None
 list-found cs h n known e = by (found cs) refl
   where
     by : (o : Found) → found cs ≡ o → fault_of cs (or_terms (hint_of (found cs))) ≡ None
     by nothing f = absurd (found-unshown cs h n f e)
-    by unknown_list f = absurd (known f)
+    by unknown_list f = let k = ap is_known f in cc
     by (hint k) f = rw f (found-hint cs k n f)
 
 -- ---- rows stay in normal form
@@ -107,7 +107,7 @@ module _ (p : Program) (c : Certificate) (normal : AreRowsNormal p c) where
   opened-alone : (l : Line) → Contains (lines p c) l → RowsNormal (context [] l.here.opened)
   opened-alone l h = context-normal [] l.here.opened tt (opened-normal p c (λ k i. Each-member LineNormal (lines p c) k normal.lines_normal i) l h)
 
-  lists-normal : (l : Line) → Contains (lines p c) l → (cs : List Con) → Contains (part_lists c.given l.here l.part) cs → RowsNormal cs
+  pub lists-normal : (l : Line) → Contains (lines p c) l → (cs : List Con) → Contains (part_lists c.given l.here l.part) cs → RowsNormal cs
   lists-normal l h cs i = by l.part (Each-member LineNormal (lines p c) l normal.lines_normal h) i
     where
       by : (part : Part) → RowsNormal (on_part part) → Contains (part_lists c.given l.here part) cs → RowsNormal cs
@@ -141,7 +141,7 @@ module _ (p : Program) (c : Certificate) (normal : AreRowsNormal p c) where
       by (of_case body (head children)) m = absurd (Contains-none cs m)
 
   -- the hint that is found for a line shows the list that the line asks, where any hint does
-  hint-serves : (l : Line) → Contains (lines p c) l → (cs : List Con) → Contains (part_lists c.given l.here l.part) cs → IsKnown cs
+  hint-serves : (l : Line) → Contains (lines p c) l → (cs : List Con) → Contains (part_lists c.given l.here l.part) cs → is_known (found cs) ≡ true
       → (h : Hint) → fault_of cs h ≡ None → fault_of cs (found_on p c l.at) ≡ None
   hint-serves l i cs m known h e =
       let n : found_on p c l.at ≡ or_terms (hint_of (found cs)) = ap (hint_at c.given) (line-found p.clauses p.queries c l i) ∙ ap hint_for (one-list l cs m) in
@@ -172,7 +172,7 @@ module _ (p : Program) (c : Certificate) (normal : AreRowsNormal p c) where
       (subst (λ os. RowsNormal (context c.given os)) (sym x.2) (opened-there x.0 x.1))
       (subst (λ os. RowsNormal (context [] os)) (sym y.2) (opened-alone y.0 y.1))
 
-  pairs-normal : (ab : Told × Told) → Contains (all_pairs (all_told (lines p c))) ab
+  pub pairs-normal : (ab : Told × Told) → Contains (all_pairs (all_told (lines p c))) ab
       → RowsNormal (pair_list (free_of c) c.given ab.0 ab.1) × RowsNormal (pair_list (free_of c) c.given ab.1 ab.0)
   pairs-normal ab h =
       let m = pairs-members (all_told (lines p c)) ab h in (pair-normal ab.0 ab.1 m.0 m.1, pair-normal ab.1 ab.0 m.1 m.0)
@@ -202,8 +202,9 @@ module _ (p : Program) (c : Certificate) (normal : AreRowsNormal p c) where
         line-none hinted_whole (line_hinted f l)
         (Each-member (LineHolds hinted_whole) (map (line_hinted f) (lines p c)) (line_hinted f l) (subst Hold whole-same h.lines_hold) (Contains-map (line_hinted f) (lines p c) l i))
 
-  accepts-found : (positives : Bool) (f : ℕ → Hint) (ks : List Clash) → ListsAreKnown p c → AcceptsWhere positives p (shown_by f ks c) → AcceptsWhere positives p (filled p c)
+  accepts-found : (positives : Bool) (f : ℕ → Hint) (ks : List Clash) → is_filling_known p c ≡ true → AcceptsWhere positives p (shown_by f ks c) → AcceptsWhere positives p (filled p c)
   accepts-found positives f ks known h =
+      let each = and_parts (list_all (λ cs. is_known (found cs)) (hint_lists p c)) (list_all (is_pair_known (free_of c) c.given) (all_pairs (all_told (lines p c)))) known in
       let g = found_on p c in
       let found_clashes = clashes_found p c in
       record {
@@ -218,12 +219,12 @@ module _ (p : Program) (c : Certificate) (normal : AreRowsNormal p c) where
             (each-map (line_hinted g) (LineHolds (hinted_whole positives g found_clashes)) (lines p c)
             (λ l i. line-holds (hinted_whole positives g found_clashes) (line_hinted g l)
             (line-serves (setting p.clauses c) c.given positives (lines p c) f g l (line-fault positives f ks h l i)
-            (λ cs m. hint-serves l i cs m (known.0 cs (Contains-flat_map (λ (l : Line). part_lists c.given l.here l.part) (lines p c) l cs i m)) (f l.at)
+            (λ cs m. hint-serves l i cs m (list_all-member (λ cs. is_known (found cs)) (hint_lists p c) cs each.0 (Contains-flat_map (λ (l : Line). part_lists c.given l.here l.part) (lines p c) l cs i m)) (f l.at)
             (line-shown (setting p.clauses c) c.given positives (lines p c) f l (line-fault positives f ks h l i) cs m)))));
         apart =
             subst (λ (ts : List Told). Each (AreApart (filled p c)) (all_pairs ts)) (sym (told-same positives g found_clashes))
             (each-from (AreApart (filled p c)) (all_pairs (all_told (lines p c)))
-            (λ ab i. pair-serves p c pairs-normal f g ks ab.0 ab.1 i (known.1 ab i).0 (known.1 ab i).1
+            (λ ab i. pair-serves p c pairs-normal f g ks ab.0 ab.1 i (list_all-member (is_pair_known (free_of c) c.given) (all_pairs (all_told (lines p c))) ab each.1 i)
             (Each-member (AreApart (shown_by f ks c)) (all_pairs (all_told (lines p c))) ab
             (subst (λ (ts : List Told). Each (AreApart (shown_by f ks c)) (all_pairs ts)) (told-same positives f ks) h.apart) i)));
         clashes =
@@ -235,7 +236,7 @@ module _ (p : Program) (c : Certificate) (normal : AreRowsNormal p c) where
       }
 
 -- what is accepted with any hints and clash lines is accepted with those that are found
-pub filled-accepted : (positives : Bool) (p : Program) (c x : Certificate) → AreRowsNormal p c → ListsAreKnown p c → skeleton x ≡ skeleton c
+pub filled-accepted : (positives : Bool) (p : Program) (c x : Certificate) → AreRowsNormal p c → is_filling_known p c ≡ true → skeleton x ≡ skeleton c
     → AcceptsWhere positives p x → AcceptsWhere positives p (filled p c)
 filled-accepted positives p c x normal known e h =
     accepts-found p c normal positives (own p x) x.clashes known (subst (AcceptsWhere positives p) (sym (as-own p x c e)) h)

@@ -4,3 +4,8 @@ pub mod OwnLemmas
 pub mod LineLemmas
 pub mod ClashLemmas
 pub mod FillLemmas
+pub mod UnknownLemmas
+pub mod RebuiltLemmas
+pub mod ClashFoundLemmas
+pub mod StepLemmas
+pub mod LeftLemmas

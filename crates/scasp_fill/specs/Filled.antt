@@ -1,6 +1,6 @@
 -- A filled tree: each hint and each clash line that it needs is found.
-use Rattle.std.specs.Prelude.{◌≢◌, ℕ, is_some, if◌then◌else◌, Option, None, Some, List, [], ◌∷◌}
-use Rattle.std.specs.List.{Contains, flat_map}
+use Rattle.std.specs.Prelude.{ℕ, Bool, true, false, ◌&&◌, ◌||◌, is_some, if◌then◌else◌, Option, None, Some, List, [], ◌∷◌}
+use Rattle.std.specs.List.{flat_map, list_all}
 use Rattle.scasp_syntax.specs.Programs.{numbered}
 use Rattle.scasp_syntax.specs.declared.con.Con.{Con}
 use Rattle.scasp_syntax.specs.declared.hint.Hint.{Hint}
@@ -67,13 +67,23 @@ clashes_found p c = flat_map (clash_for (free_of c) c.given) (all_pairs (all_tol
 abbrev pub filled : Program → Certificate → Certificate
 filled p c = shown_by (found_on p c) (clashes_found p c) c
 
--- the list does not overflow
-abbrev pub IsKnown : List Con → Type 0
-IsKnown cs = found cs ≢ unknown_list
+-- ---- whether it is known that nothing else serves
 
--- no list that a hint or a clash line of the certificate is about overflows
-abbrev pub ListsAreKnown : Program → Certificate → Type 0
-ListsAreKnown p c =
-    ((cs : List Con) → Contains (hint_lists p c) cs → IsKnown cs)
-    × ((ab : Told × Told) → Contains (all_pairs (all_told (lines p c))) ab
-    → IsKnown (pair_list (free_of c) c.given ab.0 ab.1) × IsKnown (pair_list (free_of c) c.given ab.1 ab.0))
+-- the list does not overflow
+abbrev pub is_known : Found → Bool
+is_known nothing = true
+is_known unknown_list = false
+is_known (hint h) = true
+
+-- of the two lists of a pair one has a hint, or neither overflows
+abbrev pub is_either_known : Found → Found → Bool
+is_either_known one other = is_some (hint_of one) || is_some (hint_of other) || (is_known one && is_known other)
+
+abbrev pub is_pair_known : ℕ → List Con → Told × Told → Bool
+is_pair_known free given ab = is_either_known (found (pair_list free given ab.0 ab.1)) (found (pair_list free given ab.1 ab.0))
+
+-- no list overflows that could hide a hint or a clash line
+abbrev pub is_filling_known : Program → Certificate → Bool
+is_filling_known p c =
+    list_all (λ cs. is_known (found cs)) (hint_lists p c)
+    && list_all (is_pair_known (free_of c) c.given) (all_pairs (all_told (lines p c)))
