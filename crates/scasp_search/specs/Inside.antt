@@ -1,3 +1,4 @@
+pub mod Analysed
 -- Words for contracts of private functions.
 pub mod Goals
 pub mod Heights

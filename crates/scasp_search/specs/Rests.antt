@@ -5,6 +5,7 @@ use Rattle.scasp_assume.specs.declared.step.SearchErr.{SearchErr}
 use Rattle.scasp_assume.specs.declared.step.SearchErr.TheVariants as errors
 use Rattle.scasp_cert.specs.Certificate.{Certificate, certificate_of}
 use Rattle.scasp_ends.specs.Ends.{problem}
+use Rattle.scasp_graph.specs.Analyses.{IsAnalysis}
 use Rattle.scasp_graph.specs.declared.analysis.Analysis.{Analysis}
 use Rattle.scasp_nmr.specs.Checks.{checks_of}
 use Rattle.scasp_nmr.specs.declared.items.CheckItem.{CheckItem}
@@ -92,6 +93,12 @@ IsWholeRun program query budget fresh q a rest =
       calls = 0;
       states = start q (checks_of program a.odd_rules) ∷ [];
     }
+
+-- all of the run for the query, with the checks and the map of the program's analysis
+pub record Opens (program : Program) (query budget fresh : ℕ) (q : Query) (rest : Rest) : Type 0 where
+  pub analysis : Analysis
+  pub is : IsAnalysis program analysis
+  pub whole : IsWholeRun program query budget fresh q analysis rest
 
 -- the run is of the same search within the same budget
 pub record IsSameRun (old new : Rest) : Type 0 where

@@ -1,8 +1,6 @@
 //! The search as an object that gives one event after the other.
 ghost use Rattle.std.specs.Prelude.{◌≡◌, ◌≤◌, IfOk, IsErr, Ok};
-ghost use Rattle.scasp_graph.specs.Analyses.{IsAnalysis};
-ghost use Rattle.scasp_graph.specs.declared.analysis.Analysis.{Analysis as ThisAnalysis};
-ghost use Rattle.scasp_nmr.specs.Checks.{checks_of};
+ghost use Rattle.scasp_search.specs.Inside.Analysed.{IsGoalOf};
 
 use crate::goal::Goal;
 use crate::stack::Waiting;
@@ -11,7 +9,6 @@ use crate::walk::first_event;
 use scasp_assume::SearchErr;
 use scasp_cert::Cert;
 use scasp_graph::analyse;
-use scasp_graph::laws::analyses_agree;
 use scasp_list::Memory;
 use scasp_nmr::checks;
 use scasp_syntax::{DeepCopy, Program, Query};
@@ -50,9 +47,8 @@ fn goal(
     queried: u64,
     fresh: u64,
 ) -> Result<Goal, Memory>
-    ensures { IfOk result (λ goal. (a : ThisAnalysis) → IsAnalysis program.now a → goal ≡ record { program = program.now; query = query; queried = queried; checks = checks_of program.now a.odd_rules; map = a.map; fresh = fresh }) }
+    ensures { IfOk result (λ goal. IsGoalOf program.now query queried fresh goal) }
 {
-    analyses_agree();
     let analysis = analyse(alloc, program)?;
     let checks = checks(alloc, program, &analysis)?;
     Ok(Goal {
@@ -67,9 +63,7 @@ fn goal(
 
 impl Written {
     ghost use Rattle.std.specs.Prelude.{◌≡◌, ◌≤◌, ◌<◌, ◌^◌, ◌∷◌, [], None, Some, IfOk, IfSome, OnOk, OnErr, IsErr, IsSome, IsOkAnd};
-    ghost use Rattle.scasp_graph.specs.Analyses.{IsAnalysis};
-    ghost use Rattle.scasp_graph.specs.declared.analysis.Analysis.{Analysis as ThisAnalysis};
-    ghost use Rattle.scasp_search.specs.Rests.{Gives, IsSameRun, IsWholeRun, rest_of, stop_of, stopped};
+    ghost use Rattle.scasp_search.specs.Rests.{Gives, IsSameRun, Opens, rest_of, stop_of, stopped};
     ghost use Rattle.scasp_syntax.specs.Programs.{numbered};
 
     /// The whole run for the query of this number, from 1, within so many calls. `fresh` is the first name that the samples of
@@ -82,7 +76,7 @@ impl Written {
         fresh: u64,
     ) -> Result<Written, Memory>
         requires { IsSome (numbered program.now.queries query) }
-        ensures run { IfOk result (λ w. IfSome (numbered program.now.queries query) (λ q. (a : ThisAnalysis) → IsAnalysis program.now a → IsWholeRun program.now query budget fresh q a (rest_of w))) }
+        ensures run { IfOk result (λ w. IfSome (numbered program.now.queries query) (λ q. Opens program.now query budget fresh q (rest_of w))) }
         ensures goes { IfOk result (λ w. stopped w ≡ None) }
     {
         let Some(asked) = program.query(query) else {

@@ -1,0 +1,9 @@
+pub mod Standing
+pub mod Assuming
+pub mod Equating
+pub mod Differing
+pub mod Calling
+pub mod Casing
+pub mod Stepping
+pub mod Answering
+pub mod Walking
