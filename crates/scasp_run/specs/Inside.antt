@@ -1,0 +1,6 @@
+-- Words for contracts of private functions.
+pub mod Continuing
+pub mod Events
+pub mod Progresses
+pub mod Tables
+pub mod Whole

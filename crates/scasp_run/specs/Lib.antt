@@ -1,0 +1,7 @@
+pub mod Agreeing
+pub mod Inside
+pub mod Jobs
+pub mod Queries
+pub mod Runs
+pub mod Samples
+pub mod Texts

@@ -1,0 +1,13 @@
+//! The run of a program: the answers to all its queries, checked and printed one after the other.
+#![tactic(auto)]
+
+mod ends;
+mod events;
+pub mod laws;
+mod printing;
+mod queries;
+mod runs;
+mod tables;
+
+pub use ends::{QueryEnd, RunEnd};
+pub use runs::run;
