@@ -1,5 +1,4 @@
-pub mod CompleteLemmas
-pub mod RightAnswers
-pub mod RunLemmas
-pub mod PropositionalAnswers
-pub mod PositiveLines
+pub mod CauseLemmas
+pub mod EndLemmas
+pub mod InputLemmas
+pub mod ReportLemmas

@@ -1,2 +1,2 @@
 -- What private functions alone speak of.
-pub mod Commands
+pub mod Halts

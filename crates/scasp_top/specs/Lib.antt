@@ -1,11 +1,7 @@
 pub mod Codes
+pub mod Ends
 pub mod Examples
 pub mod Inside
 pub mod Outputs
-pub mod Refusals
 pub mod Reports
-pub mod RunExamples
-pub mod Runs
 pub mod Texts
-pub mod Words
-pub mod WrittenAnswers

@@ -1,85 +1,89 @@
--- Which text belongs to the bytes of a file, and which to the words of a command.
-use Rattle.std.specs.Prelude.{◌≡◌, ◌⊎◌, ℕ, true, false, Option, None, Some, IfSome, IsSomeAnd, List, Ok, Err}
+-- What a command prints, and the status with which it ends.
+use Rattle.std.specs.Prelude.{◌≡◌, ◌==◌, ℕ, if◌then◌else◌, Option, None, Some, IfSome, List, [], Ok, Err}
 use Rattle.scasp_name.specs.Texts.{list_names}
-use Rattle.scasp_phrase.specs.declared.fault.Fault.{Fault}
-use Rattle.scasp_text.specs.declared.texts.Reading.{Reading}
-use Rattle.scasp_program.specs.Programs.{program_in}
-use Rattle.scasp_program.specs.Propositional.{is_run_today}
 use Rattle.scasp_syntax.specs.declared.program.Program.{Program}
+use Rattle.scasp_phrase.specs.declared.fault.Fault.{Fault}
+use Rattle.scasp_program.specs.Programs.{program_in, reading_of}
 use Rattle.scasp_io.specs.Counts.{Rose}
-use Rattle.scasp_top.specs.Refusals.{refusal_line, refusal_status, not_run}
-use Rattle.scasp_top.specs.Texts.{usage_line, read_line}
-use Rattle.scasp_top.specs.Runs.{Runs, RunsProgram}
+use Rattle.scasp_words.specs.declared.command.Command.{Command}
+use Rattle.scasp_run.specs.Jobs.{job}
+use Rattle.scasp_run.specs.Runs.{IsRun}
+use Rattle.scasp_run.specs.declared.ends.RunEnd.{RunEnd}
+use Rattle.scasp_top.specs.Ends.{run_status}
+use Rattle.scasp_top.specs.Texts.{usage_line, read_line, refusal_line, refusal_status, program_refusal}
 use Rattle.scasp_top.specs.declared.status.Status.{Status}
-use Rattle.scasp_top.specs.declared.status.Status.TheVariants.{Done, NoAnswer, Usage, Text, Read, Write, Spent, Overflow, Memory, Limit}
+use Rattle.scasp_top.specs.declared.status.Status.TheVariants.{Usage, Read, Memory}
 
--- the bytes are refused, and this is their first fault
-pub record IsRefused (bytes text : List ℕ) (status : Status) : Type 0 where
+-- ---- the outside
+
+-- the bytes of each file, where they are told, and the count of faults of reading it before and after the call
+pub record Outside : Type 0 where
+  pub told : List ℕ → Option (List ℕ)
+  pub before : List ℕ → ℕ
+  pub after : List ℕ → ℕ
+
+abbrev pub outside : (List ℕ → Option (List ℕ)) → (List ℕ → ℕ) → (List ℕ → ℕ) → Outside
+outside told before after = record { told = told; before = before; after = after }
+
+-- a read of the file failed
+abbrev pub Failed : Outside → List ℕ → Type 0
+Failed o file = Rose (o.before file) (o.after file)
+
+-- these are the bytes of a file, if those are told
+abbrev pub AreBytes : Option (List ℕ) → List ℕ → Type 0
+AreBytes told bytes = IfSome told (λ all. bytes ≡ all)
+
+-- ---- a file that is read
+
+-- the file, of which these bytes are told, spells this program, with this table of names
+pub record IsProgram (told : Option (List ℕ)) (p : Program) (names : List (List ℕ)) : Type 0 where
+  pub bytes : List ℕ
+  pub are : AreBytes told bytes
+  pub read : program_in list_names bytes ≡ Ok (reading_of (p, names))
+
+-- ---- what is printed
+
+-- this line alone is printed, and so the command ends
+pub record Says (line : List ℕ) (ending : Status) (text : List ℕ) (status : Status) : Type 0 where
+  pub line_is : text ≡ line
+  pub ending_is : status ≡ ending
+
+-- the bytes spell no program: the first fault is told
+pub record RefusesProgram (bytes text : List ℕ) (status : Status) : Type 0 where
   pub fault : Fault
-  pub refused : program_in list_names bytes ≡ Err fault
-  pub line : text ≡ refusal_line fault
-  pub ending : status ≡ refusal_status fault.kind
+  pub is : program_in list_names bytes ≡ Err fault
+  pub says : Says (refusal_line fault.at (program_refusal fault.kind)) (refusal_status (program_refusal fault.kind)) text status
 
--- the bytes are a program's text, of a program that is not run today
-pub record IsNotRun (bytes text : List ℕ) : Type 0 where
-  pub reading : Reading
-  pub read : program_in list_names bytes ≡ Ok reading
-  pub outside : is_run_today reading.clauses reading.queries ≡ false
-  pub line : text ≡ refusal_line not_run
+-- the file could not be read, or it spells no program
+pub data IsNoProgram (o : Outside) (file text : List ℕ) (status : Status) : Type 0 where
+  unread : Failed o file → Says read_line Read text status → IsNoProgram o file text status
+  refused : (bytes : List ℕ) → AreBytes (o.told file) bytes → RefusesProgram bytes text status → IsNoProgram o file text status
 
--- the bytes are a program's text, of a program that is run, and this is its run
-pub record RunsText (bytes text : List ℕ) (status : Status) : Type 0 where
-  pub reading : Reading
-  pub read : program_in list_names bytes ≡ Ok reading
-  pub inside : is_run_today reading.clauses reading.queries ≡ true
-  pub run : Runs reading.names reading.clauses reading.queries text status
+-- how many answers are asked for: 0 asks for all
+abbrev pub asked_answers : ℕ → Option ℕ
+asked_answers n = if n == 0 then None else Some n
 
--- the same, where moreover each answer of the run is right
-pub record RunsRightText (bytes text : List ℕ) (status : Status) : Type 0 where
-  pub reading : Reading
-  pub read : program_in list_names bytes ≡ Ok reading
-  pub inside : is_run_today reading.clauses reading.queries ≡ true
-  pub program : Program
-  pub clauses : program.clauses ≡ reading.clauses
-  pub queries : program.queries ≡ reading.queries
-  pub run : RunsProgram reading.names program text status
+-- the run of the program, whole or cut off
+pub record Runs (p : Program) (names : List (List ℕ)) (budget answers : ℕ) (text : List ℕ) (status : Status) : Type 0 where
+  pub end : Option RunEnd
+  pub run : IsRun (job p names budget (asked_answers answers)) text end
+  pub ending : status ≡ run_status end
 
--- The text that is printed and the status, for the bytes of the file: they are refused, or spell a program that is not run, or else the program is run.
-abbrev pub OutputsOf : (List ℕ → List ℕ → Status → Type 0) → List ℕ → List ℕ → Status → Type 0
-OutputsOf Run bytes text Limit = IsRefused bytes text Limit
-OutputsOf Run bytes text Text = IsRefused bytes text Text ⊎ IsNotRun bytes text
-OutputsOf Run bytes text Done = Run bytes text Done
-OutputsOf Run bytes text NoAnswer = Run bytes text NoAnswer
-OutputsOf Run bytes text Spent = Run bytes text Spent
-OutputsOf Run bytes text Overflow = Run bytes text Overflow
-OutputsOf Run bytes text Usage = ⊥
-OutputsOf Run bytes text Read = ⊥
-OutputsOf Run bytes text Write = ⊥
-OutputsOf Run bytes text Memory = ⊥
+-- This is printed for what the words ask for, and so the command ends. Want of memory may come before anything is printed, and cuts a run off.
+pub data Outputs (asked : Option Command) (o : Outside) (text : List ℕ) (status : Status) : Type 0 where
+  nothing : Says [] Memory text status → Outputs asked o text status
+  usage : asked ≡ None → Says usage_line Usage text status → Outputs asked o text status
+  no_program : (command : Command) → asked ≡ Some command → IsNoProgram o command.file text status → Outputs asked o text status
+  runs : (command : Command) (p : Program) (names : List (List ℕ)) → asked ≡ Some command → IsProgram (o.told command.file) p names
+      → Runs p names command.budget command.answers text status → Outputs asked o text status
 
--- the words name a file, and of its bytes, where they are told, this holds
-abbrev pub OfFile : Option (List ℕ) → (List ℕ → Option (List ℕ)) → (List ℕ → Type 0) → Type 0
-OfFile file told P = IsSomeAnd file (λ name. IfSome (told name) P)
+-- ---- faults
 
--- a read of the file that the words name failed: its count of faults rose
-abbrev pub HasFileFault : Option (List ℕ) → (List ℕ → ℕ) → (List ℕ → ℕ) → Type 0
-HasFileFault file faults faults' = IsSomeAnd file (λ name. Rose (faults name) (faults' name))
+-- a read of the file that the words name failed
+abbrev pub HasReadFault : Option Command → Outside → Type 0
+HasReadFault None o = ⊥
+HasReadFault (Some command) o = Failed o command.file
 
--- The text that is printed and the status, and that answers are right, for the file that the words name, the bytes that are told of it, and the counts of
--- faults of files before and after.
-abbrev pub Outputs : Option (List ℕ) → (List ℕ → Option (List ℕ)) → (List ℕ → ℕ) → (List ℕ → ℕ) → List ℕ → Status → Type 0
-Outputs file told faults faults' text Usage = (file ≡ None) × (text ≡ usage_line)
-Outputs file told faults faults' text Read = HasFileFault file faults faults' × (text ≡ read_line)
-Outputs file told faults faults' text Limit = OfFile file told (λ bytes. OutputsOf RunsRightText bytes text Limit)
-Outputs file told faults faults' text Text = OfFile file told (λ bytes. OutputsOf RunsRightText bytes text Text)
-Outputs file told faults faults' text Done = OfFile file told (λ bytes. OutputsOf RunsRightText bytes text Done)
-Outputs file told faults faults' text NoAnswer = OfFile file told (λ bytes. OutputsOf RunsRightText bytes text NoAnswer)
-Outputs file told faults faults' text Spent = OfFile file told (λ bytes. OutputsOf RunsRightText bytes text Spent)
-Outputs file told faults faults' text Overflow = OfFile file told (λ bytes. OutputsOf RunsRightText bytes text Overflow)
-Outputs file told faults faults' text Write = ⊥
-Outputs file told faults faults' text Memory = ⊥
-
--- What is printed where no read fails: the usage line where the words name no file, else what the bytes that are told of it ask for.
-pub data Expects (file : Option (List ℕ)) (told : List ℕ → Option (List ℕ)) (text : List ℕ) (status : Status) : Type 0 where
-  no_command : file ≡ None → text ≡ usage_line → status ≡ Usage → Expects file told text status
-  of_bytes : (name bytes : List ℕ) → file ≡ Some name → told name ≡ Some bytes → OutputsOf RunsText bytes text status → Expects file told text status
+-- the same outside, where no read fails
+abbrev pub without_faults : Outside → Outside
+without_faults o = outside o.told (λ _. 0) (λ _. 0)

@@ -1,12 +1,12 @@
--- The lines that are printed beside blocks.
-use Rattle.std.specs.Prelude.{ℕ, List, ◌++◌, codes}
-use Rattle.scasp_cert.specs.Certificate.{Certificate}
-use Rattle.scasp_written.specs.Machine.{Outcome, answered, ended, spent, overflowed}
-use Rattle.scasp_cert.specs.Text.Block.{block_text}
+-- The lines that are printed where no program is run.
+use Rattle.std.specs.Prelude.{ℕ, Bool, true, false, if◌then◌else◌, List, ◌++◌, codes, decimal}
+use Rattle.scasp_phrase.specs.declared.fault.Count.{Count}
+use Rattle.scasp_phrase.specs.declared.fault.Count.TheVariants as count
+use Rattle.scasp_phrase.specs.declared.fault.Fault.{Fault}
+use Rattle.scasp_phrase.specs.declared.fault.Kind.{Kind}
+use Rattle.scasp_phrase.specs.declared.fault.Kind.TheVariants as kind
 use Rattle.scasp_top.specs.declared.status.Status.{Status}
-use Rattle.scasp_top.specs.declared.status.Status.TheVariants.{Done, NoAnswer, Spent, Overflow}
-
--- The lines of the program, each with its end.
+use Rattle.scasp_top.specs.declared.status.Status.TheVariants as status
 
 abbrev pub usage_line : List ℕ
 usage_line = codes "usage: scasp run FILE [--budget N] [--answers N] | check PROGRAM ANSWERS | trial N\n"
@@ -14,21 +14,43 @@ usage_line = codes "usage: scasp run FILE [--budget N] [--answers N] | check PRO
 abbrev pub read_line : List ℕ
 read_line = codes "read program\n"
 
--- the first line of every run
-abbrev pub header_line : List ℕ
-header_line = codes "scasp 1\n"
+-- the word of what has a limit
+abbrev pub count_word : Count → List ℕ
+count_word count.Bytes = codes "bytes"
+count_word count.Clauses = codes "clauses"
+count_word count.Items = codes "items"
+count_word count.Variables = codes "variables"
+count_word count.Arity = codes "arity"
+count_word count.Depth = codes "depth"
 
--- What is printed of a query for the first event of its run: an answer as its block and the remark on its domains, and then how
--- the query ended. The one answer that is asked for stops it.
-abbrev pub query_text : List (List ℕ) → Outcome Certificate → List ℕ
-query_text names (answered c) = block_text names c 1 ++ codes "% domain any\n" ++ codes "stopped 1\n"
-query_text names ended = codes "ended 1\n"
-query_text names spent = codes "spent 1\n"
-query_text names overflowed = codes "overflow 1\n"
+-- ---- a program's text that is refused
 
--- the status of a run whose query met this event first
-abbrev pub status_of : Outcome Certificate → Status
-status_of (answered c) = Done
-status_of ended = NoAnswer
-status_of spent = Spent
-status_of overflowed = Overflow
+-- what is told of it: whether a count passed its limit, else it is outside the grammar, and the word of the count or of what is wrong
+pub record Refusal : Type 0 where
+  pub limit : Bool
+  pub word : List ℕ
+
+abbrev pub off_grammar : List ℕ → Refusal
+off_grammar word = record { limit = false; word = word }
+
+abbrev pub past_limit : List ℕ → Refusal
+past_limit word = record { limit = true; word = word }
+
+abbrev pub program_refusal : Kind → Refusal
+program_refusal kind.BadByte = off_grammar (codes "BadByte")
+program_refusal kind.Unclosed = off_grammar (codes "Unclosed")
+program_refusal kind.Expected = off_grammar (codes "Expected")
+program_refusal kind.Unsupported = off_grammar (codes "Unsupported")
+program_refusal kind.NotLinear = off_grammar (codes "NotLinear")
+program_refusal kind.NumberTooLarge = off_grammar (codes "NumberTooLarge")
+program_refusal (kind.Limit c) = past_limit (count_word c)
+
+abbrev pub refusal_status : Refusal → Status
+refusal_status r = if r.limit then status.Limit else status.Text
+
+abbrev pub first_word : Bool → List ℕ
+first_word limit = if limit then codes "limit" else codes "text"
+
+-- `text program AT KIND` or `limit program AT COUNT`
+abbrev pub refusal_line : ℕ → Refusal → List ℕ
+refusal_line at r = first_word r.limit ++ codes " program " ++ decimal at ++ codes " " ++ r.word ++ codes "\n"

@@ -1,11 +1,13 @@
-//! The line of a text that is refused.
+//! The line of a program's text that is refused.
 ghost use Rattle.std.specs.Prelude.{◌≡◌, IfOk};
-ghost use Rattle.scasp_top.specs.Refusals as spec;
+ghost use Rattle.scasp_top.specs.Inside.Halts.{IfLine};
+ghost use Rattle.scasp_top.specs.Outputs.{Says};
+ghost use Rattle.scasp_top.specs.Texts as spec;
 
-use crate::output::{Output, one_line};
+use crate::halt::Halt;
 use crate::status::Status;
 use itoa::Buffer;
-use scasp_name::Memory;
+use scasp_list::Memory;
 use scasp_phrase::{Count, Fault, Kind};
 use std::alloc::Global;
 
@@ -23,9 +25,9 @@ fn count_word(count: Count) -> &'static str
     }
 }
 
-/// The word of what is wrong.
+/// The word of what is wrong with a program's text.
 fn kind_word(kind: Kind) -> &'static str
-    ensures { result.now ≡ spec.kind_word kind }
+    ensures { result.now ≡ (spec.program_refusal kind).word }
 {
     match kind {
         Kind::BadByte => "BadByte",
@@ -38,9 +40,9 @@ fn kind_word(kind: Kind) -> &'static str
     }
 }
 
-/// The first word of the line.
-fn refusal_word(kind: Kind) -> &'static str
-    ensures { result.now ≡ spec.refusal_word kind }
+/// Whether a count of a program's text passed its limit.
+fn is_limit(kind: Kind) -> bool
+    ensures { result ≡ (spec.program_refusal kind).limit }
 {
     match kind {
         Kind::BadByte
@@ -48,41 +50,40 @@ fn refusal_word(kind: Kind) -> &'static str
         | Kind::Expected
         | Kind::Unsupported
         | Kind::NotLinear
-        | Kind::NumberTooLarge => "text",
-        Kind::Limit(_) => "limit",
+        | Kind::NumberTooLarge => false,
+        Kind::Limit(_) => true,
     }
 }
 
-/// The status with which the command ends.
-fn refusal_status(kind: Kind) -> Status
-    ensures { result ≡ spec.refusal_status kind }
+/// The line that tells why a text is refused, with its place.
+fn refusal_text(alloc: Global, at: u64, limit: bool, word: &str) -> Result<Vec<u8>, Memory>
+    ensures { IfOk result (λ text. text.items ≡ spec.refusal_line at (record { limit = limit; word = word.now })) }
 {
-    match kind {
-        Kind::BadByte
-        | Kind::Unclosed
-        | Kind::Expected
-        | Kind::Unsupported
-        | Kind::NotLinear
-        | Kind::NumberTooLarge => Status::Text,
-        Kind::Limit(_) => Status::Limit,
-    }
-}
-
-/// The line that tells why a program's text is refused, with its place, and the status.
-pub fn refusal(alloc: Global, fault: Fault) -> Result<Output, Memory>
-    ensures text { IfOk result (λ output. output.text.items ≡ spec.refusal_line fault) }
-    ensures status { IfOk result (λ output. output.status ≡ spec.refusal_status fault.kind) }
-{
-    let mut output = one_line(
-        alloc,
-        refusal_word(fault.kind).as_bytes(),
-        refusal_status(fault.kind),
-    )?;
-    let text = &mut output.text;
+    let first = if limit { "limit" } else { "text" };
+    let mut text = Vec::from_slice(alloc, first.as_bytes())?;
     text.extend_from_slice(b" program ")?;
-    text.extend_from_slice(Buffer::new().format(fault.at).as_bytes())?;
+    text.extend_from_slice(Buffer::new().format(at).as_bytes())?;
     text.extend_from_slice(b" ")?;
-    text.extend_from_slice(kind_word(fault.kind).as_bytes())?;
+    text.extend_from_slice(word.as_bytes())?;
     text.extend_from_slice(b"\n")?;
-    Ok(output)
+    Ok(text)
+}
+
+/// The same line, and the status.
+fn refusal(alloc: Global, at: u64, limit: bool, word: &str) -> Halt
+    ensures { IfLine result (Says (spec.refusal_line at (record { limit = limit; word = word.now })) (spec.refusal_status (record { limit = limit; word = word.now }))) }
+{
+    let status = if limit { Status::Limit } else { Status::Text };
+    match refusal_text(alloc, at, limit, word) {
+        Ok(text) => Halt::Line(text, status),
+        Err(Memory) => Halt::Memory,
+    }
+}
+
+/// The line of a program's first fault.
+pub(crate) fn program_refusal(alloc: Global, fault: Fault) -> Halt
+    ensures { IfLine result (Says (spec.refusal_line fault.at (spec.program_refusal fault.kind)) (spec.refusal_status (spec.program_refusal fault.kind))) }
+{
+    let word = kind_word(fault.kind);
+    refusal(alloc, fault.at, is_limit(fault.kind), word)
 }

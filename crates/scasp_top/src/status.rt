@@ -3,25 +3,25 @@
 /// How a command ended.
 #[derive(Clone, Copy, Debug, PartialEq, Eq)]
 pub enum Status {
-    /// An answer was printed.
+    /// An answer was printed, and each query ended or was stopped.
     Done,
-    /// The search ended without an answer.
+    /// The search for answers to each query ended without one.
     NoAnswer,
     /// The words are no command.
     Usage,
-    /// The program's bytes are not in the grammar, or spell a program that the search of today does not run.
+    /// The bytes of the program are not in the grammar.
     Text,
     /// The program could not be read.
     Read,
     /// A write failed.
     Write,
-    /// The search makes more calls than the budget.
+    /// The search for answers to a query makes more calls than the budget.
     Spent,
     /// Arithmetic past 128 bits.
     Overflow,
     /// Want of memory.
     Memory,
-    /// A count of the program's text passes its limit: bytes, clauses, items of a body, variables, arguments, brackets.
+    /// A count passes its limit: bytes of a file; clauses, items of a body, variables, arguments or brackets of a program's text.
     Limit,
 }
 

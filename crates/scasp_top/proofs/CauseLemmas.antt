@@ -1,0 +1,98 @@
+-- The causes of the statuses for faults.
+use Rattle.std.proofs.Common.{◌≡◌, ◌⊎◌, inl, inr, ℕ, Bool, true, false, Option, None, Some, List, [], refl, sym, subst, ◌∙◌, ap}
+use Rattle.scasp_io.specs.Counts.{Rose}
+use Rattle.scasp_words.specs.declared.command.Command.{Command}
+use Rattle.scasp_run.specs.declared.ends.RunEnd.{RunEnd}
+use Rattle.scasp_run.specs.declared.ends.RunEnd.TheVariants as run
+use Rattle.scasp_top.specs.Ends.{run_status}
+use Rattle.scasp_top.specs.Outputs.{Outside, without_faults, HasReadFault, IsNoProgram, unread, refused, Outputs, nothing, usage, no_program, runs}
+use Rattle.scasp_io.specs.Taken.{TakesWhole}
+use Rattle.scasp_top.specs.Reports.{Reports, whole, part}
+use Rattle.scasp_top.specs.Texts.{Refusal, program_refusal, refusal_status}
+use Rattle.scasp_top.specs.declared.status.Status.{Status}
+use Rattle.scasp_top.specs.declared.status.Status.TheVariants.{Done, NoAnswer, Usage, Text, Read, Write, Spent, Overflow, Memory, Limit}
+
+-- the status of a fault of the outside
+is_fault : Status → Bool
+is_fault Done = false
+is_fault NoAnswer = false
+is_fault Usage = false
+is_fault Text = false
+is_fault Read = true
+is_fault Write = true
+is_fault Spent = false
+is_fault Overflow = false
+is_fault Memory = false
+is_fault Limit = false
+
+refusal-calm : (r : Refusal) → is_fault (refusal_status r) ≡ false
+unfolding is_fault
+refusal-calm r = elim (r.limit) as (λ b. is_fault (refusal_status (record { limit = b; word = r.word })) ≡ false) [ true ↦ refl | false ↦ refl ]
+
+run-calm : (end : Option RunEnd) → is_fault (run_status end) ≡ false
+unfolding is_fault
+run-calm None = refl
+run-calm (Some run.Done) = refl
+run-calm (Some run.NoAnswer) = refl
+run-calm (Some run.Spent) = refl
+run-calm (Some run.Overflow) = refl
+
+-- the status of no fault, or that of a failed read
+Cause : Option Command → Outside → Status → Type 0
+Cause asked o status = (is_fault status ≡ false) ⊎ ((status ≡ Read) × HasReadFault asked o)
+
+calm : (asked : Option Command) (o : Outside) (status : Status) (s : Status) → status ≡ s → is_fault s ≡ false → Cause asked o status
+unfolding Cause
+calm asked o status s is h = inl (ap is_fault is ∙ h)
+
+-- a failed read of the program's file
+program-fault : (asked : Option Command) (o : Outside) (command : Command) → asked ≡ Some command → Rose (o.before command.file) (o.after command.file) → HasReadFault asked o
+program-fault asked o command is rose =
+    let P : Option Command → Type 0 = λ a. HasReadFault a o in
+    subst P (sym is) rose
+
+cause-of : (asked : Option Command) (o : Outside) (text : List ℕ) (status : Status) → Outputs asked o text status → Cause asked o status
+unfolding is_fault Cause
+cause-of asked o text status (nothing says) = calm asked o status Memory says.ending_is refl
+cause-of asked o text status (usage is says) = calm asked o status Usage says.ending_is refl
+cause-of asked o text status (no_program command is (unread rose says)) = inr (says.ending_is, program-fault asked o command is rose)
+cause-of asked o text status (no_program command is (refused bytes are r)) = calm asked o status _ (r.says).ending_is (refusal-calm (program_refusal (r.fault).kind))
+cause-of asked o text status (runs command p names is program r) = calm asked o status _ r.ending (run-calm r.end)
+
+-- ---- the clauses
+
+pub read-cause : (asked : Option Command) (o : Outside) (before after : Option (List ℕ)) (faults faults' : ℕ) (status : Status)
+    → Reports (Outputs asked o) before after faults faults' status → status ≡ Read → HasReadFault asked o
+unfolding is_fault Cause
+read-cause asked o before after faults faults' status (whole w) read = by (cause-of asked o w.text status w.may)
+  where
+    by : Cause asked o status → HasReadFault asked o
+    by (inl h) = cc (ap is_fault read, h)
+    by (inr h) = h.1
+read-cause asked o before after faults faults' status (part is rose w) read = cc
+
+pub write-cause : (asked : Option Command) (o : Outside) (before after : Option (List ℕ)) (faults faults' : ℕ) (status : Status)
+    → Reports (Outputs asked o) before after faults faults' status → status ≡ Write → Rose faults faults'
+unfolding is_fault Cause
+write-cause asked o before after faults faults' status (whole w) write = by (cause-of asked o w.text status w.may)
+  where
+    by : Cause asked o status → Rose faults faults'
+    by (inl h) = cc (ap is_fault write, h)
+    by (inr h) = cc (h.0, write)
+write-cause asked o before after faults faults' status (part is rose w) write = rose
+
+-- where no read fails, what is printed is so too where none can fail
+without : (asked : Option Command) (o : Outside) (text : List ℕ) (status : Status) → ¬ HasReadFault asked o → Outputs asked o text status → Outputs asked (without_faults o) text status
+without asked o text status fine (nothing says) = nothing says
+without asked o text status fine (usage is says) = usage is says
+without asked o text status fine (no_program command is (unread rose says)) = absurd (fine (program-fault asked o command is rose))
+without asked o text status fine (no_program command is (refused bytes are r)) = no_program command is (refused bytes are r)
+without asked o text status fine (runs command p names is program r) = runs command p names is program r
+
+pub completes : (asked : Option Command) (command : Command) (o : Outside) (before after : Option (List ℕ)) (faults faults' : ℕ) (status : Status)
+    → asked ≡ Some command → Reports (Outputs (Some command) o) before after faults faults' status → ¬ HasReadFault asked o → ¬ Rose faults faults'
+    → (status ≡ Memory) ⊎ TakesWhole (λ text. Outputs asked (without_faults o) text status) before after
+completes asked command o before after faults faults' status is (whole w) fine writes =
+    let may : Outputs asked o w.text status = rw is w.may in
+    inr (record { text = w.text; may = without asked o w.text status fine may; taken = w.taken })
+completes asked command o before after faults faults' status is (part write rose w) fine writes = absurd (writes rose)

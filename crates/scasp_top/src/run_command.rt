@@ -1,0 +1,69 @@
+//! The command `run`.
+ghost use Rattle.std.specs.Prelude.{◌≡◌, Some};
+ghost use Rattle.scasp_top.specs.Ends as spec;
+ghost use Rattle.scasp_top.specs.Outputs.{asked_answers, outside, Outputs, Runs};
+ghost use Rattle.scasp_top.specs.Reports.{Reports};
+
+use crate::halt::tell;
+use crate::inputs::program_in_file;
+use crate::status::Status;
+use scasp_io::{Files, OutputErr, Sink};
+use scasp_name::Names;
+use scasp_run::{RunEnd, run};
+use scasp_syntax::Program;
+use scasp_words::Command;
+use std::alloc::Global;
+
+/// The status of a run that ended so.
+fn run_status(end: RunEnd) -> Status
+    ensures { result ≡ spec.run_status (Some end) }
+{
+    match end {
+        RunEnd::Done => Status::Done,
+        RunEnd::NoAnswer => Status::NoAnswer,
+        RunEnd::Spent => Status::Spent,
+        RunEnd::Overflow => Status::Overflow,
+    }
+}
+
+/// How many answers are asked for: as many as the number says, or all where it is 0.
+fn asked_answers(number: u64) -> Option<u64>
+    ensures { result ≡ asked_answers number }
+{
+    if number == 0 { None } else { Some(number) }
+}
+
+/// Runs the program.
+fn run_program<K: Sink>(
+    alloc: Global,
+    program: &Program,
+    names: Names,
+    budget: u64,
+    answers: u64,
+    out: &mut K,
+) -> Status
+    ensures { Reports (Runs program.now names budget answers) (K.taken out.old) (K.taken out.new) (K.faults out.old) (K.faults out.new) result }
+{
+    match run(alloc, program, names, budget, asked_answers(answers), out) {
+        Ok(end) => run_status(end),
+        Err(OutputErr::Write) => Status::Write,
+        Err(OutputErr::Memory) => Status::Memory,
+    }
+}
+
+/// Runs the program in the file.
+pub(crate) fn run_file<F: Files, K: Sink>(
+    alloc: Global,
+    command: &Command,
+    files: &mut F,
+    out: &mut K,
+) -> Status
+    ensures { Reports (Outputs (Some command.now) (outside (F.told files.old) (F.faults files.old) (F.faults files.new))) (K.taken out.old) (K.taken out.new) (K.faults out.old) (K.faults out.new) result }
+{
+    match program_in_file(alloc, command.file.as_str(), files) {
+        Ok((program, names)) => {
+            run_program(alloc, &program, names, command.budget, command.answers, out)
+        }
+        Err(halt) => tell(&halt, out),
+    }
+}

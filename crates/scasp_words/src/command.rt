@@ -1,0 +1,62 @@
+//! Commands.
+ghost use Rattle.std.specs.Prelude.{◌≡◌, Some, None, IfOk, IsErrOf, map, string_bytes};
+ghost use Rattle.scasp_words.specs.Commands.{command_of, run_of};
+
+use crate::error::WordErr;
+use crate::options::{Options, with_options};
+use crate::word::Word;
+use std::alloc::Global;
+
+/// How many calls the search for answers to a query may make where the words do not say.
+pub const DEFAULT_BUDGET: u64 = 50_000;
+
+/// How many answers to a query are asked for where the words do not say.
+pub const DEFAULT_ANSWERS: u64 = 1;
+
+/// What the words ask for: answers to the queries of the program in a file.
+#[derive(Debug, Drop)]
+pub struct Command {
+    pub file: Word,
+    /// How many calls the search for answers to one query may make.
+    pub budget: u64,
+    /// How many answers to each query are asked for; 0 asks for all.
+    pub answers: u64,
+}
+
+/// The command that the words behind `run` are: a file, and options.
+fn run_command(alloc: Global, words: &[String]) -> Result<Command, WordErr>
+    ensures ok { IfOk result (λ command. run_of (map string_bytes words.now) ≡ Some command) }
+    ensures usage { IsErrOf result WordErr.Usage → run_of (map string_bytes words.now) ≡ None }
+{
+    let [file, options @ ..] = words else {
+        return Err(WordErr::Usage);
+    };
+    let none = Options {
+        budget: None,
+        answers: None,
+    };
+    let Some(given) = with_options(none, options) else {
+        return Err(WordErr::Usage);
+    };
+    Ok(Command {
+        file: Word::from_text(alloc, file.as_str())?,
+        budget: given.budget.unwrap_or(DEFAULT_BUDGET),
+        answers: given.answers.unwrap_or(DEFAULT_ANSWERS),
+    })
+}
+
+/// The command that the words are. `check PROGRAM ANSWERS` and `trial N` stand in the usage line, and
+/// are not built yet: their words are no command.
+///
+/// # Errors
+///
+/// `Usage` exactly where the words are no command; `Memory` for want of memory.
+pub fn parse_words(alloc: Global, words: &Vec<String>) -> Result<Command, WordErr>
+    ensures ok { IfOk result (λ command. command_of (map string_bytes words.now.items) ≡ Some command) }
+    ensures usage { IsErrOf result WordErr.Usage → command_of (map string_bytes words.now.items) ≡ None }
+{
+    match words.as_slice() {
+        [word, behind @ ..] if word.as_str() == "run" => run_command(alloc, behind),
+        _ => Err(WordErr::Usage),
+    }
+}

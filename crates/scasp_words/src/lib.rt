@@ -1,0 +1,12 @@
+//! The words of a command.
+#![tactic(auto)]
+
+mod command;
+mod error;
+mod number;
+mod options;
+mod word;
+
+pub use command::{Command, DEFAULT_ANSWERS, DEFAULT_BUDGET, parse_words};
+pub use error::WordErr;
+pub use word::Word;
