@@ -1,4 +1,4 @@
-//! Tests of reads and writes, of the edge to the system, and of whole commands.
+//! Tests of reads and writes, of the edge to the system, and of whole runs.
 #![tactic(auto)]
 
 #[cfg(test)]
@@ -6,8 +6,8 @@ mod commands;
 #[cfg(test)]
 mod objects;
 #[cfg(test)]
-mod samples;
+mod rows;
 #[cfg(test)]
-mod searches;
+mod samples;
 #[cfg(test)]
 mod system;

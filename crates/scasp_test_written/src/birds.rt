@@ -1,4 +1,5 @@
 //! An ordinary program with classical negation and denials: what each query gives first, and what the checker says of it.
+use crate::runs::{Run, Told, check as check_run};
 use scasp_cert::Cert;
 use scasp_name::Names;
 use scasp_program::read_program;
@@ -19,6 +20,255 @@ ab(X) :- penguin(X).
 ?- -flies(X).
 ?- flies(sam).
 ";
+
+/// Tweety flies.
+const TWEETY_FLIES: &str = "answer 1.1 [tweety]
+sample []
+tree
+ pos flies(tweety) rule 4 [tweety]
+  pos bird(tweety) rule 1 []
+  neg ab(tweety)
+   rule 5
+    leaf 1
+     neg penguin(tweety)
+      rule 3
+       void terms
+check 7
+ split V0 \\= sam
+  leaf 1
+   neg penguin(V0)
+    rule 3
+     void terms
+  leaf 2
+   pos penguin(sam) rule 3 []
+   pos bird(sam) rule 2 []
+check 8
+ split V1 \\= tweety
+  split V1 \\= sam
+   leaf 1
+    neg bird(V1)
+     rule 1
+      void terms
+     rule 2
+      void terms
+   leaf 2
+    pos bird(sam) rule 2 []
+    neg stone(sam)
+  leaf 2
+   seen bird(tweety) at 2
+   neg stone(tweety)
+check 9
+ split V2 \\= tweety
+  split V2 \\= sam
+   leaf 1
+    neg flies(V2)
+     rule 4
+      leaf 1
+       neg bird(V2)
+        rule 1
+         void terms
+        rule 2
+         void terms
+   leaf 1
+    neg flies(sam)
+     rule 4
+      leaf 2
+       pos bird(sam) rule 2 []
+       pos ab(sam) rule 5 [sam]
+        pos penguin(sam) rule 3 []
+  leaf 2
+   seen flies(tweety) at 1
+   neg -flies(tweety)
+    rule 6
+     leaf 1
+      neg penguin(tweety)
+       rule 3
+        void terms
+map bird/1 0 +
+map penguin/1 0 +
+map flies/1 2 +
+map ab/1 1 +
+map -flies/1 1 +
+map stone/1 0 +
+end
+";
+
+/// Whatever is no bird does not fly.
+const SOME_DO_NOT_FLY: &str = "answer 2.1 [V0]
+given V0 \\= tweety
+given V0 \\= sam
+sample [w0]
+tree
+ neg flies(V0)
+  rule 4
+   leaf 1
+    neg bird(V0)
+     rule 1
+      void terms
+     rule 2
+      void terms
+check 7
+ split V1 \\= sam
+  leaf 1
+   neg penguin(V1)
+    rule 3
+     void terms
+  leaf 2
+   pos penguin(sam) rule 3 []
+   pos bird(sam) rule 2 []
+check 8
+ split V2 \\= tweety
+  split V2 \\= sam
+   leaf 1
+    neg bird(V2)
+     rule 1
+      void terms
+     rule 2
+      void terms
+   leaf 2
+    pos bird(sam) rule 2 []
+    neg stone(sam)
+  leaf 2
+   pos bird(tweety) rule 1 []
+   neg stone(tweety)
+check 9
+ split V3 \\= tweety
+  split V3 \\= sam
+   leaf 1
+    neg flies(V3)
+     rule 4
+      leaf 1
+       neg bird(V3)
+        rule 1
+         void terms
+        rule 2
+         void terms
+   leaf 1
+    neg flies(sam)
+     rule 4
+      leaf 2
+       pos bird(sam) rule 2 []
+       pos ab(sam) rule 5 [sam]
+        pos penguin(sam) rule 3 []
+  leaf 2
+   pos flies(tweety) rule 4 [tweety]
+    pos bird(tweety) rule 1 []
+    neg ab(tweety)
+     rule 5
+      leaf 1
+       neg penguin(tweety)
+        rule 3
+         void terms
+   neg -flies(tweety)
+    rule 6
+     leaf 1
+      neg penguin(tweety)
+       rule 3
+        void terms
+map bird/1 0 +
+map penguin/1 0 +
+map flies/1 2 +
+map ab/1 1 +
+map -flies/1 1 +
+map stone/1 0 +
+end
+";
+
+/// Sam does not fly, by a rule.
+const SAM_DOES_NOT: &str = "answer 3.1 [sam]
+sample []
+tree
+ pos -flies(sam) rule 6 [sam]
+  pos penguin(sam) rule 3 []
+check 7
+ split V0 \\= sam
+  leaf 1
+   neg penguin(V0)
+    rule 3
+     void terms
+  leaf 2
+   seen penguin(sam) at 2
+   pos bird(sam) rule 2 []
+check 8
+ split V1 \\= tweety
+  split V1 \\= sam
+   leaf 1
+    neg bird(V1)
+     rule 1
+      void terms
+     rule 2
+      void terms
+   leaf 2
+    pos bird(sam) rule 2 []
+    neg stone(sam)
+  leaf 2
+   pos bird(tweety) rule 1 []
+   neg stone(tweety)
+check 9
+ split V2 \\= tweety
+  split V2 \\= sam
+   leaf 1
+    neg flies(V2)
+     rule 4
+      leaf 1
+       neg bird(V2)
+        rule 1
+         void terms
+        rule 2
+         void terms
+   leaf 1
+    neg flies(sam)
+     rule 4
+      leaf 2
+       pos bird(sam) rule 2 []
+       pos ab(sam) rule 5 [sam]
+        seen penguin(sam) at 2
+  leaf 2
+   pos flies(tweety) rule 4 [tweety]
+    pos bird(tweety) rule 1 []
+    neg ab(tweety)
+     rule 5
+      leaf 1
+       neg penguin(tweety)
+        rule 3
+         void terms
+   neg -flies(tweety)
+    rule 6
+     leaf 1
+      neg penguin(tweety)
+       rule 3
+        void terms
+map bird/1 0 +
+map penguin/1 0 +
+map flies/1 2 +
+map ab/1 1 +
+map -flies/1 1 +
+map stone/1 0 +
+end
+";
+
+static RUNS: [Run; 4] = [
+    Run {
+        text: BIRDS,
+        query: 1,
+        events: &[(Told::Block(TWEETY_FLIES), 39)],
+    },
+    Run {
+        text: BIRDS,
+        query: 2,
+        events: &[(Told::Block(SOME_DO_NOT_FLY), 47)],
+    },
+    Run {
+        text: BIRDS,
+        query: 3,
+        events: &[(Told::Block(SAM_DOES_NOT), 45)],
+    },
+    Run {
+        text: BIRDS,
+        query: 4,
+        events: &[(Told::Ended, 6)],
+    },
+];
 
 /// Whether the certificate is right.
 fn is_right(alloc: Global, program: &Program, cert: &Cert) -> Result<bool, Fail> {
@@ -64,6 +314,15 @@ fn birds_are_answered(rt: HostRuntime) -> Result<(), Fail> {
             first_is_answer(alloc, &program, *query, names.len())?,
             Some(*answered)
         );
+    }
+    Ok(())
+}
+
+/// The first event for each query.
+#[test]
+fn first_birds_are_told(rt: HostRuntime) -> Result<(), Fail> {
+    for run in &RUNS {
+        check_run(&rt, rt.alloc(), run)?;
     }
     Ok(())
 }

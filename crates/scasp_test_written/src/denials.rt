@@ -1,14 +1,46 @@
-//! Denials that are checked.
+//! Odd rules and denials, which are checked.
 use crate::runs::{Run, Told, check};
 use std::test::Fail;
 
-static RUNS: [Run; 1] = [Run {
-    text: "q. :- 2*X #> 3, 2*X #< 3. ?- q.",
-    query: 1,
-    budget: 100,
-    events: &[(
-        Told::Block(
-            "answer 1.1 []
+static RUNS: [Run; 4] = [
+    Run {
+        text: "p :- not p. q. ?- q.",
+        query: 1,
+        events: &[(Told::Ended, 7)],
+    },
+    Run {
+        text: "p :- not p. p. ?- p.",
+        query: 1,
+        events: &[
+            (
+                Told::Block(
+                    "answer 1.1 []
+sample []
+tree
+ pos p rule 2 []
+check 1
+ leaf 1
+  seen p at 1
+map p/0 0 +
+end
+",
+                ),
+                4,
+            ),
+            (Told::Ended, 5),
+        ],
+    },
+    Run {
+        text: "-p. p. ?- p.",
+        query: 1,
+        events: &[(Told::Ended, 6)],
+    },
+    Run {
+        text: "q. :- 2*X #> 3, 2*X #< 3. ?- q.",
+        query: 1,
+        events: &[(
+            Told::Block(
+                "answer 1.1 []
 sample []
 tree
  pos q rule 1 []
@@ -27,10 +59,11 @@ check 2
 map q/0 0 +
 end
 ",
-        ),
-        4,
-    )],
-}];
+            ),
+            4,
+        )],
+    },
+];
 
 #[test]
 fn denials_are_met(rt: HostRuntime) -> Result<(), Fail> {

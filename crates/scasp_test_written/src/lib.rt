@@ -4,11 +4,15 @@
 #[cfg(test)]
 mod birds;
 #[cfg(test)]
+mod counts;
+#[cfg(test)]
 mod denials;
 #[cfg(test)]
 mod loops;
 #[cfg(test)]
 mod numbers;
+#[cfg(test)]
+mod positives;
 #[cfg(test)]
 mod runs;
 #[cfg(test)]

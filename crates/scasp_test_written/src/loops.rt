@@ -1,10 +1,75 @@
-//! Loops, and budgets.
+//! Negation: loops over it, literals seen again, predicates without rules.
 use crate::runs::{Run, Told, check};
 use std::test::Fail;
 
-const EVEN: &str = "p :- not q. q :- not p. ?- p.";
-
-const EVEN_BLOCK: &str = "answer 1.1 []
+static RUNS: [Run; 7] = [
+    Run {
+        text: "p :- p. ?- p.",
+        query: 1,
+        events: &[(Told::Ended, 2)],
+    },
+    Run {
+        text: "p :- p. ?- not p.",
+        query: 1,
+        events: &[
+            (
+                Told::Block(
+                    "answer 1.1 []
+sample []
+tree
+ neg p
+  rule 1
+   leaf 1
+    loop not p at 1
+map p/0 0 +
+end
+",
+                ),
+                3,
+            ),
+            (Told::Ended, 3),
+        ],
+    },
+    Run {
+        text: "p :- not q, x. q :- not x. x :- p. ?- p.",
+        query: 1,
+        events: &[(Told::Ended, 7)],
+    },
+    Run {
+        text: "p :- not q, x. q :- not x. x :- p. ?- not p.",
+        query: 1,
+        events: &[
+            (
+                Told::Block(
+                    "answer 1.1 []
+sample []
+tree
+ neg p
+  rule 1
+   leaf 1
+    pos q rule 2 []
+     neg x
+      rule 3
+       leaf 1
+        loop not p at 1
+map p/0 0 +
+map q/0 0 -
+map x/0 0 +
+end
+",
+                ),
+                6,
+            ),
+            (Told::Ended, 10),
+        ],
+    },
+    Run {
+        text: "p :- not q. q :- not p. ?- p.",
+        query: 1,
+        events: &[
+            (
+                Told::Block(
+                    "answer 1.1 []
 sample []
 tree
  pos p rule 1 []
@@ -15,36 +80,30 @@ tree
 map p/0 0 +
 map q/0 0 -
 end
-";
-
-static RUNS: [Run; 9] = [
-    Run {
-        text: "p. ?- p.",
-        query: 1,
-        budget: 50,
-        events: &[
-            (
-                Told::Block("answer 1.1 []\nsample []\ntree\n pos p rule 1 []\nmap p/0 0 +\nend\n"),
-                1,
+",
+                ),
+                4,
             ),
-            (Told::Ended, 1),
-            (Told::Ended, 1),
+            (Told::Ended, 4),
         ],
     },
     Run {
-        text: "p :- p. ?- p.",
+        text: "a :- not b, not c. ?- a.",
         query: 1,
-        budget: 50,
-        events: &[(Told::Ended, 2)],
-    },
-    Run {
-        text: "p :- p. ?- not p.",
-        query: 1,
-        budget: 50,
         events: &[
             (
                 Told::Block(
-                    "answer 1.1 []\nsample []\ntree\n neg p\n  rule 1\n   leaf 1\n    loop not p at 1\nmap p/0 0 +\nend\n",
+                    "answer 1.1 []
+sample []
+tree
+ pos a rule 1 []
+  neg b
+  neg c
+map a/0 1 +
+map b/0 0 +
+map c/0 0 +
+end
+",
                 ),
                 3,
             ),
@@ -52,45 +111,28 @@ static RUNS: [Run; 9] = [
         ],
     },
     Run {
-        text: "p :- not q, x. q :- not x. x :- p. ?- p.",
+        text: "a :- not b, d. d :- not b. ?- a.",
         query: 1,
-        budget: 50,
-        events: &[(Told::Ended, 7)],
-    },
-    Run {
-        text: "p :- not p. q. ?- q.",
-        query: 1,
-        budget: 50,
-        events: &[(Told::Ended, 7)],
-    },
-    Run {
-        text: EVEN,
-        query: 1,
-        budget: 4,
-        events: &[(Told::Block(EVEN_BLOCK), 4), (Told::Ended, 4)],
-    },
-    Run {
-        text: EVEN,
-        query: 1,
-        budget: 3,
-        events: &[(Told::Spent, 3), (Told::Spent, 3)],
-    },
-    Run {
-        text: "n(s(X)) :- n(X). ?- n(Y).",
-        query: 1,
-        budget: 50,
-        events: &[(Told::Spent, 50), (Told::Spent, 50)],
-    },
-    Run {
-        text: "p :- q, r. r :- q. q. ?- p.",
-        query: 1,
-        budget: 50,
-        events: &[(
-            Told::Block(
-                "answer 1.1 []\nsample []\ntree\n pos p rule 1 []\n  pos q rule 3 []\n  pos r rule 2 []\n   seen q at 2\nmap p/0 2 +\nmap q/0 0 +\nmap r/0 1 +\nend\n",
+        events: &[
+            (
+                Told::Block(
+                    "answer 1.1 []
+sample []
+tree
+ pos a rule 1 []
+  neg b
+  pos d rule 2 []
+   seen not b at 2
+map a/0 2 +
+map b/0 0 +
+map d/0 1 +
+end
+",
+                ),
+                4,
             ),
-            4,
-        )],
+            (Told::Ended, 4),
+        ],
     },
 ];
 

@@ -2,11 +2,29 @@
 use crate::runs::{Run, Told, check};
 use std::test::Fail;
 
-static RUNS: [Run; 5] = [
+static RUNS: [Run; 6] = [
+    Run {
+        text: "p(0.50). ?- p(X).",
+        query: 1,
+        events: &[
+            (
+                Told::Block(
+                    "answer 1.1 [1/2]
+sample []
+tree
+ pos p(1/2) rule 1 []
+map p/1 0 +
+end
+",
+                ),
+                1,
+            ),
+            (Told::Ended, 1),
+        ],
+    },
     Run {
         text: "p(X) :- not q(X). q(3). ?- p(X).",
         query: 1,
-        budget: 100,
         events: &[
             (
                 Told::Block(
@@ -26,7 +44,6 @@ static RUNS: [Run; 5] = [
     Run {
         text: "ok(X) :- X #> 3, X #< 5. ?- ok(X).",
         query: 1,
-        budget: 100,
         events: &[(
             Told::Block(
                 "answer 1.1 [V0]\ngiven num(V0)\ngiven -V0+3 #< 0\ngiven V0-5 #< 0\nsample [4]\ntree\n pos ok(V0) rule 1 [V0]\n  test num(V0) terms\n  test -V0+3 #< 0 terms\n  test V0-5 #< 0 terms\nmap ok/1 0 +\nend\n",
@@ -37,13 +54,11 @@ static RUNS: [Run; 5] = [
     Run {
         text: "t(X,Y) :- 85070591730234615865843651857942052864*X+3*Y #= 1, 5*X-Y #= 2. ?- t(X,Y).",
         query: 1,
-        budget: 100,
         events: &[(Told::Overflow, 1), (Told::Overflow, 1)],
     },
     Run {
         text: "t(X,Y) :- 4*X+3*Y #= 1, 5*X-Y #= 2. ?- t(X,Y).",
         query: 1,
-        budget: 100,
         events: &[(
             Told::Block(
                 "answer 1.1 [V0,V1]
@@ -69,7 +84,6 @@ end
     Run {
         text: "bad :- v(X), X #> 10. v(3). v(7). ?- not bad.",
         query: 1,
-        budget: 100,
         events: &[(
             Told::Block(
                 "answer 1.1 []

@@ -4,11 +4,13 @@ use scasp_name::Names;
 use scasp_print::print_cert;
 use scasp_program::read_program;
 use scasp_search::{Event, Written};
+use scasp_syntax::Program;
 use std::alloc::Global;
 use std::process::Abort;
 use std::test::Fail;
 
 /// An event: the block of an answer, the end, the end of the budget, an overflow.
+#[derive(Clone, Copy)]
 pub(crate) enum Told {
     Block(&'static str),
     Ended,
@@ -16,16 +18,16 @@ pub(crate) enum Told {
     Overflow,
 }
 
-/// A program's text, the number of a query, the budget, and the events with the calls before each.
+/// A program's text, the number of a query, and the events with the calls before each. The budget is the calls before the
+/// last one.
 pub(crate) struct Run {
     pub text: &'static str,
     pub query: u64,
-    pub budget: u64,
     pub events: &'static [(Told, u64)],
 }
 
 /// Whether the block of the certificate is this one.
-fn is_block(alloc: Global, names: &Names, cert: &Cert, told: &Told) -> Result<bool, Fail> {
+fn is_block(alloc: Global, names: &Names, cert: &Cert, told: Told) -> Result<bool, Fail> {
     match told {
         Told::Block(text) => {
             let block = print_cert(alloc, names, cert, 1)?;
@@ -36,7 +38,7 @@ fn is_block(alloc: Global, names: &Names, cert: &Cert, told: &Told) -> Result<bo
 }
 
 /// Whether the event is this one.
-fn is_told(alloc: Global, names: &Names, event: &Event, told: &Told) -> Result<bool, Fail> {
+fn is_told(alloc: Global, names: &Names, event: &Event, told: Told) -> Result<bool, Fail> {
     match event {
         Event::Answer(cert) => is_block(alloc, names, cert, told),
         Event::Ended => Ok(matches!(told, Told::Ended)),
@@ -45,34 +47,69 @@ fn is_told(alloc: Global, names: &Names, event: &Event, told: &Told) -> Result<b
     }
 }
 
-/// Each event is the one that is told, with the calls before it.
+/// What comes within the budget in place of an event before which there are so many calls.
+fn within(told: Told, calls: u64, budget: u64) -> (Told, u64) {
+    if calls <= budget {
+        (told, calls)
+    } else {
+        (Told::Spent, budget)
+    }
+}
+
+/// Each event within the budget is the one that is told, with the calls before it.
 fn check_events(
     rt: &impl Abort,
     alloc: Global,
     names: &Names,
     search: Written,
+    budget: u64,
     events: &[(Told, u64)],
 ) -> Result<(), Fail> {
     let mut search = search;
     for (told, calls) in events {
+        let (told, calls) = within(*told, *calls, budget);
         let event = search.next()?;
         assert!(rt; is_told(alloc, names, &event, told)?);
-        assert_eq!(rt; search.calls(), *calls);
+        assert_eq!(rt; search.calls(), calls);
     }
     Ok(())
 }
 
-/// Opens the search of the run, and checks its events. The names of samples are `w0` and `w1`.
+/// The calls before the last of the events.
+fn last_calls(events: &[(Told, u64)]) -> u64 {
+    match events.last() {
+        Some((_, calls)) => *calls,
+        None => 0,
+    }
+}
+
+/// Checks the events of the run within two budgets: the one that just serves, and one less.
+fn check_budgets(
+    rt: &impl Abort,
+    alloc: Global,
+    program: &Program,
+    fresh: u64,
+    names: &Names,
+    run: &Run,
+) -> Result<(), Fail> {
+    let serves = last_calls(run.events);
+    for budget in &[serves, serves.saturating_sub(1)] {
+        if program.query(run.query).is_none() {
+            assert!(rt; false);
+            return Ok(());
+        }
+        let search = Written::open(alloc, program, run.query, *budget, fresh)?;
+        check_events(rt, alloc, names, search, *budget, run.events)?;
+    }
+    Ok(())
+}
+
+/// Checks the events of the run. The names of samples are `w0` and `w1`.
 pub(crate) fn check(rt: &impl Abort, alloc: Global, run: &Run) -> Result<(), Fail> {
     let (program, table) = read_program(alloc, run.text.as_bytes(), Names::new(alloc)?)?;
     let mut names = table;
     let fresh = names.len();
     let _first = names.intern("w0")?;
     let _second = names.intern("w1")?;
-    if program.query(run.query).is_none() {
-        assert!(rt; false);
-        return Ok(());
-    }
-    let search = Written::open(alloc, &program, run.query, run.budget, fresh)?;
-    check_events(rt, alloc, &names, search, run.events)
+    check_budgets(rt, alloc, &program, fresh, &names, run)
 }

@@ -2,11 +2,10 @@
 use crate::runs::{Run, Told, check};
 use std::test::Fail;
 
-static RUNS: [Run; 6] = [
+static RUNS: [Run; 9] = [
     Run {
         text: "p(X) :- not q(X). q(a). ?- p(X).",
         query: 1,
-        budget: 50,
         events: &[
             (
                 Told::Block(
@@ -18,15 +17,8 @@ static RUNS: [Run; 6] = [
         ],
     },
     Run {
-        text: "p(X) :- X = f(X). ?- p(Y).",
-        query: 1,
-        budget: 50,
-        events: &[(Told::Ended, 1)],
-    },
-    Run {
         text: "p :- q(X), not r(X). q(a). q(b). r(a). r(b). ?- not p.",
         query: 1,
-        budget: 100,
         events: &[(
             Told::Block(
                 "answer 1.1 []
@@ -61,7 +53,6 @@ end
     Run {
         text: "p :- not r(X). r(X) :- s(f(X)). s(Y). ?- not p.",
         query: 1,
-        budget: 100,
         events: &[(
             Told::Block(
                 "answer 1.1 []
@@ -85,7 +76,6 @@ end
     Run {
         text: "q(f(a)). p(X) :- not q(X). ?- p(X).",
         query: 1,
-        budget: 100,
         events: &[
             (
                 Told::Block(
@@ -128,7 +118,6 @@ end
     Run {
         text: "all :- not missing. missing :- node(X), not seen(X). node(a). seen(a). ?- all.",
         query: 1,
-        budget: 100,
         events: &[(
             Told::Block(
                 "answer 1.1 []
@@ -154,6 +143,93 @@ end
             ),
             9,
         )],
+    },
+    // The literal's side comes first.
+    Run {
+        text: "e(X,X). p(A,B) :- not e(A,B). ?- p(A,B).",
+        query: 1,
+        events: &[
+            (
+                Told::Block(
+                    "answer 1.1 [V0,V1]
+given V1 \\= V0
+sample [w0,w1]
+tree
+ pos p(V0,V1) rule 2 [V0,V1]
+  neg e(V0,V1)
+   rule 1
+    void terms
+map e/2 0 +
+map p/2 1 +
+end
+",
+                ),
+                2,
+            ),
+            (Told::Ended, 3),
+        ],
+    },
+    // The later of two contrary literals comes first.
+    Run {
+        text: "t(f(W)). p(X,Y) :- t(X), not t(Y). ?- p(X,Y).",
+        query: 1,
+        events: &[
+            (
+                Told::Block(
+                    "answer 1.1 [f(V0),V1]
+given V1 \\= f(V0)
+given V1 \\= f/1
+sample [w0,w1]
+tree
+ pos p(f(V0),V1) rule 2 [f(V0),V1]
+  pos t(f(V0)) rule 1 [V0]
+  neg t(V1)
+   rule 1
+    void terms
+map t/1 0 +
+map p/2 1 +
+end
+",
+                ),
+                3,
+            ),
+            (Told::Ended, 4),
+        ],
+    },
+    // A variable of a rule that is void is counted too.
+    Run {
+        text: "q(a) :- r(Y). q(Z) :- s(Z,W). p(X) :- not q(X). ?- p(b).",
+        query: 1,
+        events: &[
+            (
+                Told::Block(
+                    "answer 1.1 []
+sample []
+tree
+ pos p(b) rule 3 [b]
+  neg q(b)
+   rule 1
+    void terms
+   rule 2
+    leaf 1
+     neg s(b,V1)
+map q/1 1 +
+map r/1 0 +
+map s/2 0 +
+map p/1 2 +
+end
+",
+                ),
+                4,
+            ),
+            (Told::Ended, 4),
+        ],
+    },
+    // Tests cost no call, in whatever part their terms differ.
+    Run {
+        text: "p(X,Y) :- f(U,X) \\= f(U,a), f(U,Y) \\= f(U,b). ?- not p(X,Y), X \\= X.",
+        query: 1,
+        events: &[(Told::Ended, 2)],
     },
 ];
 

@@ -1,0 +1,27 @@
+//! Whole runs of worked programs.
+use scasp_io::Memory;
+use scasp_worked::{BIRDS, LOOPS, NUMBERS, PASSED, QUERIES, Row, SOUND, TERMS, printed};
+use std::alloc::Global;
+use std::process::Abort;
+use std::test::Fail;
+
+/// Whether the run prints what it should, and ends so.
+fn is_run(alloc: Global, row: &Row) -> Result<bool, Memory> {
+    let (status, bytes) = printed(alloc, &row.run(), SOUND)?;
+    Ok(status == row.status && bytes.as_slice() == row.printed.as_bytes())
+}
+
+fn check_runs(rt: &impl Abort, alloc: Global, rows: &[Row]) -> Result<(), Memory> {
+    for (number, row) in rows.iter().enumerate() {
+        assert!(rt; is_run(alloc, row)?, "at {number}");
+    }
+    Ok(())
+}
+
+#[test]
+fn worked_programs_are_run(rt: HostRuntime) -> Result<(), Fail> {
+    for rows in [LOOPS, QUERIES, TERMS, NUMBERS, BIRDS, &[PASSED]] {
+        check_runs(&rt, rt.alloc(), rows)?;
+    }
+    Ok(())
+}

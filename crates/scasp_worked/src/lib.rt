@@ -1,0 +1,20 @@
+//! Worked runs: programs with what `run` prints of them, and commands over files in memory.
+#![tactic(auto)]
+
+mod birds;
+mod commands;
+mod loops;
+mod numbers;
+mod passed;
+mod queries;
+mod rows;
+mod terms;
+
+pub use birds::BIRDS;
+pub use commands::{Command, Device, SOUND, printed};
+pub use loops::{EVEN_LOOP, FACT, FACT_PRINTED, FACT_PROGRAM, LOOPS, THROUGH_NEGATION};
+pub use numbers::{FORALL_OVER_NUMBERS, LINEAR_DENIAL, NUMBER_OR_NOT, NUMBERS};
+pub use passed::PASSED;
+pub use queries::QUERIES;
+pub use rows::Row;
+pub use terms::{DEFAULT, FORALL_OVER_FACTS, TERMS};

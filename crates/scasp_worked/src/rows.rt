@@ -1,0 +1,30 @@
+//! What the tables of worked runs have.
+use crate::commands::Command;
+use scasp_top::Status;
+
+/// The words of a run, the text of the file `p`, what is printed, and the status.
+#[derive(Clone, Copy)]
+pub struct Row<'a> {
+    pub words: &'a [&'a str],
+    pub program: &'a str,
+    pub printed: &'a str,
+    pub status: Status,
+}
+
+/// A run of a program without a query.
+pub(crate) const RUN: Row = Row {
+    words: &["run", "p"],
+    program: "",
+    printed: "scasp 1\n",
+    status: Status::Done,
+};
+
+impl<'a> Row<'a> {
+    /// The run.
+    pub fn run(&self) -> Command<'a> {
+        Command {
+            words: self.words,
+            program: self.program,
+        }
+    }
+}
