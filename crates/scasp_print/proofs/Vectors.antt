@@ -3,12 +3,11 @@ use Rattle.std.proofs.Common.{lit<}
 use Rattle.std.specs.Prelude.{◌≡◌, ℕ, true, false, List, [], ◌∷◌, pos, negsuc, codes, decimal, refl}
 use Rattle.std.proofs.lemmas.Fmt.{decimal_digit}
 use Rattle.scasp_num.specs.declared.linear.Op.TheVariants as op
-use Rattle.scasp_syntax.specs.Tm.{Tms, var, app, nil, cons}
-use Rattle.scasp_syntax.specs.declared.con.Con.{Con}
+use Rattle.scasp_syntax.specs.Tm.{var, app, nil, cons}
 use Rattle.scasp_syntax.specs.declared.con.Con.TheVariants as con
 use Rattle.scasp_syntax.specs.declared.term.Term.TheVariants as term
 use Rattle.scasp_syntax.specs.declared.hint.Hint.TheVariants as hint
-use Rattle.scasp_cert.specs.Trees.{Branch, pos_tree, neg_tree, loop_tree, test_tree, no_tree, tree, split, leaf, no_branch, branch}
+use Rattle.scasp_cert.specs.Trees.{pos_tree, neg_tree, loop_tree, test_tree, no_tree, tree, split, leaf, no_branch, branch}
 use Rattle.scasp_cert.specs.Text.Terms.{list_text, atom_text, lit_text}
 use Rattle.scasp_cert.specs.Text.Hints.{step_text}
 use Rattle.scasp_cert.specs.Text.Trees.{line_text}

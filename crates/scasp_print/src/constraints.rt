@@ -5,7 +5,8 @@ ghost use Rattle.scasp_cert.specs.Text.Terms.{term_text};
 ghost use Rattle.scasp_cert.specs.Text.Constraints as spec;
 
 use crate::names::{put_constant, put_name};
-use crate::terms::{put_term, put_var};
+use crate::pieces::put_var;
+use crate::terms::put_term;
 use crate::text::{put, put_integer, put_number};
 use scasp_name::{Memory, NameId, Names};
 use scasp_num::{Coeff, Coeffs, Op, Row};

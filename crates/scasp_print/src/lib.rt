@@ -4,7 +4,10 @@
 mod block;
 mod constraints;
 mod hints;
+mod lines;
 mod names;
+mod pieces;
+mod stack;
 mod terms;
 mod text;
 mod trees;

@@ -1,168 +1,39 @@
-//! Justification trees, a line for each node, rule and case.
-ghost use Rattle.std.specs.Prelude.{◌≡◌, ◌++◌, OnOk, codes, decimal};
+//! Justification trees as text. What is still to be put waits on a stack in memory, so that no tree is too deep for the
+//! machine's stack.
+ghost use Rattle.std.specs.Prelude.{◌≡◌, ◌++◌, ◌+◌, ◌*◌, ◌<◌, map, reverse, OnOk};
+ghost use Rattle.scasp_cert.specs.Lines.{lines_at, lines_below, lines_in, lines_of};
 ghost use Rattle.scasp_cert.specs.Trees.{listed, covering};
-ghost use Rattle.scasp_cert.specs.View.{tree_of, trees_of, branch_of, covers_of};
-ghost use Rattle.scasp_cert.specs.Text.Terms.{atom_text, lit_text, list_text};
-ghost use Rattle.scasp_cert.specs.Text.Constraints.{con_text};
-ghost use Rattle.scasp_cert.specs.Text.Hints.{hint_text};
+ghost use Rattle.scasp_cert.specs.View.{tree_of, trees_of, branch_of, cover_of};
 ghost use Rattle.scasp_cert.specs.Text.Trees as spec;
+ghost use Rattle.scasp_print.specs.Inside.Waiting.{all_text, text_of, weight, weights};
 
-use crate::constraints::put_con;
-use crate::hints::put_hint;
-use crate::terms::{put_atom, put_list, put_lit};
-use crate::text::{below, put, put_indent, put_number};
-use scasp_cert::{Case, Covers, Node, Nodes};
+use crate::lines::{
+    put_head_line, put_leaf_line, put_loop_line, put_neg_line, put_pos_line, put_rule_line,
+    put_seen_line, put_split_line, put_test_line, put_void_line,
+};
+use crate::stack::wait;
+use crate::text::below;
+use scasp_cert::{Case, Cover, Node, Nodes};
 use scasp_name::{Memory, Names};
-use scasp_syntax::{Atom, Con, Hint, Lit, Terms};
 
-fn put_pos(
-    out: &mut Vec<u8>,
-    names: &Names,
-    atom: &Atom,
-    rule: u64,
-    terms: &Terms,
-) -> Result<(), Memory>
-    ensures { OnOk result (out.new.items ≡ out.old.items ++ (codes "pos " ++ atom_text names.now atom.now ++ codes " rule " ++ decimal rule ++ codes " " ++ list_text names.now terms.now)) }
-{
-    put(out, "pos ")?;
-    put_atom(out, names, atom)?;
-    put(out, " rule ")?;
-    put_number(out, rule)?;
-    put(out, " ")?;
-    put_list(out, names, terms)
+/// A part of a tree that is still to be put, behind so many blanks.
+#[derive(Drop)]
+enum Waiting<'a> {
+    Nodes(u64, &'a [Node]),
+    Rules(u64, &'a [Cover]),
+    Case(u64, &'a Case),
 }
 
-#[tactic(auto, unfolding(scasp_cert::specs::Text::Trees::line_text))]
-fn put_pos_line(
+/// Puts the line of a node; what stands below it waits.
+fn put_node<'a>(
     out: &mut Vec<u8>,
     names: &Names,
     depth: u64,
-    atom: &Atom,
-    rule: u64,
-    terms: &Terms,
+    node: &'a Node,
+    waiting: &mut Vec<Waiting<'a>>,
 ) -> Result<(), Memory>
-    ensures { OnOk result (out.new.items ≡ out.old.items ++ spec.line_text depth (codes "pos " ++ atom_text names.now atom.now ++ codes " rule " ++ decimal rule ++ codes " " ++ list_text names.now terms.now)) }
-{
-    put_indent(out, depth)?;
-    put_pos(out, names, atom, rule, terms)?;
-    put(out, "\n")
-}
-
-#[tactic(auto, unfolding(scasp_cert::specs::Text::Trees::line_text))]
-fn put_neg_line(out: &mut Vec<u8>, names: &Names, depth: u64, atom: &Atom) -> Result<(), Memory>
-    ensures { OnOk result (out.new.items ≡ out.old.items ++ spec.line_text depth (codes "neg " ++ atom_text names.now atom.now)) }
-{
-    put_indent(out, depth)?;
-    put(out, "neg ")?;
-    put_atom(out, names, atom)?;
-    put(out, "\n")
-}
-
-#[tactic(auto, unfolding(scasp_cert::specs::Text::Trees::line_text))]
-fn put_loop_line(
-    out: &mut Vec<u8>,
-    names: &Names,
-    depth: u64,
-    lit: &Lit,
-    at: u64,
-) -> Result<(), Memory>
-    ensures { OnOk result (out.new.items ≡ out.old.items ++ spec.line_text depth (codes "loop " ++ lit_text names.now lit.now ++ codes " at " ++ decimal at)) }
-{
-    put_indent(out, depth)?;
-    put(out, "loop ")?;
-    put_lit(out, names, lit)?;
-    put(out, " at ")?;
-    put_number(out, at)?;
-    put(out, "\n")
-}
-
-#[tactic(auto, unfolding(scasp_cert::specs::Text::Trees::line_text))]
-fn put_seen_line(
-    out: &mut Vec<u8>,
-    names: &Names,
-    depth: u64,
-    lit: &Lit,
-    at: u64,
-) -> Result<(), Memory>
-    ensures { OnOk result (out.new.items ≡ out.old.items ++ spec.line_text depth (codes "seen " ++ lit_text names.now lit.now ++ codes " at " ++ decimal at)) }
-{
-    put_indent(out, depth)?;
-    put(out, "seen ")?;
-    put_lit(out, names, lit)?;
-    put(out, " at ")?;
-    put_number(out, at)?;
-    put(out, "\n")
-}
-
-#[tactic(auto, unfolding(scasp_cert::specs::Text::Trees::line_text))]
-fn put_test_line(
-    out: &mut Vec<u8>,
-    names: &Names,
-    depth: u64,
-    con: &Con,
-    hint: &Hint,
-) -> Result<(), Memory>
-    ensures { OnOk result (out.new.items ≡ out.old.items ++ spec.line_text depth (codes "test " ++ con_text names.now con.now ++ codes " " ++ hint_text hint.now)) }
-{
-    put_indent(out, depth)?;
-    put(out, "test ")?;
-    put_con(out, names, con)?;
-    put(out, " ")?;
-    put_hint(out, hint)?;
-    put(out, "\n")
-}
-
-#[tactic(auto, unfolding(scasp_cert::specs::Text::Trees::line_text))]
-fn put_split_line(out: &mut Vec<u8>, names: &Names, depth: u64, con: &Con) -> Result<(), Memory>
-    ensures { OnOk result (out.new.items ≡ out.old.items ++ spec.line_text depth (codes "split " ++ con_text names.now con.now)) }
-{
-    put_indent(out, depth)?;
-    put(out, "split ")?;
-    put_con(out, names, con)?;
-    put(out, "\n")
-}
-
-#[tactic(auto, unfolding(scasp_cert::specs::Text::Trees::line_text))]
-fn put_void_line(out: &mut Vec<u8>, depth: u64, hint: &Hint) -> Result<(), Memory>
-    ensures { OnOk result (out.new.items ≡ out.old.items ++ spec.line_text depth (codes "void " ++ hint_text hint.now)) }
-{
-    put_indent(out, depth)?;
-    put(out, "void ")?;
-    put_hint(out, hint)?;
-    put(out, "\n")
-}
-
-#[tactic(auto, unfolding(scasp_cert::specs::Text::Trees::line_text))]
-fn put_leaf_line(out: &mut Vec<u8>, depth: u64, item: u64) -> Result<(), Memory>
-    ensures { OnOk result (out.new.items ≡ out.old.items ++ spec.line_text depth (codes "leaf " ++ decimal item)) }
-{
-    put_indent(out, depth)?;
-    put(out, "leaf ")?;
-    put_number(out, item)?;
-    put(out, "\n")
-}
-
-#[tactic(auto, unfolding(scasp_cert::specs::Text::Trees::line_text))]
-fn put_head_line(out: &mut Vec<u8>, depth: u64) -> Result<(), Memory>
-    ensures { OnOk result (out.new.items ≡ out.old.items ++ spec.line_text depth (codes "head")) }
-{
-    put_indent(out, depth)?;
-    put(out, "head\n")
-}
-
-#[tactic(auto, unfolding(scasp_cert::specs::Text::Trees::line_text))]
-fn put_rule_line(out: &mut Vec<u8>, depth: u64, rule: u64) -> Result<(), Memory>
-    ensures { OnOk result (out.new.items ≡ out.old.items ++ spec.line_text depth (codes "rule " ++ decimal rule)) }
-{
-    put_indent(out, depth)?;
-    put(out, "rule ")?;
-    put_number(out, rule)?;
-    put(out, "\n")
-}
-
-#[cycle(tree)]
-fn put_node(out: &mut Vec<u8>, names: &Names, depth: u64, node: &Node) -> Result<(), Memory>
-    ensures { OnOk result (out.new.items ≡ out.old.items ++ spec.tree_text names.now depth (tree_of node.now)) }
+    ensures text { OnOk result (out.new.items ++ all_text names.now (reverse waiting.new.items) ≡ out.old.items ++ (spec.tree_text names.now depth (tree_of node.now) ++ all_text names.now (reverse waiting.old.items))) }
+    ensures falls { OnOk result (weights (reverse waiting.new.items) < weights (reverse waiting.old.items) + 2 * lines_of (tree_of node.now)) }
 {
     match node {
         Node::Pos {
@@ -172,11 +43,11 @@ fn put_node(out: &mut Vec<u8>, names: &Names, depth: u64, node: &Node) -> Result
             children,
         } => {
             put_pos_line(out, names, depth, atom, *rule, terms)?;
-            put_nodes(out, names, below(depth)?, children)
+            wait(waiting, Waiting::Nodes(below(depth)?, children.as_slice()))
         }
         Node::Neg { atom, covers } => {
             put_neg_line(out, names, depth, atom)?;
-            put_covers(out, names, below(depth)?, covers)
+            wait(waiting, Waiting::Rules(below(depth)?, covers.as_slice()))
         }
         Node::Loop { lit, at } => put_loop_line(out, names, depth, lit, *at),
         Node::Seen { lit, at } => put_seen_line(out, names, depth, lit, *at),
@@ -184,49 +55,116 @@ fn put_node(out: &mut Vec<u8>, names: &Names, depth: u64, node: &Node) -> Result
     }
 }
 
-/// Puts nodes at the end, each behind so many blanks, with what stands below it.
-#[cycle(tree)]
-pub fn put_nodes(out: &mut Vec<u8>, names: &Names, depth: u64, nodes: &Nodes) -> Result<(), Memory>
-    ensures { OnOk result (out.new.items ≡ out.old.items ++ spec.trees_text names.now depth (listed (trees_of nodes.now))) }
-{
-    for node in &nodes.list {
-        put_node(out, names, depth, node)?;
-    }
-    Ok(())
-}
-
-#[cycle(tree)]
-fn put_covers(out: &mut Vec<u8>, names: &Names, depth: u64, covers: &Covers) -> Result<(), Memory>
-    ensures { OnOk result (out.new.items ≡ out.old.items ++ spec.branches_text names.now depth (covering (covers_of covers.now))) }
-{
-    let next = below(depth)?;
-    for cover in &covers.list {
-        put_rule_line(out, depth, cover.rule)?;
-        put_case(out, names, next, &cover.case)?;
-    }
-    Ok(())
-}
-
-/// Puts a case at the end, behind so many blanks, with what stands below it.
-#[cycle(tree)]
-pub fn put_case(out: &mut Vec<u8>, names: &Names, depth: u64, case: &Case) -> Result<(), Memory>
-    ensures { OnOk result (out.new.items ≡ out.old.items ++ spec.branch_text names.now depth (branch_of case.now)) }
+/// Puts the first line of a case; what stands below it waits.
+fn put_first_line<'a>(
+    out: &mut Vec<u8>,
+    names: &Names,
+    depth: u64,
+    case: &'a Case,
+    waiting: &mut Vec<Waiting<'a>>,
+) -> Result<(), Memory>
+    ensures text { OnOk result (out.new.items ++ all_text names.now (reverse waiting.new.items) ≡ out.old.items ++ (spec.branch_text names.now depth (branch_of case.now) ++ all_text names.now (reverse waiting.old.items))) }
+    ensures falls { OnOk result (weights (reverse waiting.new.items) < weights (reverse waiting.old.items) + 2 * lines_at (branch_of case.now)) }
 {
     match case {
         Case::Split { con, first, second } => {
             put_split_line(out, names, depth, con)?;
             let next = below(depth)?;
-            put_case(out, names, next, first)?;
-            put_case(out, names, next, second)
+            wait(waiting, Waiting::Case(next, second))?;
+            wait(waiting, Waiting::Case(next, first))
         }
         Case::Void { hint } => put_void_line(out, depth, hint),
         Case::Leaf { item, children } => {
             put_leaf_line(out, depth, *item)?;
-            put_nodes(out, names, below(depth)?, children)
+            wait(waiting, Waiting::Nodes(below(depth)?, children.as_slice()))
         }
         Case::Head { children } => {
             put_head_line(out, depth)?;
-            put_nodes(out, names, below(depth)?, children)
+            wait(waiting, Waiting::Nodes(below(depth)?, children.as_slice()))
         }
     }
+}
+
+/// Puts the line of the first of some nodes; what stands below it waits, and then the other nodes.
+fn put_first_node<'a>(
+    out: &mut Vec<u8>,
+    names: &Names,
+    depth: u64,
+    nodes: &'a [Node],
+    waiting: &mut Vec<Waiting<'a>>,
+) -> Result<(), Memory>
+    ensures text { OnOk result (out.new.items ++ all_text names.now (reverse waiting.new.items) ≡ out.old.items ++ (spec.trees_text names.now depth (listed (map tree_of nodes.now)) ++ all_text names.now (reverse waiting.old.items))) }
+    ensures falls { OnOk result (weights (reverse waiting.new.items) < weights (reverse waiting.old.items) + (2 * lines_below (listed (map tree_of nodes.now)) + 1)) }
+{
+    match nodes.split_first() {
+        None => Ok(()),
+        Some((first, others)) => {
+            wait(waiting, Waiting::Nodes(depth, others))?;
+            put_node(out, names, depth, first, waiting)
+        }
+    }
+}
+
+/// Puts the line of the first of some rules; its cases wait, and then the other rules.
+fn put_first_rule<'a>(
+    out: &mut Vec<u8>,
+    names: &Names,
+    depth: u64,
+    rules: &'a [Cover],
+    waiting: &mut Vec<Waiting<'a>>,
+) -> Result<(), Memory>
+    ensures text { OnOk result (out.new.items ++ all_text names.now (reverse waiting.new.items) ≡ out.old.items ++ (spec.branches_text names.now depth (covering (map cover_of rules.now)) ++ all_text names.now (reverse waiting.old.items))) }
+    ensures falls { OnOk result (weights (reverse waiting.new.items) < weights (reverse waiting.old.items) + (2 * lines_in (covering (map cover_of rules.now)) + 1)) }
+{
+    match rules.split_first() {
+        None => Ok(()),
+        Some((first, others)) => {
+            put_rule_line(out, depth, first.rule)?;
+            wait(waiting, Waiting::Rules(depth, others))?;
+            wait(waiting, Waiting::Case(below(depth)?, &first.case))
+        }
+    }
+}
+
+/// Puts the first line of a part that waited; what stands below it waits, and then what is left of the part.
+fn put_first<'a>(
+    out: &mut Vec<u8>,
+    names: &Names,
+    part: Waiting<'a>,
+    waiting: &mut Vec<Waiting<'a>>,
+) -> Result<(), Memory>
+    ensures text { OnOk result (out.new.items ++ all_text names.now (reverse waiting.new.items) ≡ out.old.items ++ (text_of names.now part.entry ++ all_text names.now (reverse waiting.old.items))) }
+    ensures falls { OnOk result (weights (reverse waiting.new.items) < weights (reverse waiting.old.items) + weight part.entry) }
+{
+    match part {
+        Waiting::Nodes(depth, nodes) => put_first_node(out, names, depth, nodes, waiting),
+        Waiting::Rules(depth, rules) => put_first_rule(out, names, depth, rules, waiting),
+        Waiting::Case(depth, case) => put_first_line(out, names, depth, case, waiting),
+    }
+}
+
+/// Puts a part at the end, with all that stands below it.
+fn put_all(out: &mut Vec<u8>, names: &Names, part: Waiting<'_>) -> Result<(), Memory>
+    ensures { OnOk result (out.new.items ≡ out.old.items ++ text_of names.now part.entry) }
+{
+    let mut waiting = Vec::new(*out.allocator());
+    wait(&mut waiting, part)?;
+    while let Some(next) = waiting.pop() {
+        put_first(out, names, next, &mut waiting)?;
+    }
+    Ok(())
+}
+
+/// Puts nodes at the end, each behind so many blanks, with what stands below it.
+pub fn put_nodes(out: &mut Vec<u8>, names: &Names, depth: u64, nodes: &Nodes) -> Result<(), Memory>
+    ensures { OnOk result (out.new.items ≡ out.old.items ++ spec.trees_text names.now depth (listed (trees_of nodes.now))) }
+{
+    put_all(out, names, Waiting::Nodes(depth, nodes.as_slice()))
+}
+
+/// Puts a case at the end, behind so many blanks, with what stands below it.
+pub fn put_case(out: &mut Vec<u8>, names: &Names, depth: u64, case: &Case) -> Result<(), Memory>
+    ensures { OnOk result (out.new.items ≡ out.old.items ++ spec.branch_text names.now depth (branch_of case.now)) }
+{
+    put_all(out, names, Waiting::Case(depth, case))
 }

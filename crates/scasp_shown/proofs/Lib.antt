@@ -1,2 +1,4 @@
+pub mod EndLemmas
+pub mod GatherLemmas
+pub mod RowLemmas
 pub mod StandingLemmas
-pub mod WalkLemmas

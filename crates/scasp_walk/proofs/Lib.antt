@@ -1,3 +1,3 @@
-pub mod WalkedLemmas
 pub mod CheckedLemmas
 pub mod LineLemmas
+pub mod WalkLemmas

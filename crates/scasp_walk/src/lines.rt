@@ -1,51 +1,44 @@
-//! The tests of single lines, with what stands below them.
-ghost use Rattle.std.specs.Prelude.{◌≡◌, suc, drop, map, true, IfOk};
-ghost use Rattle.scasp_cert.specs.Trees.{head, leaf, listed, pos_tree};
-ghost use Rattle.scasp_cert.specs.View.{trees_of};
-ghost use Rattle.scasp_lines.specs.Dues.{first_due, head_dues, leaf_dues, nothing as no_due, rule_dues};
-ghost use Rattle.scasp_lines.specs.Places.{below_literal, within_case};
-ghost use Rattle.scasp_lines.specs.Sides.{shape_of, sides};
-ghost use Rattle.scasp_places.specs.View.{body_of, place_of, sides_of};
+//! The tests of a line, by what stands on it.
+ghost use Rattle.std.specs.Prelude.{◌≡◌, ◌&&◌, length, nat_lt, true, IfOk};
+ghost use Rattle.scasp_cert.specs.Trees.{listed, pos_tree};
+ghost use Rattle.scasp_cert.specs.View.{branch_of, tree_of, trees_of};
 ghost use Rattle.scasp_dues.specs.DueView.{due_value};
+ghost use Rattle.scasp_places.specs.View.{body_of, place_of};
 ghost use Rattle.scasp_syntax.specs.Programs.{numbered};
-ghost use Rattle.scasp_acceptance.specs.LineFaults.{case_faults, node_faults, split_faults};
-ghost use Rattle.scasp_acceptance.specs.Wholes.{Whole};
+ghost use Rattle.scasp_acceptance.specs.LineFaults.{case_faults, check_faults, items_of, line_faults, node_faults};
+ghost use Rattle.scasp_acceptance.specs.Refusals.{of_some};
 ghost use Rattle.scasp_faults.specs.Judged.{Judges};
 ghost use Rattle.scasp_line_faults.specs.Whole.{whole};
+ghost use Rattle.scasp_table_faults.specs.Tables.{Tells};
+ghost use Rattle.scasp_traversal.specs.View.{line_of};
+ghost use Rattle.scasp_walk.specs.Checked.{AreBelow};
 
-use crate::position::{Position, behind};
 use crate::tabled::Tabled;
 use scasp_acceptance::Reason;
-use scasp_cert::Nodes;
-use scasp_dues::{Due, Dues, head_dues, leaf_dues, rule_dues};
+use scasp_cert::{Case, Node, Nodes};
+use scasp_dues::Due;
 use scasp_faults::{CheckErr, has_count_of, want};
 use scasp_line_faults::{accept_head, accept_leaf, accept_split};
-use scasp_node_faults::accept_positive;
-use scasp_places::{Body, Place, Sides, both_sides};
-use scasp_syntax::{Atom, Con, Terms};
+use scasp_list::Memory;
+use scasp_node_faults::{accept_loop, accept_negated, accept_positive, accept_test, accept_void};
+use scasp_places::{Body, Place};
+use scasp_syntax::{Atom, Program, Terms, flat};
+use scasp_table_faults::accept_seen;
+use scasp_traversal::{Line, Part};
 use std::alloc::Global;
 
-/// What the node at this place is due for; nothing where there is no item for it.
-pub(crate) fn due_at<'a>(dues: &'a Dues, place: usize, nothing: &'a Due) -> &'a Due
-    requires { due_value nothing.now ≡ no_due }
-    ensures { due_value result.now ≡ first_due (drop place (map due_value dues.now)) }
+/// How many items the rule of this number has; none where there is no such rule.
+fn item_count(alloc: Global, program: &Program, rule: u64) -> Result<u64, Memory>
+    ensures { IfOk result (λ count. count ≡ length (items_of (numbered program.now.clauses rule))) }
 {
-    match dues.get(place) {
-        Some(due) => due,
-        None => nothing,
+    match program.clause(rule) {
+        None => Ok(0),
+        Some(clause) => Ok(flat(alloc, clause)?.len() as u64),
     }
 }
 
-/// What stands below a line: the place there, what the nodes are due for, and where the walk goes on.
-#[derive(Drop)]
-pub(crate) struct Below {
-    pub here: Place,
-    pub dues: Dues,
-    pub from: Position,
-}
-
-/// Tests a line of a positive literal, and gives what its nodes are due for.
-fn positive_line(
+/// Tests a line of a positive literal.
+fn accept_rule(
     alloc: Global,
     tabled: &Tabled,
     at: u64,
@@ -55,120 +48,111 @@ fn positive_line(
     rule: u64,
     terms: &Terms,
     children: &Nodes,
-) -> Result<Dues, CheckErr>
-    ensures judged { Judges result (node_faults (whole tabled.now.common) at (place_of here.now) (due_value due.now) (pos_tree atom.now rule terms.now (listed (trees_of children.now)))) }
-    ensures dues { IfOk result (λ dues. map due_value dues ≡ rule_dues (numbered tabled.now.common.program.now.clauses rule) (place_of here.now) terms.now) }
+) -> Result<(), CheckErr>
+    ensures { Judges result (node_faults (whole tabled.now.common) at (place_of here.now) (due_value due.now) (pos_tree atom.now rule terms.now (listed (trees_of children.now)))) }
 {
     accept_positive(alloc, &tabled.common, at, here, due, atom, rule, terms)?;
-    let clause = tabled.common.program.clause(rule);
-    let dues = rule_dues(alloc, clause, here, terms)?;
-    want(
-        at,
-        Reason::WrongChildren,
-        has_count_of(children, dues.len() as u64),
-    )?;
-    Ok(dues)
+    let items = item_count(alloc, tabled.common.program, rule)?;
+    want(at, Reason::WrongChildren, has_count_of(children, items))
 }
 
-/// Tests a line of a positive literal, and gives what stands below it.
-pub(crate) fn enter_positive(
+/// Tests a line of a node.
+fn accept_node(
     alloc: Global,
     tabled: &Tabled,
-    from: Position,
+    at: u64,
     here: &Place,
     due: &Due,
-    atom: &Atom,
-    rule: u64,
-    terms: &Terms,
-    children: &Nodes,
-) -> Result<Below, CheckErr>
-    ensures judged { Judges result (node_faults (whole tabled.now.common) from.line (place_of here.now) (due_value due.now) (pos_tree atom.now rule terms.now (listed (trees_of children.now)))) }
-    ensures here { IfOk result (λ below. place_of below.here ≡ below_literal from.line true atom.now (place_of here.now)) }
-    ensures dues { IfOk result (λ below. map due_value below.dues ≡ rule_dues (numbered tabled.now.common.program.now.clauses rule) (place_of here.now) terms.now) }
-    ensures line { IfOk result (λ below. below.from.line ≡ suc from.line) }
-    ensures next { IfOk result (λ below. below.from.next ≡ from.next) }
+    node: &Node,
+) -> Result<(), CheckErr>
+    requires { Tells tabled.now.table tabled.now.common }
+    ensures { Judges result (node_faults (whole tabled.now.common) at (place_of here.now) (due_value due.now) (tree_of node.now)) }
 {
-    let dues = positive_line(
-        alloc, tabled, from.line, here, due, atom, rule, terms, children,
-    )?;
-    Ok(Below {
-        here: here.below_literal(alloc, from.line, true, atom)?,
-        dues,
-        from: behind(from.line, from.next)?,
-    })
+    let common = &tabled.common;
+    match node {
+        Node::Pos {
+            atom,
+            rule,
+            terms,
+            children,
+        } => accept_rule(alloc, tabled, at, here, due, atom, *rule, terms, children),
+        Node::Neg { atom, covers } => accept_negated(alloc, common, at, here, due, atom, covers),
+        Node::Loop { lit, at: to } => accept_loop(alloc, common, at, here, due, lit, *to),
+        Node::Seen { lit, at: to } => {
+            accept_seen(alloc, common, &tabled.table, at, here, due, lit, *to)
+        }
+        Node::Test { con, hint } => accept_test(alloc, common, at, here, due, con, hint),
+    }
 }
 
-/// Tests a line of a leaf, and gives what stands below it.
-pub(crate) fn enter_leaf(
-    alloc: Global,
-    from: Position,
-    here: &Place,
-    body: &Body,
-    bare: bool,
-    item: u64,
-    children: &Nodes,
-) -> Result<Below, CheckErr>
-    ensures judged { (w : Whole) → Judges result (case_faults w from.line from.next (place_of here.now) (body_of body.now bare) (leaf item (listed (trees_of children.now)))) }
-    ensures here { IfOk result (λ below. place_of below.here ≡ within_case from.line bare (place_of here.now)) }
-    ensures dues { IfOk result (λ below. map due_value below.dues ≡ leaf_dues (place_of here.now) (body_of body.now bare) item) }
-    ensures line { IfOk result (λ below. below.from.line ≡ suc from.line) }
-    ensures next { IfOk result (λ below. below.from.next ≡ from.next) }
-{
-    accept_leaf(from.line, body, item, children)?;
-    let dues = leaf_dues(alloc, here, body, item)?;
-    Ok(Below {
-        here: here.within_case(alloc, from.line, bare)?,
-        dues,
-        from: behind(from.line, from.next)?,
-    })
-}
-
-/// Tests a line of a case in which the head holds, and gives what stands below it.
-pub(crate) fn enter_head(
-    alloc: Global,
-    from: Position,
-    here: &Place,
-    body: &Body,
-    bare: bool,
-    children: &Nodes,
-) -> Result<Below, CheckErr>
-    ensures judged { (w : Whole) → Judges result (case_faults w from.line from.next (place_of here.now) (body_of body.now bare) (head (listed (trees_of children.now)))) }
-    ensures here { IfOk result (λ below. place_of below.here ≡ within_case from.line bare (place_of here.now)) }
-    ensures dues { IfOk result (λ below. map due_value below.dues ≡ head_dues (place_of here.now) (body_of body.now bare)) }
-    ensures line { IfOk result (λ below. below.from.line ≡ suc from.line) }
-    ensures next { IfOk result (λ below. below.from.next ≡ from.next) }
-{
-    accept_head(from.line, body, children)?;
-    let dues = head_dues(alloc, here, body)?;
-    Ok(Below {
-        here: here.within_case(alloc, from.line, bare)?,
-        dues,
-        from: behind(from.line, from.next)?,
-    })
-}
-
-/// What holds on both sides of a split, and where the walk goes on.
-#[derive(Drop)]
-pub(crate) struct BelowSplit {
-    pub sides: Sides,
-    pub from: Position,
-}
-
-/// Tests a line of a split, and gives what holds on both sides.
-pub(crate) fn enter_split(
+/// Tests a line of a case.
+fn accept_case(
     alloc: Global,
     tabled: &Tabled,
-    from: Position,
+    at: u64,
+    next: u64,
     here: &Place,
-    con: &Con,
-) -> Result<BelowSplit, CheckErr>
-    ensures judged { Judges result (split_faults (whole tabled.now.common) from.line (place_of here.now) con.now (shape_of from.next con.now)) }
-    ensures sides { IfOk result (λ below. sides_of below.sides ≡ sides (whole tabled.now.common).setting.free (whole tabled.now.common).setting.top con.now (place_of here.now) from.next) }
-    ensures line { IfOk result (λ below. below.from.line ≡ suc from.line) }
-    ensures next { IfOk result (λ below. below.from.next ≡ below.sides.next) }
+    body: &Body,
+    bare: bool,
+    case: &Case,
+) -> Result<(), CheckErr>
+    ensures { Judges result (case_faults (whole tabled.now.common) at next (place_of here.now) (body_of body.now bare) (branch_of case.now)) }
 {
-    accept_split(alloc, &tabled.common, from.line, from.next, here, con)?;
-    let sides = both_sides(alloc, tabled.common.bounds, con, here, from.next)?;
-    let from = behind(from.line, sides.next)?;
-    Ok(BelowSplit { sides, from })
+    match case {
+        Case::Split { con, .. } => accept_split(alloc, &tabled.common, at, next, here, con),
+        Case::Void { hint } => accept_void(alloc, &tabled.common, at, here, hint),
+        Case::Leaf { item, children } => accept_leaf(at, body, *item, children),
+        Case::Head { children } => accept_head(at, body, children),
+    }
+}
+
+/// Whether there is a clause of this number, and it lies above the one that was checked before.
+fn comes_next(program: &Program, clause: u64, before: u64) -> bool
+    ensures { result ≡ (of_some (numbered program.now.clauses clause) (λ c. true) && nat_lt before clause) }
+{
+    match program.clause(clause) {
+        Some(_) => before < clause,
+        None => false,
+    }
+}
+
+/// Tests that the clause is there and comes behind those that were checked on lines before, the last of which is `before`, or 0.
+#[tactic(auto, using(crate::proofs::CheckedLemmas::ascends))]
+fn accept_check(tabled: &Tabled, at: u64, clause: u64, before: u64) -> Result<(), CheckErr>
+    requires { AreBelow (whole tabled.now.common) at before }
+    ensures { Judges result (check_faults (whole tabled.now.common) at clause) }
+{
+    want(
+        at,
+        Reason::WrongCheck,
+        comes_next(tabled.common.program, clause, before),
+    )
+}
+
+/// Tests a line, where `before` is the clause that was checked last on lines before it, or 0.
+pub(crate) fn accept_line(
+    alloc: Global,
+    tabled: &Tabled,
+    line: &Line,
+    before: u64,
+) -> Result<(), CheckErr>
+    requires tells { Tells tabled.now.table tabled.now.common }
+    requires below { AreBelow (whole tabled.now.common) line.now.at before }
+    ensures { Judges result (line_faults (whole tabled.now.common) (line_of line.now)) }
+{
+    match &line.part {
+        Part::Node { due, node } => accept_node(alloc, tabled, line.at, &line.here, due, *node),
+        Part::Rule { .. } => Ok(()),
+        Part::Check { clause, .. } => accept_check(tabled, line.at, *clause, before),
+        Part::Case { body, bare, case } => accept_case(
+            alloc,
+            tabled,
+            line.at,
+            line.next,
+            &line.here,
+            body.as_ref(),
+            *bare,
+            *case,
+        ),
+    }
 }

@@ -1,0 +1,43 @@
+use Rattle.std.proofs.Common.{◌≡◌, [], ◌∷◌, true, Option, Some, subst}
+use Rattle.std.specs.Prelude.{MatchOption}
+use Rattle.std.proofs.lemmas.Result.{err_from_is_err_and}
+use Rattle.scasp_cert.specs.Certificate.{certificate_of}
+use Rattle.scasp_lines.proofs.WalkLemmas.{certificate-runs}
+use Rattle.scasp_acceptance.specs.Wholes.{whole_of}
+use Rattle.scasp_traversal.specs.View.{line_of, lines_left}
+use Rattle.scasp_traversal.specs.declared.cursor.Lines.{Lines}
+use Rattle.scasp_traversal.specs.declared.parts.Line.{Line}
+use Rattle.scasp_walk.proofs.WalkLemmas.{going-below, going-on, going-refused}
+use Rattle.scasp_walk.proofs.walk.accept_lines.Goals as goal
+
+-- the line that is found is the first of those that were left
+comes : (found : Option Line) (l : Line) (old new : Lines) → found ≡ Some l
+    → MatchOption found (lines_left old ≡ []) (λ line. lines_left old ≡ line_of line ∷ lines_left new) → lines_left old ≡ line_of l ∷ lines_left new
+comes found l old new e h = subst (λ (o : Option Line). MatchOption o (lines_left old ≡ []) (λ line. lines_left old ≡ line_of line ∷ lines_left new)) e h
+
+pub accept_next-requires-clause-below : goal.accept_next-requires-clause-below
+accept_next-requires-clause-below c =
+    let p = c.args.tabled.now.common.program.now in
+    let cert = certificate_of c.args.tabled.now.common.cert.now in
+    going-below (whole_of true p cert) c.loop-lines.before (line_of c.in-Some.line) (lines_left c.next.new.self) (lines_left c.loop-lines.lines)
+    (certificate-runs p.clauses p.queries cert).counts c.loop-lines.invariant
+    (comes c.in_ok-line.field-0 c.in-Some.line c.loop-lines.lines c.next.new.self c.in-Some.is c.in_ok-line.ensures)
+
+pub returns-in_err-before : goal.returns-in_err-before
+returns-in_err-before c =
+    let p = c.args.tabled.now.common.program.now in
+    let cert = certificate_of c.args.tabled.now.common.cert.now in
+    let e = err_from_is_err_and c.from_residual-in_err-before.result c.from_residual-in_err-before.ensures.1 in
+    rw (e.1, e.2)
+    (going-refused (whole_of true p cert) c.loop-lines.before (line_of c.in-Some.line) (lines_left c.next.new.self) (lines_left c.loop-lines.lines)
+    (certificate-runs p.clauses p.queries cert).counts c.loop-lines.invariant
+    (comes c.in_ok-line.field-0 c.in-Some.line c.loop-lines.lines c.next.new.self c.in-Some.is c.in_ok-line.ensures) _ c.in_err-before.ensures.faults)
+
+pub loop-lines-preserved : goal.loop-lines-preserved
+loop-lines-preserved c =
+    let p = c.args.tabled.now.common.program.now in
+    let cert = certificate_of c.args.tabled.now.common.cert.now in
+    rw c.in_ok-before.ensures.last
+    (going-on (whole_of true p cert) c.loop-lines.before (line_of c.in-Some.line) (lines_left c.next.new.self) (lines_left c.loop-lines.lines)
+    (certificate-runs p.clauses p.queries cert).counts c.loop-lines.invariant
+    (comes c.in_ok-line.field-0 c.in-Some.line c.loop-lines.lines c.next.new.self c.in-Some.is c.in_ok-line.ensures) c.in_ok-before.ensures.faults)
