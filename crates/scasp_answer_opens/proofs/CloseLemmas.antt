@@ -1,0 +1,61 @@
+-- Open lines are closed one by one.
+use Rattle.std.proofs.Common.{◌≡◌, ◌≢◌, ◌∙◌, ℕ, ◌+◌, Bool, true, false, List, [], ◌∷◌, length, Option, None, Some, refl, sym, ap, arith}
+use Rattle.std.specs.Prelude.{◌==◌, ◌&&◌, if◌then◌else◌}
+use Rattle.std.proofs.lemmas.Bool.{eq-eqb, ne_eqb}
+use Rattle.scasp_cert.specs.Certificate.{Certificate}
+use Rattle.scasp_answers.specs.Open.{Open, Closed, is_whole, with_top, with_parts, parts_of, closed_from, closed_to}
+
+pub closes_here : (depth : ℕ) (opens : List Open) (c : Certificate) → length opens ≡ depth → closed_to depth opens c ≡ Some (record { opens = opens; block = c })
+closes_here depth [] c h = rw (sym h) refl
+closes_here depth (o ∷ []) c h = rw (sym h) refl
+closes_here depth (o ∷ p ∷ opens) c h =
+    let t : (depth == length opens + 2) ≡ true = eq-eqb depth (length opens + 2) (omega (arith, h)) in rw t refl
+
+pub closes_none : (depth : ℕ) (opens : List Open) (c : Certificate) → opens ≡ [] → length opens ≢ depth → closed_to depth opens c ≡ None
+closes_none depth opens c e n =
+    let t : (depth == 0) ≡ false = ne_eqb depth 0 (λ z. n (ap length e ∙ sym z)) in
+    ap (λ o. closed_to depth o c) e ∙ (rw t refl)
+
+-- where the innermost line is left of those that are to be closed
+pub closes_first : (depth : ℕ) (top : Open) (old new : List Open) (c : Certificate) → old ≡ top ∷ new → closed_to depth old c ≡ closed_from depth top new c
+closes_first depth top old new c e = ap (λ o. closed_to depth o c) e
+
+not-whole : (depth : ℕ) (top : Open) (opens : List Open) (c : Certificate) → depth ≢ length opens + 1 → is_whole top ≡ false → closed_from depth top opens c ≡ None
+not-whole depth top [] c n w =
+    let t : (depth == 1) ≡ false = ne_eqb depth 1 n in rw (t, w) (by (depth == 0) (Some (record { opens = []; block = with_top top c })))
+  where
+    by : (b : Bool) (x : Option Closed) → (if b && false then x else None) ≡ None
+    by true x = refl
+    by false x = refl
+not-whole depth top (o ∷ opens) c n w =
+    let t : (depth == length opens + 2) ≡ false = ne_eqb depth (length opens + 2) (λ e. n (omega (arith, e))) in rw (t, w) refl
+
+pub not_whole : (depth : ℕ) (top : Open) (opens : List Open) (c : Certificate) → is_whole top ≡ false → depth ≢ length opens + 1 → closed_from depth top opens c ≡ None
+not_whole depth top opens c w n = not-whole depth top opens c n w
+
+-- the last line is closed
+pub closes_last : (depth : ℕ) (top : Open) (old new : List Open) (c : Certificate) → is_whole top ≡ true → old ≡ [] → new ≡ [] → depth ≡ 0
+    → closed_from depth top old c ≡ closed_to depth new (with_top top c)
+closes_last depth top old new c w e f z =
+    ap (λ o. closed_from depth top o c) e
+    ∙ ap (λ d. closed_from d top [] c) z
+    ∙ last
+    ∙ sym (ap (λ o. closed_to depth o (with_top top c)) f ∙ ap (λ d. closed_to d [] (with_top top c)) z)
+  where
+    last : closed_from 0 top [] c ≡ closed_to 0 [] (with_top top c)
+    last = rw w refl
+
+-- no line is open around it
+pub closes_edge : (depth : ℕ) (top : Open) (old : List Open) (c : Certificate) → old ≡ [] → depth ≢ 0 → depth ≢ length old + 1 → closed_from depth top old c ≡ None
+closes_edge depth top old c e n m =
+    let t : (depth == 0) ≡ false = ne_eqb depth 0 n in
+    let u : (depth == 1) ≡ false = ne_eqb depth 1 (λ z. m (z ∙ ap (λ o. length o + 1) (sym e))) in
+    ap (λ o. closed_from depth top o c) e ∙ (rw (u, t) refl)
+
+-- it becomes a part of the line around it
+pub closes_into : (depth : ℕ) (top o : Open) (old around new : List Open) (c : Certificate) → is_whole top ≡ true → depth ≢ length old + 1 → old ≡ o ∷ around
+    → new ≡ with_parts o (parts_of top.line top.parts) ∷ around → closed_from depth top old c ≡ closed_to depth new c
+closes_into depth top o old around new c w n e f =
+    let t : (depth == length around + 2) ≡ false = ne_eqb depth (length around + 2) (λ z. n (omega (arith, z, ap length e))) in
+    let into : closed_from depth top (o ∷ around) c ≡ closed_to depth (with_parts o (parts_of top.line top.parts) ∷ around) c = rw (t, w) refl in
+    ap (λ l. closed_from depth top l c) e ∙ into ∙ ap (λ l. closed_to depth l c) (sym f)

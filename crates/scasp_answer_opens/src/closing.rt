@@ -1,0 +1,75 @@
+//! Open lines are closed, one after the other.
+ghost use Rattle.std.specs.Prelude.{◌≡◌, ◌≢◌, ◌≤◌, ◌+◌, ◌∷◌, true, length, IfOk, OnOk};
+ghost use Rattle.scasp_cert.specs.Certificate.{certificate_of};
+ghost use Rattle.scasp_answers.specs.Open as spec;
+ghost use Rattle.scasp_answer_parts.specs.View.{open_of};
+ghost use Rattle.scasp_answer_opens.specs.Closing.{Closes, Leads};
+ghost use Rattle.scasp_answer_opens.specs.View.{opens_of};
+
+use crate::opens::Opens;
+use crate::placing::Placing;
+use crate::top::with_top;
+use scasp_answer_parts::Open;
+use scasp_cert::Cert;
+use scasp_list::Memory;
+use std::alloc::Global;
+
+/// Puts the part that a line is into the line around it.
+fn close_into(alloc: Global, top: Open, around: Open, opens: &mut Opens) -> Result<(), Memory>
+    requires { spec.is_whole (open_of top) ≡ true }
+    ensures { OnOk result (opens_of opens.new ≡ spec.with_parts (open_of around) (spec.parts_of (open_of top).line (open_of top).parts) ∷ opens_of opens.old) }
+{
+    let around = around.with_part(top.into_part(alloc)?)?;
+    opens.push(around)
+}
+
+/// Closes the line that was the innermost open one, if it has all that has to stand below it.
+#[tactic(auto, using(crate::proofs::CloseLemmas::not_whole, crate::proofs::CloseLemmas::closes_into, crate::proofs::CloseLemmas::closes_last, crate::proofs::CloseLemmas::closes_edge))]
+fn close(
+    alloc: Global,
+    depth: usize,
+    top: Open,
+    opens: &mut Opens,
+    cert: &mut Cert,
+) -> Result<Placing, Memory>
+    requires { depth ≢ length (opens_of opens.old) + 1 }
+    ensures leads { Leads depth (spec.closed_from depth (open_of top) (opens_of opens.old) (certificate_of cert.old)) result (opens_of opens.new) (certificate_of cert.new) }
+    ensures no_more { IfOk result (λ placing. length (opens_of opens.new) ≤ length (opens_of opens.old)) }
+{
+    if !top.is_whole() {
+        return Ok(Placing::OutOfOrder);
+    }
+    match opens.pop() {
+        Some(around) => {
+            close_into(alloc, top, around, opens)?;
+            Ok(Placing::Stands)
+        }
+        None if depth == 0 => {
+            with_top(alloc, top, cert)?;
+            Ok(Placing::Stands)
+        }
+        None => Ok(Placing::OutOfOrder),
+    }
+}
+
+/// Closes the lines that stand as deep as `depth` or deeper; tells whether a line may stand there. If none may, or
+/// after an error, some of the lines may have been closed.
+#[tactic(auto, using(crate::proofs::CloseLemmas::closes_here, crate::proofs::CloseLemmas::closes_none, crate::proofs::CloseLemmas::closes_first))]
+pub fn close_to(
+    alloc: Global,
+    depth: usize,
+    opens: &mut Opens,
+    cert: &mut Cert,
+) -> Result<Placing, Memory>
+    ensures { Closes (spec.closed_to depth (opens_of opens.old) (certificate_of cert.old)) result (opens_of opens.new) (certificate_of cert.new) }
+{
+    while opens.len() != depth {
+        let Some(top) = opens.pop() else {
+            return Ok(Placing::OutOfOrder);
+        };
+        if close(alloc, depth, top, opens, cert)? == Placing::OutOfOrder {
+            return Ok(Placing::OutOfOrder);
+        }
+    }
+    Ok(Placing::Stands)
+}

@@ -1,0 +1,150 @@
+//! Open lines become parts of the lines around them.
+ghost use Rattle.std.specs.Prelude.{◌≡◌, ◌∷◌, [], true, length, map, IfOk};
+ghost use Rattle.scasp_cert.specs.View.{branch_of};
+ghost use Rattle.scasp_syntax.specs.declared.con.Con.{Con};
+ghost use Rattle.scasp_answer_lines.specs.Lines as lines;
+ghost use Rattle.scasp_answer_forms.specs.View.{line_of};
+ghost use Rattle.scasp_answers.specs.Open as spec;
+ghost use Rattle.scasp_answer_parts.specs.View.{part_of, parts_in, open_of, listed_part, sides};
+
+use crate::among::{case_among, cases_among, covers_among, nodes_among};
+use crate::open_line::{Open, Part};
+use scasp_answer_forms::Line;
+use scasp_cert::{Case, Cover, Node};
+use scasp_list::Memory;
+use scasp_syntax::{Atom, Con, Terms};
+use std::alloc::Global;
+
+/// The rule with its case, where there is one.
+fn cover_part(rule: u64, parts: Vec<Part>) -> Option<Part>
+    requires { length parts.items ≡ 1 }
+    ensures { listed_part result ≡ map (spec.cover_part rule) (spec.cases_among (parts_in parts.items)) }
+{
+    match case_among(parts) {
+        Some(case) => Some(Part::Cover(Cover { rule, case })),
+        None => None,
+    }
+}
+
+/// The cases, where there are two.
+#[tactic(auto, using(crate::proofs::PartLemmas::more_cases))]
+fn both_of(cases: Vec<Case>) -> Option<(Case, Case)>
+    ensures { (con : Con) → spec.split_part (lines.split_line con) (map branch_of cases.items) ≡ sides con result }
+{
+    let mut cases = cases;
+    let second = cases.pop()?;
+    let first = cases.pop()?;
+    if cases.is_empty() {
+        Some((first, second))
+    } else {
+        None
+    }
+}
+
+/// Both sides of a split, where both are there.
+fn split_part(alloc: Global, con: Con, parts: Vec<Part>) -> Result<Option<Part>, Memory>
+    ensures { IfOk result (λ part. listed_part part ≡ spec.split_part (lines.split_line con) (spec.cases_among (parts_in parts.items))) }
+{
+    let cases = cases_among(alloc, parts)?;
+    let Some((first, second)) = both_of(cases) else {
+        return Ok(None);
+    };
+    let first = Box::new(alloc, first)?;
+    let second = Box::new(alloc, second)?;
+    Ok(Some(Part::Case(Case::Split { con, first, second })))
+}
+
+/// The node of an atom that a rule shows.
+fn pos_part(
+    alloc: Global,
+    atom: Atom,
+    rule: u64,
+    terms: Terms,
+    parts: Vec<Part>,
+) -> Result<Option<Part>, Memory>
+    ensures { IfOk result (λ part. listed_part part ≡ spec.parts_of (lines.pos_line atom rule terms) (parts_in parts.items)) }
+{
+    let children = nodes_among(alloc, parts)?;
+    Ok(Some(Part::Node(Node::Pos {
+        atom,
+        rule,
+        terms,
+        children,
+    })))
+}
+
+/// The node of a negated atom.
+fn neg_part(alloc: Global, atom: Atom, parts: Vec<Part>) -> Result<Option<Part>, Memory>
+    ensures { IfOk result (λ part. listed_part part ≡ spec.parts_of (lines.neg_line atom) (parts_in parts.items)) }
+{
+    let covers = covers_among(alloc, parts)?;
+    Ok(Some(Part::Node(Node::Neg { atom, covers })))
+}
+
+/// The case that is left, up to this item.
+fn leaf_part(alloc: Global, item: u64, parts: Vec<Part>) -> Result<Option<Part>, Memory>
+    ensures { IfOk result (λ part. listed_part part ≡ spec.parts_of (lines.leaf_line item) (parts_in parts.items)) }
+{
+    let children = nodes_among(alloc, parts)?;
+    Ok(Some(Part::Case(Case::Leaf { item, children })))
+}
+
+/// The case in which the head holds.
+fn head_part(alloc: Global, parts: Vec<Part>) -> Result<Option<Part>, Memory>
+    ensures { IfOk result (λ part. listed_part part ≡ spec.parts_of lines.head_line (parts_in parts.items)) }
+{
+    let children = nodes_among(alloc, parts)?;
+    Ok(Some(Part::Case(Case::Head { children })))
+}
+
+impl Open {
+    /// The line with this part below it.
+    fn with_one(self, part: Part) -> Result<Open, Memory>
+        ensures { IfOk result (λ line. open_of line ≡ spec.with_parts (open_of self) (part_of part ∷ [])) }
+    {
+        let Open { line, mut parts } = self;
+        parts.push(part)?;
+        Ok(Open { line, parts })
+    }
+
+    /// The line with this part below it, if there is one.
+    pub fn with_part(self, part: Option<Part>) -> Result<Open, Memory>
+        ensures { IfOk result (λ line. open_of line ≡ spec.with_parts (open_of self) (listed_part part)) }
+    {
+        match part {
+            Some(part) => self.with_one(part),
+            None => Ok(self),
+        }
+    }
+
+    /// The part that the line is with the parts below it, if it is one.
+    pub fn into_part(self, alloc: Global) -> Result<Option<Part>, Memory>
+        requires { spec.is_whole (open_of self) ≡ true }
+        ensures { IfOk result (λ part. listed_part part ≡ spec.parts_of (line_of self.line) (parts_in self.parts.items)) }
+    {
+        let Open { line, parts } = self;
+        match line {
+            Line::Pos(atom, rule, terms) => pos_part(alloc, atom, rule as u64, terms, parts),
+            Line::Neg(atom) => neg_part(alloc, atom, parts),
+            Line::Loop(lit, at) => Ok(Some(Part::Node(Node::Loop { lit, at: at as u64 }))),
+            Line::Seen(lit, at) => Ok(Some(Part::Node(Node::Seen { lit, at: at as u64 }))),
+            Line::Test(con, hint) => Ok(Some(Part::Node(Node::Test { con, hint }))),
+            Line::Rule(rule) => Ok(cover_part(rule as u64, parts)),
+            Line::Split(con) => split_part(alloc, con, parts),
+            Line::Void(hint) => Ok(Some(Part::Case(Case::Void { hint }))),
+            Line::Leaf(item) => leaf_part(alloc, item as u64, parts),
+            Line::Head => head_part(alloc, parts),
+            Line::Header(_)
+            | Line::Ending(_, _)
+            | Line::Rejected(_, _, _, _)
+            | Line::Answer(_, _, _)
+            | Line::Given(_)
+            | Line::Sample(_)
+            | Line::Tree
+            | Line::Check(_)
+            | Line::Clash(_)
+            | Line::Map(_)
+            | Line::End => Ok(None),
+        }
+    }
+}

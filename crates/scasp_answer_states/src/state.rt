@@ -1,0 +1,170 @@
+//! What has been read of a file, and which line may come next.
+ghost use Rattle.std.specs.Prelude.{◌≡◌, ◌∷◌, true, Some, Ok};
+ghost use Rattle.scasp_cert.specs.Certificate.{certificate_of};
+ghost use Rattle.scasp_answer_lines.specs.Bounds.{line_fits};
+ghost use Rattle.scasp_answer_forms.specs.View.{line_of};
+ghost use Rattle.scasp_answers.specs.Blocks.{at};
+ghost use Rattle.scasp_answers.specs.States as states;
+ghost use Rattle.scasp_answer_parts.specs.View.{open_of};
+ghost use Rattle.scasp_answer_opens.specs.View.{opens_of};
+ghost use Rattle.scasp_answer_states.specs.View.{entry_of, state_of, Follows};
+
+use scasp_answer_forms::{End, Line};
+use scasp_answer_opens::{Opens, Placing, close_to};
+use scasp_answer_parts::Open;
+use scasp_cert::{Cert, Checks, Clashes, Nodes};
+use scasp_list::{Memory, Sequence};
+use scasp_syntax::{Cons, PredMaps, Terms};
+use std::alloc::Global;
+use std::mem;
+
+/// A block: the answer's number, and its certificate.
+#[derive(Drop)]
+pub struct Block {
+    pub answer: u64,
+    pub cert: Cert,
+}
+
+/// What stands in a file behind its header.
+#[derive(Drop)]
+pub enum Entry {
+    Block(Block),
+    /// How the answers to this query end.
+    Ended(End, u64),
+    /// Query, answer, the line at fault, the reason in words.
+    Rejected(u64, u64, u64, &'static str),
+}
+
+/// What stands in a file behind its header, in order.
+pub type Entries = Sequence<Entry>;
+
+/// The last line at the left edge: none, one between entries, or the kind within a block.
+#[derive(Clone, Copy, Debug, PartialEq, Eq)]
+pub enum Phase {
+    AtStart,
+    Between,
+    InGiven,
+    InSample,
+    InTree,
+    InClashes,
+    InMap,
+}
+
+/// What has been read. The block is the one that is read.
+#[derive(Drop)]
+pub struct State {
+    pub phase: Phase,
+    pub block: Block,
+    pub opens: Opens,
+    pub entries: Entries,
+}
+
+/// A block whose certificate is that of its first line.
+fn started(alloc: Global, query: u64, answer: u64, terms: Terms) -> Block
+    ensures number { result.answer ≡ answer }
+    ensures cert { certificate_of result.cert ≡ states.started query terms }
+{
+    Block {
+        answer,
+        cert: Cert {
+            query,
+            terms,
+            given: Cons::new(alloc),
+            sample: Terms::new(alloc),
+            trees: Nodes::new(alloc),
+            checks: Checks::new(alloc),
+            clashes: Clashes::new(alloc),
+            map: PredMaps::new(alloc),
+        },
+    }
+}
+
+impl State {
+    /// Nothing has been read.
+    pub fn new(alloc: Global) -> State
+        ensures { state_of result ≡ states.first_state }
+    {
+        State {
+            phase: Phase::AtStart,
+            block: started(alloc, 0, 0, Terms::new(alloc)),
+            opens: Opens::new(alloc),
+            entries: Entries::new(alloc),
+        }
+    }
+
+    /// Opens the line below the innermost open one.
+    fn open_below(&mut self, alloc: Global, top: Open, line: Line) -> Result<Placing, Memory>
+        requires { line_fits (line_of line) ≡ true }
+        ensures { Follows (states.below (state_of self.old) (open_of top) (opens_of self.old.opens) (line_of line)) result self.new }
+    {
+        if !top.takes(&line) {
+            return Ok(Placing::OutOfOrder);
+        }
+        self.opens.push(top)?;
+        self.open(alloc, line)
+    }
+
+    /// Opens the line.
+    pub(crate) fn open(&mut self, alloc: Global, line: Line) -> Result<Placing, Memory>
+        requires { line_fits (line_of line) ≡ true }
+        ensures { Follows (Some (states.with_opens (state_of self.old) (states.opened (line_of line) ∷ (opens_of self.old.opens)) (certificate_of self.old.block.cert))) result self.new }
+    {
+        self.opens.push(Open::new(alloc, line))?;
+        Ok(Placing::Stands)
+    }
+
+    /// Puts an entry behind the others.
+    pub(crate) fn end_entry(&mut self, entry: Entry) -> Result<Placing, Memory>
+        ensures { Follows (Some (states.with_entry (state_of self.old) (entry_of entry))) result self.new }
+    {
+        self.phase = Phase::Between;
+        self.entries.push(entry)?;
+        Ok(Placing::Stands)
+    }
+
+    /// Begins a block.
+    pub(crate) fn begin_block(
+        &mut self,
+        alloc: Global,
+        query: u64,
+        answer: u64,
+        terms: Terms,
+    ) -> Placing
+        ensures { Follows (Some (states.begins_block (state_of self.old) answer (states.started query terms))) (Ok result) self.new }
+    {
+        self.phase = Phase::InGiven;
+        self.block = started(alloc, query, answer, terms);
+        Placing::Stands
+    }
+
+    /// Ends the block.
+    pub(crate) fn end_block(&mut self, alloc: Global) -> Result<Placing, Memory>
+        ensures { Follows (Some (states.ends_block (state_of self.old))) result self.new }
+    {
+        let block = mem::replace(&mut self.block, started(alloc, 0, 0, Terms::new(alloc)));
+        self.end_entry(Entry::Block(block))
+    }
+
+    /// Reads a line that stands right below the innermost open one, or at the left edge where none is open.
+    fn stand_below(&mut self, alloc: Global, line: Line) -> Result<Placing, Memory>
+        requires { line_fits (line_of line) ≡ true }
+        ensures { Follows (states.at_level (state_of self.old) (opens_of self.old.opens) (line_of line)) result self.new }
+    {
+        match self.opens.pop() {
+            Some(top) => self.open_below(alloc, top, line),
+            None => self.stand_at_edge(alloc, line),
+        }
+    }
+
+    /// Reads the line at its depth. Where it may not stand, or after an error, lines may have been closed.
+    #[tactic(auto, using(crate::proofs::StateLemmas::next_none))]
+    pub fn stand(&mut self, alloc: Global, depth: usize, line: Line) -> Result<Placing, Memory>
+        requires { line_fits (line_of line) ≡ true }
+        ensures { Follows (states.next_state (state_of self.old) (at depth (line_of line))) result self.new }
+    {
+        match close_to(alloc, depth, &mut self.opens, &mut self.block.cert)? {
+            Placing::Stands => self.stand_below(alloc, line),
+            Placing::OutOfOrder => Ok(Placing::OutOfOrder),
+        }
+    }
+}
