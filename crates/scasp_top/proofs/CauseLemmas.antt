@@ -1,16 +1,19 @@
 -- The causes of the statuses for faults.
-use Rattle.std.proofs.Common.{◌≡◌, ◌⊎◌, inl, inr, ℕ, Bool, true, false, Option, None, Some, List, [], refl, sym, subst, ◌∙◌, ap}
+use Rattle.std.proofs.Common.{◌≡◌, ◌⊎◌, inl, inr, ℕ, Bool, true, false, Option, None, Some, List, refl, sym, subst, ◌∙◌, ap}
 use Rattle.scasp_io.specs.Counts.{Rose}
 use Rattle.scasp_words.specs.declared.command.Command.{Command}
+use Rattle.scasp_words.specs.declared.command.Command.TheVariants.{Run, Check}
 use Rattle.scasp_run.specs.declared.ends.RunEnd.{RunEnd}
 use Rattle.scasp_run.specs.declared.ends.RunEnd.TheVariants as run
-use Rattle.scasp_top.specs.Ends.{run_status}
-use Rattle.scasp_top.specs.Outputs.{Outside, without_faults, HasReadFault, IsNoProgram, unread, refused, Outputs, nothing, usage, no_program, runs}
+use Rattle.scasp_recheck.specs.declared.checking.Rechecked.{Rechecked}
+use Rattle.scasp_recheck.specs.declared.checking.Rechecked.TheVariants as check
+use Rattle.scasp_top.specs.Ends.{run_status, check_status}
+use Rattle.scasp_top.specs.Outputs.{Outside, without_faults, program_file, HasReadFault, unread, refused, unread_answers, refused_answers, Outputs, nothing, usage, no_program, runs, no_answers, checks}
 use Rattle.scasp_io.specs.Taken.{TakesWhole}
 use Rattle.scasp_top.specs.Reports.{Reports, whole, part}
-use Rattle.scasp_top.specs.Texts.{Refusal, program_refusal, refusal_status}
+use Rattle.scasp_top.specs.Texts.{Refusal, refusal_status, program_refusal, answers_refusal}
 use Rattle.scasp_top.specs.declared.status.Status.{Status}
-use Rattle.scasp_top.specs.declared.status.Status.TheVariants.{Done, NoAnswer, Usage, Text, Read, Write, Spent, Overflow, Memory, Limit}
+use Rattle.scasp_top.specs.declared.status.Status.TheVariants.{Done, NoAnswer, Usage, Text, Read, Write, Spent, Overflow, Memory, Refused, Limit}
 
 -- the status of a fault of the outside
 is_fault : Status → Bool
@@ -23,6 +26,7 @@ is_fault Write = true
 is_fault Spent = false
 is_fault Overflow = false
 is_fault Memory = false
+is_fault Refused = false
 is_fault Limit = false
 
 refusal-calm : (r : Refusal) → is_fault (refusal_status r) ≡ false
@@ -37,6 +41,12 @@ run-calm (Some run.NoAnswer) = refl
 run-calm (Some run.Spent) = refl
 run-calm (Some run.Overflow) = refl
 
+check-calm : (end : Option Rechecked) → is_fault (check_status end) ≡ false
+unfolding is_fault
+check-calm None = refl
+check-calm (Some check.Accepted) = refl
+check-calm (Some check.Refused) = refl
+
 -- the status of no fault, or that of a failed read
 Cause : Option Command → Outside → Status → Type 0
 Cause asked o status = (is_fault status ≡ false) ⊎ ((status ≡ Read) × HasReadFault asked o)
@@ -46,10 +56,19 @@ unfolding Cause
 calm asked o status s is h = inl (ap is_fault is ∙ h)
 
 -- a failed read of the program's file
-program-fault : (asked : Option Command) (o : Outside) (command : Command) → asked ≡ Some command → Rose (o.before command.file) (o.after command.file) → HasReadFault asked o
+program-fault : (asked : Option Command) (o : Outside) (command : Command) → asked ≡ Some command → Rose (o.before (program_file command)) (o.after (program_file command)) → HasReadFault asked o
 program-fault asked o command is rose =
     let P : Option Command → Type 0 = λ a. HasReadFault a o in
-    subst P (sym is) rose
+    subst P (sym is) (named command rose)
+  where
+    named : (command : Command) → Rose (o.before (program_file command)) (o.after (program_file command)) → HasReadFault (Some command) o
+    named (Run file budget answers) rose = rose
+    named (Check program answers) rose = inl rose
+
+answers-fault : (asked : Option Command) (o : Outside) (program answers : List ℕ) → asked ≡ Some (Check program answers) → Rose (o.before answers) (o.after answers) → HasReadFault asked o
+answers-fault asked o program answers is rose =
+    let P : Option Command → Type 0 = λ a. HasReadFault a o in
+    subst P (sym is) (inr rose)
 
 cause-of : (asked : Option Command) (o : Outside) (text : List ℕ) (status : Status) → Outputs asked o text status → Cause asked o status
 unfolding is_fault Cause
@@ -57,7 +76,10 @@ cause-of asked o text status (nothing says) = calm asked o status Memory says.en
 cause-of asked o text status (usage is says) = calm asked o status Usage says.ending_is refl
 cause-of asked o text status (no_program command is (unread rose says)) = inr (says.ending_is, program-fault asked o command is rose)
 cause-of asked o text status (no_program command is (refused bytes are r)) = calm asked o status _ (r.says).ending_is (refusal-calm (program_refusal (r.fault).kind))
-cause-of asked o text status (runs command p names is program r) = calm asked o status _ r.ending (run-calm r.end)
+cause-of asked o text status (runs file budget answers p names is program r) = calm asked o status _ r.ending (run-calm r.end)
+cause-of asked o text status (no_answers program answers p names is read (unread_answers rose says)) = inr (says.ending_is, answers-fault asked o program answers is rose)
+cause-of asked o text status (no_answers program answers p names is read (refused_answers bytes are r)) = calm asked o status _ (r.says).ending_is (refusal-calm (answers_refusal (r.fault).kind))
+cause-of asked o text status (checks program answers p names entries is read has c) = calm asked o status _ c.ending (check-calm c.end)
 
 -- ---- the clauses
 
@@ -87,12 +109,22 @@ without asked o text status fine (nothing says) = nothing says
 without asked o text status fine (usage is says) = usage is says
 without asked o text status fine (no_program command is (unread rose says)) = absurd (fine (program-fault asked o command is rose))
 without asked o text status fine (no_program command is (refused bytes are r)) = no_program command is (refused bytes are r)
-without asked o text status fine (runs command p names is program r) = runs command p names is program r
+without asked o text status fine (runs file budget answers p names is program r) = runs file budget answers p names is program r
+without asked o text status fine (no_answers program answers p names is read (unread_answers rose says)) = absurd (fine (answers-fault asked o program answers is rose))
+without asked o text status fine (no_answers program answers p names is read (refused_answers bytes are r)) = no_answers program answers p names is read (refused_answers bytes are r)
+without asked o text status fine (checks program answers p names entries is read has c) = checks program answers p names entries is read has c
 
-pub completes : (asked : Option Command) (command : Command) (o : Outside) (before after : Option (List ℕ)) (faults faults' : ℕ) (status : Status)
+pub completes : (asked : Option Command) (o : Outside) (before after : Option (List ℕ)) (faults faults' : ℕ) (status : Status)
+    → Reports (Outputs asked o) before after faults faults' status → ¬ HasReadFault asked o → ¬ Rose faults faults'
+    → (status ≡ Memory) ⊎ TakesWhole (λ text. Outputs asked (without_faults o) text status) before after
+completes asked o before after faults faults' status (whole w) fine writes =
+    inr (record { text = w.text; may = without asked o w.text status fine w.may; taken = w.taken })
+completes asked o before after faults faults' status (part is rose w) fine writes = absurd (writes rose)
+
+-- the same where the words are this command
+pub command-completes : (asked : Option Command) (command : Command) (o : Outside) (before after : Option (List ℕ)) (faults faults' : ℕ) (status : Status)
     → asked ≡ Some command → Reports (Outputs (Some command) o) before after faults faults' status → ¬ HasReadFault asked o → ¬ Rose faults faults'
     → (status ≡ Memory) ⊎ TakesWhole (λ text. Outputs asked (without_faults o) text status) before after
-completes asked command o before after faults faults' status is (whole w) fine writes =
-    let may : Outputs asked o w.text status = rw is w.may in
-    inr (record { text = w.text; may = without asked o w.text status fine may; taken = w.taken })
-completes asked command o before after faults faults' status is (part write rose w) fine writes = absurd (writes rose)
+command-completes asked command o before after faults faults' status is reports fine writes =
+    let P : Option Command → Type 0 = λ a. Reports (Outputs a o) before after faults faults' status in
+    completes asked o before after faults faults' status (subst P (sym is) reports) fine writes

@@ -1,30 +1,57 @@
--- What the sink took of a run.
-use Rattle.std.proofs.Common.{◌≡◌, ℕ, Option, List, refl, subst}
+-- What the sink took of a run and of a check.
+use Rattle.std.proofs.Common.{◌≡◌, ℕ, Option, None, Some, List, All, refl, subst}
 use Rattle.scasp_syntax.specs.declared.program.Program.{Program}
+use Rattle.scasp_answers.specs.States.{Entry}
+use Rattle.scasp_io.specs.Bytes.{behind, TakesPrefix}
 use Rattle.scasp_io.specs.Counts.{Rose}
 use Rattle.scasp_io.specs.Taken.{TakesFirst, TakesWhole}
 use Rattle.scasp_run.specs.Jobs.{job}
 use Rattle.scasp_run.specs.Runs.{IsRun}
 use Rattle.scasp_run.specs.declared.ends.RunEnd.{RunEnd}
-use Rattle.scasp_top.specs.Ends.{run_status}
-use Rattle.scasp_top.specs.Outputs.{asked_answers, Runs}
+use Rattle.scasp_recheck.specs.Outputs.{KeepsWorth, TakesLines}
+use Rattle.scasp_recheck.specs.Texts.{block_lines, recheck_text, rechecked_of}
+use Rattle.scasp_recheck.specs.declared.checking.Rechecked.{Rechecked}
+use Rattle.scasp_top.specs.Ends.{run_status, check_status}
+use Rattle.scasp_top.specs.Outputs.{asked_answers, Checks, Runs}
 use Rattle.scasp_top.specs.Reports.{Reports, whole, part}
 use Rattle.scasp_top.specs.declared.status.Status.{Status}
-use Rattle.scasp_top.specs.declared.status.Status.TheVariants.{Write}
+use Rattle.scasp_top.specs.declared.status.Status.TheVariants.{Memory, Write}
 
 -- a run that ended, or was cut off by want of memory
 pub takes-run : (p : Program) (names : List (List ℕ)) (budget answers : ℕ) (asked : Option ℕ) (end : Option RunEnd) (status : Status) (before after : Option (List ℕ)) (faults faults' : ℕ)
     → asked ≡ asked_answers answers → TakesWhole (λ text. IsRun (job p names budget asked) text end) before after → status ≡ run_status end
     → Reports (Runs p names budget answers) before after faults faults' status
 takes-run p names budget answers asked end status before after faults faults' same t is =
-    let run : IsRun (job p names budget (asked_answers answers)) t.text end = subst (λ (a : Option ℕ). IsRun (job p names budget a) t.text end) same t.may in
-    whole (record { text = t.text; may = record { end = end; run = run; ending = is }; taken = t.taken })
+    whole (record { text = t.text; may = record { end = end; run = subst (λ (a : Option ℕ). IsRun (job p names budget a) t.text end) same t.may; ending = is }; taken = t.taken })
 
 -- a run of which a write failed
 pub takes-part : (p : Program) (names : List (List ℕ)) (budget answers : ℕ) (asked : Option ℕ) (before after : Option (List ℕ)) (faults faults' : ℕ)
     → asked ≡ asked_answers answers → TakesFirst (λ text. (end : Option RunEnd) × IsRun (job p names budget asked) text end) before after → Rose faults faults'
     → Reports (Runs p names budget answers) before after faults faults' Write
 takes-part p names budget answers asked before after faults faults' same t rose =
-    let end = t.may.0 in
-    let run : IsRun (job p names budget (asked_answers answers)) t.text end = subst (λ (a : Option ℕ). IsRun (job p names budget a) t.text end) same t.may.1 in
-    part refl rose (record { text = t.text; may = (run_status end, record { end = end; run = run; ending = refl }); part = t.part })
+    let run = subst (λ (a : Option ℕ). IsRun (job p names budget a) t.text t.may.0) same t.may.1 in
+    part refl rose (record { text = t.text; may = (run_status t.may.0, record { end = t.may.0; run = run; ending = refl }); part = t.part })
+
+-- a check that ended
+pub takes-check : (p : Program) (entries : List Entry) (end : Rechecked) (status : Status) (before after : Option (List ℕ)) (faults faults' : ℕ)
+    → after ≡ behind before (recheck_text p entries) → end ≡ rechecked_of p entries → status ≡ check_status (Some end) → All (KeepsWorth p) entries
+    → Reports (Checks p entries) before after faults faults' status
+takes-check p entries end status before after faults faults' taken is ending says =
+    whole (record { text = recheck_text p entries; may = record { end = Some end; check = (refl, is); ending = ending; says = says }; taken = taken })
+
+-- a check that was cut off by want of memory
+pub takes-lines : (p : Program) (entries : List Entry) (before after : Option (List ℕ)) (faults faults' : ℕ)
+    → TakesLines before after (block_lines p entries) → All (KeepsWorth p) entries → Reports (Checks p entries) before after faults faults' Memory
+takes-lines p entries before after faults faults' t says =
+    whole (record { text = _; may = record { end = None; check = (t.count, refl); ending = refl; says = says }; taken = t.taken })
+
+-- a check of which a write failed
+pub takes-check_part : (p : Program) (entries : List Entry) (before after : Option (List ℕ)) (faults faults' : ℕ)
+    → TakesPrefix before after (recheck_text p entries) → Rose faults faults' → All (KeepsWorth p) entries
+    → Reports (Checks p entries) before after faults faults' Write
+takes-check_part p entries before after faults faults' t rose says =
+    part refl rose (record {
+      text = recheck_text p entries;
+      may = (check_status (Some (rechecked_of p entries)), record { end = Some (rechecked_of p entries); check = (refl, refl); ending = refl; says = says });
+      part = t;
+    })

@@ -1,7 +1,8 @@
--- A file that is read, and one that is longer than may be.
-use Rattle.std.proofs.Common.{◌≡◌, ℕ, ◌<◌, ◌≤◌, ◌+◌, Option, None, Some, IfSome, List, [], length, arith, refl, sym, subst, replicate, Result, Ok, Err, IfErr}
+-- Files that are read, and such as are longer than may be.
+use Rattle.std.proofs.Common.{◌≡◌, ℕ, ◌<◌, ◌≤◌, ◌+◌, Option, None, Some, IfSome, List, length, arith, refl, sym, subst, replicate, Result, Ok, Err, IfErr}
 use Rattle.std.proofs.lemmas.Bool.{lt-ltb}
 use Rattle.std.proofs.lemmas.List.{length-replicate}
+use Rattle.scasp_io.specs.Counts.{Rose}
 use Rattle.scasp_name.specs.Texts.{list_names}
 use Rattle.scasp_phrase.specs.Faults.{fault_at}
 use Rattle.scasp_phrase.specs.declared.fault.Count.TheVariants as count
@@ -10,11 +11,15 @@ use Rattle.scasp_phrase.specs.declared.fault.Kind.TheVariants as kind
 use Rattle.scasp_text.specs.Texts.{read}
 use Rattle.scasp_text.specs.declared.texts.TheConstants.{BYTE_LIMIT}
 use Rattle.scasp_program.specs.Programs.{program_in}
+use Rattle.scasp_answers.specs.Files.{byte_limit, fault, file_in}
+use Rattle.scasp_answers.specs.declared.fault.AnswerFault.{AnswerFault}
+use Rattle.scasp_answers.specs.declared.fault.AnswerKind.TheVariants as answer
 use Rattle.scasp_top.specs.Inside.Halts.{IfLine}
-use Rattle.scasp_top.specs.Outputs.{outside, AreBytes, IsNoProgram, RefusesProgram, Says, refused}
-use Rattle.scasp_top.specs.Texts.{program_refusal, refusal_line, refusal_status}
+use Rattle.scasp_top.specs.Outputs.{answers_in, outside, AreBytes, IsNoAnswers, IsNoProgram, RefusesAnswers, RefusesProgram, Says, refused, refused_answers, unread_answers}
+use Rattle.scasp_top.specs.Texts.{answers_refusal, program_refusal, refusal_line, refusal_status}
 use Rattle.scasp_top.specs.declared.halt.Halt.{Halt}
 use Rattle.scasp_top.specs.declared.halt.Halt.TheVariants as halt
+use Rattle.scasp_top.specs.declared.refusals.Input.TheVariants as input
 use Rattle.scasp_top.specs.declared.status.Status.{Status}
 
 -- bytes that are longer than so many
@@ -32,6 +37,11 @@ pub text-too_long : (bytes : List ℕ) → BYTE_LIMIT < length bytes → program
 unfolding read
 text-too_long bytes longer = rw (lt-ltb BYTE_LIMIT (length bytes) longer) refl
 
+-- an answer file
+pub answers-too_long : (names : List (List ℕ)) (bytes : List ℕ) → byte_limit < length bytes → answers_in names bytes ≡ fault byte_limit answer.Limit
+unfolding file_in
+answers-too_long names bytes longer = rw (lt-ltb byte_limit (length bytes) longer) refl
+
 -- ---- the line that tells why a file is not read
 
 pub line-widen : (h : Halt) (may also : List ℕ → Status → Type 0) → IfLine h may → ((text : List ℕ) (status : Status) → may text status → also text status) → IfLine h also
@@ -43,25 +53,65 @@ pub refused-program : (told : List ℕ → Option (List ℕ)) (before after : Li
 refused-program told before after file bytes h are says =
     line-widen h (RefusesProgram bytes) (IsNoProgram (outside told before after) file) says (λ text status s. refused bytes are s)
 
--- the same of what is read of a slice of the bytes
-pub refused-slice : {X : Type 0} (told : List ℕ → Option (List ℕ)) (before after : List ℕ → ℕ) (file slice bytes : List ℕ) (r : Result X Halt)
-    → slice ≡ bytes → AreBytes (told file) bytes → IfErr r (λ h. IfLine h (RefusesProgram slice))
-    → IfErr r (λ h. IfLine h (IsNoProgram (outside told before after) file))
-refused-slice told before after file slice bytes (Ok x) is are says = says
-refused-slice told before after file slice bytes (Err h) is are says =
-    refused-program told before after file slice h (subst (λ (b : List ℕ). AreBytes (told file) b) (sym is) are) says
-
 pub line-program : (bytes : List ℕ) (f : Fault) (h : Halt) → program_in list_names bytes ≡ Err f
-    → IfLine h (Says (refusal_line f.at (program_refusal f.kind)) (refusal_status (program_refusal f.kind))) → IfLine h (RefusesProgram bytes)
+    → IfLine h (Says (refusal_line input.Program f.at (program_refusal f.kind)) (refusal_status (program_refusal f.kind))) → IfLine h (RefusesProgram bytes)
 line-program bytes f h is says =
-    line-widen h (Says (refusal_line f.at (program_refusal f.kind)) (refusal_status (program_refusal f.kind))) (RefusesProgram bytes) says
+    line-widen h (Says (refusal_line input.Program f.at (program_refusal f.kind)) (refusal_status (program_refusal f.kind))) (RefusesProgram bytes) says
     (λ text status s. record { fault = f; is = is; says = s })
 
 pub long-program : (told : List ℕ → Option (List ℕ)) (before after : List ℕ → ℕ) (file : List ℕ) (h : Halt)
     → IfSome (told file) (λ bytes. BYTE_LIMIT < length bytes)
-    → IfLine h (Says (refusal_line BYTE_LIMIT (program_refusal (kind.Limit count.Bytes))) (refusal_status (program_refusal (kind.Limit count.Bytes))))
+    → IfLine h (Says (refusal_line input.Program BYTE_LIMIT (program_refusal (kind.Limit count.Bytes))) (refusal_status (program_refusal (kind.Limit count.Bytes))))
     → IfLine h (IsNoProgram (outside told before after) file)
 long-program told before after file h longer says =
     let l = longer-told (told file) BYTE_LIMIT longer in
     refused-program told before after file l.bytes h l.are
     (line-program l.bytes (fault_at BYTE_LIMIT (kind.Limit count.Bytes)) h (text-too_long l.bytes l.longer) says)
+
+pub refused-file_answers : (told : List ℕ → Option (List ℕ)) (before after : List ℕ → ℕ) (file : List ℕ) (names : List (List ℕ)) (bytes : List ℕ) (h : Halt)
+    → AreBytes (told file) bytes → IfLine h (RefusesAnswers names bytes) → IfLine h (IsNoAnswers (outside told before after) file names)
+refused-file_answers told before after file names bytes h are says =
+    line-widen h (RefusesAnswers names bytes) (IsNoAnswers (outside told before after) file names) says (λ text status s. refused_answers bytes are s)
+
+pub line-answers : (names : List (List ℕ)) (bytes : List ℕ) (f : AnswerFault) (h : Halt) → answers_in names bytes ≡ Err f
+    → IfLine h (Says (refusal_line input.Answers f.at (answers_refusal f.kind)) (refusal_status (answers_refusal f.kind))) → IfLine h (RefusesAnswers names bytes)
+line-answers names bytes f h is says =
+    line-widen h (Says (refusal_line input.Answers f.at (answers_refusal f.kind)) (refusal_status (answers_refusal f.kind))) (RefusesAnswers names bytes) says
+    (λ text status s. record { fault = f; is = is; says = s })
+
+pub long-answers : (told : List ℕ → Option (List ℕ)) (before after : List ℕ → ℕ) (file : List ℕ) (names : List (List ℕ)) (h : Halt)
+    → IfSome (told file) (λ bytes. byte_limit < length bytes)
+    → IfLine h (Says (refusal_line input.Answers byte_limit (answers_refusal answer.Limit)) (refusal_status (answers_refusal answer.Limit)))
+    → IfLine h (IsNoAnswers (outside told before after) file names)
+long-answers told before after file names h longer says =
+    let l = longer-told (told file) byte_limit longer in
+    refused-file_answers told before after file names l.bytes h l.are
+    (line-answers names l.bytes (record { at = byte_limit; kind = answer.Limit }) h (answers-too_long names l.bytes l.longer) says)
+
+-- bytes that were read, and are refused
+pub text-refused : {X : Type 0} (told : List ℕ → Option (List ℕ)) (before after : List ℕ → ℕ) (file items bytes : List ℕ) (r : Result X Halt) → bytes ≡ items
+    → AreBytes (told file) items → IfErr r (λ halt. IfLine halt (RefusesProgram bytes)) → IfErr r (λ halt. IfLine halt (IsNoProgram (outside told before after) file))
+text-refused told before after file items bytes (Ok x) same are h = h
+text-refused told before after file items bytes (Err halt) same are h =
+    refused-program told before after file bytes halt (subst (AreBytes (told file)) (sym same) are) h
+
+pub blocks-refused : {X : Type 0} (told : List ℕ → Option (List ℕ)) (before after : List ℕ → ℕ) (file : List ℕ) (names : List (List ℕ)) (items bytes : List ℕ) (r : Result X Halt)
+    → bytes ≡ items → AreBytes (told file) items → IfErr r (λ halt. IfLine halt (RefusesAnswers names bytes))
+    → IfErr r (λ halt. IfLine halt (IsNoAnswers (outside told before after) file names))
+blocks-refused told before after file names items bytes (Ok x) same are h = h
+blocks-refused told before after file names items bytes (Err halt) same are h =
+    refused-file_answers told before after file names bytes halt (subst (AreBytes (told file)) (sym same) are) h
+
+-- ---- the second file of a command
+
+rose-earlier : (first before after : ℕ) → first ≤ before → Rose before after → Rose first after
+rose-earlier first before after h rose = omega arith
+
+-- what is so where the first file has been read is so of the whole call
+pub no_answers-since : (told told' : List ℕ → Option (List ℕ)) (first before after : List ℕ → ℕ) (file : List ℕ) (names : List (List ℕ)) (text : List ℕ) (status : Status)
+    → told' file ≡ told file → first file ≤ before file → IsNoAnswers (outside told' before after) file names text status
+    → IsNoAnswers (outside told first after) file names text status
+no_answers-since told told' first before after file names text status stays counts (unread_answers rose says) =
+    unread_answers (rose-earlier (first file) (before file) (after file) counts rose) says
+no_answers-since told told' first before after file names text status stays counts (refused_answers bytes are r) =
+    refused_answers bytes (subst (λ (t : Option (List ℕ)). AreBytes t bytes) stays are) r

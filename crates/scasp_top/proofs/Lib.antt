@@ -1,4 +1,6 @@
+mod AgreeLemmas
 pub mod CauseLemmas
+pub mod CommandLemmas
 pub mod EndLemmas
 pub mod InputLemmas
 pub mod ReportLemmas

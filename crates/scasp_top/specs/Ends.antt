@@ -1,7 +1,13 @@
--- How runs end, and the status that belongs to it.
-use Rattle.std.specs.Prelude.{Option, None, Some}
+-- How runs and checks end, and the status that belongs to it.
+use Rattle.std.specs.Prelude.{◌≡◌, ℕ, Option, None, Some, List, take}
+use Rattle.std.specs.List.{concat}
+use Rattle.scasp_syntax.specs.declared.program.Program.{Program}
+use Rattle.scasp_answers.specs.States.{Entry}
 use Rattle.scasp_run.specs.declared.ends.RunEnd.{RunEnd}
 use Rattle.scasp_run.specs.declared.ends.RunEnd.TheVariants as run
+use Rattle.scasp_recheck.specs.Texts.{block_lines, recheck_text, rechecked_of}
+use Rattle.scasp_recheck.specs.declared.checking.Rechecked.{Rechecked}
+use Rattle.scasp_recheck.specs.declared.checking.Rechecked.TheVariants as check
 use Rattle.scasp_top.specs.declared.status.Status.{Status}
 use Rattle.scasp_top.specs.declared.status.Status.TheVariants as status
 
@@ -12,3 +18,14 @@ run_status (Some run.Done) = status.Done
 run_status (Some run.NoAnswer) = status.NoAnswer
 run_status (Some run.Spent) = status.Spent
 run_status (Some run.Overflow) = status.Overflow
+
+-- The text of a check that ended so. Of one that was cut off the first lines were printed, each whole.
+abbrev pub IsCheck : Program → List Entry → List ℕ → Option Rechecked → Type 0
+IsCheck p entries text None = (count : ℕ) × (text ≡ concat (take count (block_lines p entries)))
+IsCheck p entries text (Some end) = (text ≡ recheck_text p entries) × (end ≡ rechecked_of p entries)
+
+-- of a check that ended so, or was cut off
+abbrev pub check_status : Option Rechecked → Status
+check_status None = status.Memory
+check_status (Some check.Accepted) = status.Done
+check_status (Some check.Refused) = status.Refused

@@ -1,3 +1,4 @@
+pub mod Agreeing
 pub mod Codes
 pub mod Ends
 pub mod Examples

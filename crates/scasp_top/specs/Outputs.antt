@@ -1,16 +1,24 @@
 -- What a command prints, and the status with which it ends.
-use Rattle.std.specs.Prelude.{◌≡◌, ◌==◌, ℕ, if◌then◌else◌, Option, None, Some, IfSome, List, [], Ok, Err}
+use Rattle.std.specs.Prelude.{◌≡◌, ◌==◌, ◌⊎◌, ℕ, if◌then◌else◌, Option, None, Some, IfSome, List, [], All, Ok, Err}
 use Rattle.scasp_name.specs.Texts.{list_names}
 use Rattle.scasp_syntax.specs.declared.program.Program.{Program}
 use Rattle.scasp_phrase.specs.declared.fault.Fault.{Fault}
 use Rattle.scasp_program.specs.Programs.{program_in, reading_of}
+use Rattle.scasp_answers.specs.Files.{Reading, file_in}
+use Rattle.scasp_answers.specs.States.{Entry}
+use Rattle.scasp_answers.specs.declared.fault.AnswerFault.{AnswerFault}
+use Rattle.scasp_answer_files.specs.Texts.{with_names}
 use Rattle.scasp_io.specs.Counts.{Rose}
 use Rattle.scasp_words.specs.declared.command.Command.{Command}
+use Rattle.scasp_words.specs.declared.command.Command.TheVariants.{Run, Check}
 use Rattle.scasp_run.specs.Jobs.{job}
 use Rattle.scasp_run.specs.Runs.{IsRun}
 use Rattle.scasp_run.specs.declared.ends.RunEnd.{RunEnd}
-use Rattle.scasp_top.specs.Ends.{run_status}
-use Rattle.scasp_top.specs.Texts.{usage_line, read_line, refusal_line, refusal_status, program_refusal}
+use Rattle.scasp_recheck.specs.Outputs.{KeepsWorth}
+use Rattle.scasp_recheck.specs.declared.checking.Rechecked.{Rechecked}
+use Rattle.scasp_top.specs.Ends.{IsCheck, run_status, check_status}
+use Rattle.scasp_top.specs.Texts.{usage_line, read_line, refusal_line, refusal_status, program_refusal, answers_refusal}
+use Rattle.scasp_top.specs.declared.refusals.Input.TheVariants as input
 use Rattle.scasp_top.specs.declared.status.Status.{Status}
 use Rattle.scasp_top.specs.declared.status.Status.TheVariants.{Usage, Read, Memory}
 
@@ -33,13 +41,23 @@ Failed o file = Rose (o.before file) (o.after file)
 abbrev pub AreBytes : Option (List ℕ) → List ℕ → Type 0
 AreBytes told bytes = IfSome told (λ all. bytes ≡ all)
 
--- ---- a file that is read
+-- ---- files that are read
 
 -- the file, of which these bytes are told, spells this program, with this table of names
 pub record IsProgram (told : Option (List ℕ)) (p : Program) (names : List (List ℕ)) : Type 0 where
   pub bytes : List ℕ
   pub are : AreBytes told bytes
   pub read : program_in list_names bytes ≡ Ok (reading_of (p, names))
+
+-- what is read of an answer file behind a program with these names
+abbrev pub answers_in : List (List ℕ) → List ℕ → Reading
+answers_in names bytes = file_in (with_names names bytes) bytes
+
+-- the file has these entries
+pub record IsAnswers (told : Option (List ℕ)) (names : List (List ℕ)) (entries : List Entry) : Type 0 where
+  pub bytes : List ℕ
+  pub are : AreBytes told bytes
+  pub read : answers_in names bytes ≡ Ok entries
 
 -- ---- what is printed
 
@@ -52,12 +70,23 @@ pub record Says (line : List ℕ) (ending : Status) (text : List ℕ) (status : 
 pub record RefusesProgram (bytes text : List ℕ) (status : Status) : Type 0 where
   pub fault : Fault
   pub is : program_in list_names bytes ≡ Err fault
-  pub says : Says (refusal_line fault.at (program_refusal fault.kind)) (refusal_status (program_refusal fault.kind)) text status
+  pub says : Says (refusal_line input.Program fault.at (program_refusal fault.kind)) (refusal_status (program_refusal fault.kind)) text status
+
+-- the bytes are no answer file
+pub record RefusesAnswers (names : List (List ℕ)) (bytes text : List ℕ) (status : Status) : Type 0 where
+  pub fault : AnswerFault
+  pub is : answers_in names bytes ≡ Err fault
+  pub says : Says (refusal_line input.Answers fault.at (answers_refusal fault.kind)) (refusal_status (answers_refusal fault.kind)) text status
 
 -- the file could not be read, or it spells no program
 pub data IsNoProgram (o : Outside) (file text : List ℕ) (status : Status) : Type 0 where
-  unread : Failed o file → Says read_line Read text status → IsNoProgram o file text status
+  unread : Failed o file → Says (read_line input.Program) Read text status → IsNoProgram o file text status
   refused : (bytes : List ℕ) → AreBytes (o.told file) bytes → RefusesProgram bytes text status → IsNoProgram o file text status
+
+-- the same of an answer file
+pub data IsNoAnswers (o : Outside) (file : List ℕ) (names : List (List ℕ)) (text : List ℕ) (status : Status) : Type 0 where
+  unread_answers : Failed o file → Says (read_line input.Answers) Read text status → IsNoAnswers o file names text status
+  refused_answers : (bytes : List ℕ) → AreBytes (o.told file) bytes → RefusesAnswers names bytes text status → IsNoAnswers o file names text status
 
 -- how many answers are asked for: 0 asks for all
 abbrev pub asked_answers : ℕ → Option ℕ
@@ -69,20 +98,38 @@ pub record Runs (p : Program) (names : List (List ℕ)) (budget answers : ℕ) (
   pub run : IsRun (job p names budget (asked_answers answers)) text end
   pub ending : status ≡ run_status end
 
--- This is printed for what the words ask for, and so the command ends. Want of memory may come before anything is printed, and cuts a run off.
+-- the check of the blocks of a file, whole or cut off; what their lines say holds
+pub record Checks (p : Program) (entries : List Entry) (text : List ℕ) (status : Status) : Type 0 where
+  pub end : Option Rechecked
+  pub check : IsCheck p entries text end
+  pub ending : status ≡ check_status end
+  pub says : All (KeepsWorth p) entries
+
+-- the file of the program
+abbrev pub program_file : Command → List ℕ
+program_file (Run file budget answers) = file
+program_file (Check program answers) = program
+
+-- This is printed for what the words ask for, and so the command ends. Want of memory may come before anything is printed, and cuts a run or a
+-- check off.
 pub data Outputs (asked : Option Command) (o : Outside) (text : List ℕ) (status : Status) : Type 0 where
   nothing : Says [] Memory text status → Outputs asked o text status
   usage : asked ≡ None → Says usage_line Usage text status → Outputs asked o text status
-  no_program : (command : Command) → asked ≡ Some command → IsNoProgram o command.file text status → Outputs asked o text status
-  runs : (command : Command) (p : Program) (names : List (List ℕ)) → asked ≡ Some command → IsProgram (o.told command.file) p names
-      → Runs p names command.budget command.answers text status → Outputs asked o text status
+  no_program : (command : Command) → asked ≡ Some command → IsNoProgram o (program_file command) text status → Outputs asked o text status
+  runs : (file : List ℕ) (budget answers : ℕ) (p : Program) (names : List (List ℕ)) → asked ≡ Some (Run file budget answers)
+      → IsProgram (o.told file) p names → Runs p names budget answers text status → Outputs asked o text status
+  no_answers : (program answers : List ℕ) (p : Program) (names : List (List ℕ)) → asked ≡ Some (Check program answers)
+      → IsProgram (o.told program) p names → IsNoAnswers o answers names text status → Outputs asked o text status
+  checks : (program answers : List ℕ) (p : Program) (names : List (List ℕ)) (entries : List Entry) → asked ≡ Some (Check program answers)
+      → IsProgram (o.told program) p names → IsAnswers (o.told answers) names entries → Checks p entries text status → Outputs asked o text status
 
 -- ---- faults
 
--- a read of the file that the words name failed
+-- a read of a file that the words name failed
 abbrev pub HasReadFault : Option Command → Outside → Type 0
 HasReadFault None o = ⊥
-HasReadFault (Some command) o = Failed o command.file
+HasReadFault (Some (Run file budget answers)) o = Failed o file
+HasReadFault (Some (Check program answers)) o = Failed o program ⊎ Failed o answers
 
 -- the same outside, where no read fails
 abbrev pub without_faults : Outside → Outside

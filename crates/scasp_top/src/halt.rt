@@ -1,4 +1,4 @@
-//! What is printed where no program is run.
+//! What is printed where no program is run and no answers are checked.
 ghost use Rattle.scasp_top.specs.Inside.Halts.{IfLine, Tells};
 ghost use Rattle.scasp_top.specs.Outputs.{Says};
 ghost use Rattle.scasp_top.specs.Reports.{Reports};

@@ -1,13 +1,16 @@
-//! The file of a command.
-ghost use Rattle.std.specs.Prelude.{◌≡◌, Ok, IfOk, IfErr};
+//! The files of a command.
+ghost use Rattle.std.specs.Prelude.{◌≡◌, ◌≤◌, ℕ, List, Ok, IfOk, IfErr, map};
 ghost use Rattle.scasp_name.specs.Texts.{list_names};
 ghost use Rattle.scasp_program.specs.Programs.{program_in, reading_of};
+ghost use Rattle.scasp_answer_files.specs.View.{entry_of};
 ghost use Rattle.scasp_top.specs.Inside.Halts.{IfLine};
-ghost use Rattle.scasp_top.specs.Outputs.{outside, IsNoProgram, IsProgram, RefusesProgram};
+ghost use Rattle.scasp_top.specs.Outputs.{answers_in, outside, IsAnswers, IsNoAnswers, IsNoProgram, IsProgram, RefusesAnswers, RefusesProgram};
 
 use crate::halt::{Halt, line};
-use crate::refusals::program_refusal;
+use crate::refusals::{answers_refusal, program_refusal};
 use crate::status::Status;
+use scasp_answer_files::{AnswerErr, BYTE_LIMIT as ANSWER_LIMIT, Entries, read_answers};
+use scasp_answers::{AnswerFault, AnswerKind};
 use scasp_io::{Files, ReadErr, read_file};
 use scasp_name::Names;
 use scasp_phrase::{Count, Fault, Kind, Stop};
@@ -39,6 +42,8 @@ pub(crate) fn program_in_file<F: Files>(
 ) -> Result<(Program, Names), Halt>
     ensures ok { IfOk result (λ x. IsProgram (F.told files.old file.now) x.0 x.1) }
     ensures err { IfErr result (λ halt. IfLine halt (IsNoProgram (outside (F.told files.old) (F.faults files.old) (F.faults files.new)) file.now)) }
+    ensures stays { (other : List ℕ) → F.told files.new other ≡ F.told files.old other }
+    ensures counts { (other : List ℕ) → F.faults files.old other ≤ F.faults files.new other }
 {
     match read_file(alloc, files, file, BYTE_LIMIT as u64) {
         Ok(bytes) => read_text(alloc, bytes.as_slice()),
@@ -46,6 +51,40 @@ pub(crate) fn program_in_file<F: Files>(
         Err(ReadErr::TooLong) => {
             let (at, kind) = (BYTE_LIMIT as u64, Kind::Limit(Count::Bytes));
             Err(program_refusal(alloc, Fault { at, kind }))
+        }
+        Err(ReadErr::Memory) => Err(Halt::Memory),
+    }
+}
+
+/// What the bytes have behind a header, with the names of the program before them; or the line of the first fault.
+fn read_blocks(alloc: Global, bytes: &[u8], mut names: Names) -> Result<Entries, Halt>
+    ensures ok { IfOk result (λ entries. answers_in names bytes.now ≡ Ok (map entry_of entries)) }
+    ensures err { IfErr result (λ halt. IfLine halt (RefusesAnswers names bytes.now)) }
+{
+    match read_answers(alloc, bytes, &mut names) {
+        Ok(entries) => Ok(entries),
+        Err(AnswerErr::At(fault)) => Err(answers_refusal(alloc, fault)),
+        Err(AnswerErr::Memory) => Err(Halt::Memory),
+    }
+}
+
+/// The entries of an answer file, with the names of the program before them; or the line that tells why there are none.
+pub(crate) fn answers_in_file<F: Files>(
+    alloc: Global,
+    file: &str,
+    names: Names,
+    files: &mut F,
+) -> Result<Entries, Halt>
+    ensures ok { IfOk result (λ entries. IsAnswers (F.told files.old file.now) names (map entry_of entries)) }
+    ensures err { IfErr result (λ halt. IfLine halt (IsNoAnswers (outside (F.told files.old) (F.faults files.old) (F.faults files.new)) file.now names)) }
+    ensures counts { (other : List ℕ) → F.faults files.old other ≤ F.faults files.new other }
+{
+    match read_file(alloc, files, file, ANSWER_LIMIT as u64) {
+        Ok(bytes) => read_blocks(alloc, bytes.as_slice(), names),
+        Err(ReadErr::Fault) => Err(line(alloc, b"read answers\n", Status::Read)),
+        Err(ReadErr::TooLong) => {
+            let (at, kind) = (ANSWER_LIMIT as u64, AnswerKind::Limit);
+            Err(answers_refusal(alloc, AnswerFault { at, kind }))
         }
         Err(ReadErr::Memory) => Err(Halt::Memory),
     }

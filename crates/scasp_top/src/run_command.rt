@@ -1,5 +1,6 @@
 //! The command `run`.
 ghost use Rattle.std.specs.Prelude.{◌≡◌, Some};
+ghost use Rattle.scasp_words.specs.declared.command.Command.TheVariants as command;
 ghost use Rattle.scasp_top.specs.Ends as spec;
 ghost use Rattle.scasp_top.specs.Outputs.{asked_answers, outside, Outputs, Runs};
 ghost use Rattle.scasp_top.specs.Reports.{Reports};
@@ -11,7 +12,6 @@ use scasp_io::{Files, OutputErr, Sink};
 use scasp_name::Names;
 use scasp_run::{RunEnd, run};
 use scasp_syntax::Program;
-use scasp_words::Command;
 use std::alloc::Global;
 
 /// The status of a run that ended so.
@@ -51,19 +51,19 @@ fn run_program<K: Sink>(
     }
 }
 
-/// Runs the program in the file.
+/// Runs the program in a file.
 pub(crate) fn run_file<F: Files, K: Sink>(
     alloc: Global,
-    command: &Command,
+    file: &str,
+    budget: u64,
+    answers: u64,
     files: &mut F,
     out: &mut K,
 ) -> Status
-    ensures { Reports (Outputs (Some command.now) (outside (F.told files.old) (F.faults files.old) (F.faults files.new))) (K.taken out.old) (K.taken out.new) (K.faults out.old) (K.faults out.new) result }
+    ensures { Reports (Outputs (Some (command.Run file.now budget answers)) (outside (F.told files.old) (F.faults files.old) (F.faults files.new))) (K.taken out.old) (K.taken out.new) (K.faults out.old) (K.faults out.new) result }
 {
-    match program_in_file(alloc, command.file.as_str(), files) {
-        Ok((program, names)) => {
-            run_program(alloc, &program, names, command.budget, command.answers, out)
-        }
+    match program_in_file(alloc, file, files) {
+        Ok((program, names)) => run_program(alloc, &program, names, budget, answers, out),
         Err(halt) => tell(&halt, out),
     }
 }

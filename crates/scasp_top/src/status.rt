@@ -3,15 +3,15 @@
 /// How a command ended.
 #[derive(Clone, Copy, Debug, PartialEq, Eq)]
 pub enum Status {
-    /// An answer was printed, and each query ended or was stopped.
+    /// An answer was printed, and each query ended or was stopped; or each block that was checked is accepted.
     Done,
     /// The search for answers to each query ended without one.
     NoAnswer,
     /// The words are no command.
     Usage,
-    /// The bytes of the program are not in the grammar.
+    /// The bytes of the program or of the answers are not in their grammar.
     Text,
-    /// The program could not be read.
+    /// The program or the answers could not be read.
     Read,
     /// A write failed.
     Write,
@@ -21,6 +21,8 @@ pub enum Status {
     Overflow,
     /// Want of memory.
     Memory,
+    /// A block that was checked is not accepted.
+    Refused,
     /// A count passes its limit: bytes of a file; clauses, items of a body, variables, arguments or brackets of a program's text.
     Limit,
 }
@@ -29,7 +31,7 @@ impl Status {
     ghost use Rattle.std.specs.Prelude.{◌≡◌};
     ghost use Rattle.scasp_top.specs.Codes.{code_of};
 
-    /// The exit code of the program: 0 to 8, and 11 for `Limit`.
+    /// The exit code of the program: 0 to 9, and 11 for `Limit`.
     pub fn code(self) -> u8
         ensures { result ≡ code_of self }
     {
@@ -43,6 +45,7 @@ impl Status {
             Status::Spent => 6,
             Status::Overflow => 7,
             Status::Memory => 8,
+            Status::Refused => 9,
             Status::Limit => 11,
         }
     }

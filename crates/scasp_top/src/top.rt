@@ -7,17 +7,18 @@ ghost use Rattle.scasp_words.specs.Commands.{command_of};
 ghost use Rattle.scasp_top.specs.Outputs.{outside, without_faults, HasReadFault, Outputs};
 ghost use Rattle.scasp_top.specs.Reports.{Reports};
 
+use crate::check_command::check_files;
 use crate::halt::print;
 use crate::run_command::run_file;
 use crate::status::Status;
 use scasp_io::{Files, Sink, SureFiles, SureSink};
-use scasp_words::{WordErr, parse_words};
+use scasp_words::{Command, WordErr, parse_words};
 use std::alloc::Global;
 
 const USAGE_LINE: &[u8] =
     b"usage: scasp run FILE [--budget N] [--answers N] | check PROGRAM ANSWERS | trial N\n";
 
-/// The whole command: reads the file that the words name, prints, and says how it ended.
+/// The whole command: reads the files that the words name, prints, and says how it ended.
 pub fn scasp<F: Files, K: Sink>(
     alloc: Global,
     words: &Vec<String>,
@@ -34,7 +35,16 @@ pub fn scasp<F: Files, K: Sink>(
         → (result ≡ Status.Memory) ⊎ TakesWhole (λ text. Outputs (command_of (map string_bytes words.now.items)) (without_faults (outside (F.told files.old) (F.faults files.old) (F.faults files.new))) text result) (K.taken out.old) (K.taken out.new) }
 {
     match parse_words(alloc, words) {
-        Ok(command) => run_file(alloc, &command, files, out),
+        Ok(
+            Command::Run {
+                file,
+                budget,
+                answers,
+            },
+        ) => run_file(alloc, file.as_str(), budget, answers, files, out),
+        Ok(Command::Check { program, answers }) => {
+            check_files(alloc, program.as_str(), answers.as_str(), files, out)
+        }
         Err(WordErr::Usage) => print(USAGE_LINE, Status::Usage, out),
         Err(WordErr::Memory) => Status::Memory,
     }

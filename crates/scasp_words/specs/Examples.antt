@@ -1,25 +1,25 @@
 -- Words that are a command, and words that are none, computed.
 use Rattle.std.specs.Prelude.{◌≡◌, ℕ, None, Some, List, [], ◌∷◌, codes, refl}
 use Rattle.scasp_words.specs.Commands.{command_of}
-use Rattle.scasp_words.specs.declared.command.Command.{Command}
+use Rattle.scasp_words.specs.declared.command.Command.TheVariants.{Run, Check}
 
 abbrev run_p : List (List ℕ) → List (List ℕ)
 run_p options = codes "run" ∷ codes "p" ∷ options
 
-abbrev run_with : List ℕ → ℕ → ℕ → Command
-run_with file budget answers = record { file = file; budget = budget; answers = answers }
-
-defaults : command_of (run_p []) ≡ Some (run_with (codes "p") 50000 1)
+defaults : command_of (run_p []) ≡ Some (Run (codes "p") 50000 1)
 defaults = refl
 
-both : command_of (run_p (codes "--budget" ∷ codes "20" ∷ codes "--answers" ∷ codes "0" ∷ [])) ≡ Some (run_with (codes "p") 20 0)
+both : command_of (run_p (codes "--budget" ∷ codes "20" ∷ codes "--answers" ∷ codes "0" ∷ [])) ≡ Some (Run (codes "p") 20 0)
 both = refl
 
-other_order : command_of (run_p (codes "--answers" ∷ codes "1000000000" ∷ codes "--budget" ∷ codes "1" ∷ [])) ≡ Some (run_with (codes "p") 1 1000000000)
+other_order : command_of (run_p (codes "--answers" ∷ codes "1000000000" ∷ codes "--budget" ∷ codes "1" ∷ [])) ≡ Some (Run (codes "p") 1 1000000000)
 other_order = refl
 
+check_two : command_of (codes "check" ∷ codes "p" ∷ codes "a" ∷ []) ≡ Some (Check (codes "p") (codes "a"))
+check_two = refl
+
 -- a file may have any name
-named_as_an_option : command_of (codes "run" ∷ codes "--budget" ∷ []) ≡ Some (run_with (codes "--budget") 50000 1)
+named_as_an_option : command_of (codes "run" ∷ codes "--budget" ∷ []) ≡ Some (Run (codes "--budget") 50000 1)
 named_as_an_option = refl
 
 -- ---- none
@@ -35,6 +35,12 @@ one_word_more = refl
 
 longer_word : command_of (codes "runs" ∷ codes "p" ∷ []) ≡ None
 longer_word = refl
+
+no_answers : command_of (codes "check" ∷ codes "p" ∷ []) ≡ None
+no_answers = refl
+
+too_many_files : command_of (codes "check" ∷ codes "p" ∷ codes "a" ∷ codes "b" ∷ []) ≡ None
+too_many_files = refl
 
 budget_twice : command_of (run_p (codes "--budget" ∷ codes "2" ∷ codes "--budget" ∷ codes "2" ∷ [])) ≡ None
 budget_twice = refl
@@ -55,8 +61,5 @@ no_number : command_of (run_p (codes "--answers" ∷ [] ∷ [])) ≡ None
 no_number = refl
 
 -- not built yet
-a_check : command_of (codes "check" ∷ codes "p" ∷ codes "a" ∷ []) ≡ None
-a_check = refl
-
 a_trial : command_of (codes "trial" ∷ codes "1" ∷ []) ≡ None
 a_trial = refl

@@ -1,6 +1,6 @@
 //! Commands.
 ghost use Rattle.std.specs.Prelude.{◌≡◌, Some, None, IfOk, IsErrOf, map, string_bytes};
-ghost use Rattle.scasp_words.specs.Commands.{command_of, run_of};
+ghost use Rattle.scasp_words.specs.Commands.{command_of, run_of, check_of};
 
 use crate::error::WordErr;
 use crate::options::{Options, with_options};
@@ -13,14 +13,22 @@ pub const DEFAULT_BUDGET: u64 = 50_000;
 /// How many answers to a query are asked for where the words do not say.
 pub const DEFAULT_ANSWERS: u64 = 1;
 
-/// What the words ask for: answers to the queries of the program in a file.
+/// What the words ask for.
 #[derive(Debug, Drop)]
-pub struct Command {
-    pub file: Word,
-    /// How many calls the search for answers to one query may make.
-    pub budget: u64,
-    /// How many answers to each query are asked for; 0 asks for all.
-    pub answers: u64,
+pub enum Command {
+    /// Answers to the queries of a program.
+    Run {
+        file: Word,
+        /// How many calls the search for answers to one query may make.
+        budget: u64,
+        /// How many answers to each query are asked for; 0 asks for all.
+        answers: u64,
+    },
+    /// Whether the answers in a file are right.
+    Check {
+        program: Word,
+        answers: Word,
+    },
 }
 
 /// The command that the words behind `run` are: a file, and options.
@@ -38,15 +46,28 @@ fn run_command(alloc: Global, words: &[String]) -> Result<Command, WordErr>
     let Some(given) = with_options(none, options) else {
         return Err(WordErr::Usage);
     };
-    Ok(Command {
+    Ok(Command::Run {
         file: Word::from_text(alloc, file.as_str())?,
         budget: given.budget.unwrap_or(DEFAULT_BUDGET),
         answers: given.answers.unwrap_or(DEFAULT_ANSWERS),
     })
 }
 
-/// The command that the words are. `check PROGRAM ANSWERS` and `trial N` stand in the usage line, and
-/// are not built yet: their words are no command.
+/// The command that the words behind `check` are: a program and answers.
+fn check_command(alloc: Global, words: &[String]) -> Result<Command, WordErr>
+    ensures ok { IfOk result (λ command. check_of (map string_bytes words.now) ≡ Some command) }
+    ensures usage { IsErrOf result WordErr.Usage → check_of (map string_bytes words.now) ≡ None }
+{
+    match words {
+        [program, answers] => Ok(Command::Check {
+            program: Word::from_text(alloc, program.as_str())?,
+            answers: Word::from_text(alloc, answers.as_str())?,
+        }),
+        _ => Err(WordErr::Usage),
+    }
+}
+
+/// The command that the words are. `trial N` stands in the usage line, and is not built yet.
 ///
 /// # Errors
 ///
@@ -57,6 +78,7 @@ pub fn parse_words(alloc: Global, words: &Vec<String>) -> Result<Command, WordEr
 {
     match words.as_slice() {
         [word, behind @ ..] if word.as_str() == "run" => run_command(alloc, behind),
+        [word, behind @ ..] if word.as_str() == "check" => check_command(alloc, behind),
         _ => Err(WordErr::Usage),
     }
 }

@@ -1,12 +1,25 @@
-use Rattle.std.proofs.Common.{map, string_bytes, Global}
+use Rattle.std.proofs.Common.{◌≡◌, ◌∙◌, ap, sym, List, Some, map, string_bytes, Global, ℕ}
 use Rattle.scasp_words.specs.Commands.{command_of}
+use Rattle.scasp_words.specs.declared.command.Command.TheVariants.{Run, Check}
 use Rattle.scasp_top.specs.Outputs.{outside}
-use Rattle.scasp_top.proofs.CauseLemmas.{completes}
+use Rattle.scasp_top.proofs.CauseLemmas.{command-completes}
 use Rattle.scasp_top.proofs.top.scasp.Goals as goal
 
-pub returns-in-Ok-clause-complete : goal.returns-in-Ok-clause-complete
-returns-in-Ok-clause-complete g c =
-    completes (command_of (map (string_bytes {Z = Global}) c.args.words.now.items)) c.in-Ok.command
-    (outside (g.F.Files.told c.args.files.now) (g.F.Files.faults c.args.files.now) (g.F.Files.faults c.run_file.new.files))
-    (g.K.Sink.taken c.args.out.now) (g.K.Sink.taken c.run_file.new.out) (g.K.Sink.faults c.args.out.now) (g.K.Sink.faults c.run_file.new.out)
-    c.run_file.result c.in-Ok.ensures.ok c.run_file.ensures
+pub returns-in-Ok-Run-clause-complete : goal.returns-in-Ok-Run-clause-complete
+returns-in-Ok-Run-clause-complete g c =
+    let asked = command_of (map (string_bytes {Z = Global}) c.args.words.now.items) in
+    let command = Run c.as_str.result.now c.in-Ok-Run.budget c.in-Ok-Run.answers in
+    let named : command ≡ Run c.in-Ok-Run.file c.in-Ok-Run.budget c.in-Ok-Run.answers =
+    ap (λ (file : List ℕ). Run file c.in-Ok-Run.budget c.in-Ok-Run.answers) c.as_str.ensures in
+    let is : asked ≡ Some command = c.in-Ok-Run.ensures.ok ∙ ap Some (c.in-Ok-Run.field-0-is ∙ sym named) in
+    command-completes asked command (outside (g.F.Files.told c.args.files.now) (g.F.Files.faults c.args.files.now) (g.F.Files.faults c.run_file.new.files)) _ _ _ _ _ is c.run_file.ensures
+
+pub returns-in-Ok-Check-clause-complete : goal.returns-in-Ok-Check-clause-complete
+returns-in-Ok-Check-clause-complete g c =
+    let asked = command_of (map (string_bytes {Z = Global}) c.args.words.now.items) in
+    let command = Check c.as_str-in-Ok-Check.result.now c.as_str-in-Ok-Check-2.result.now in
+    let named : command ≡ Check c.in-Ok-Check.program c.in-Ok-Check.answers =
+    ap (λ (file : List ℕ). Check file c.as_str-in-Ok-Check-2.result.now) c.as_str-in-Ok-Check.ensures
+    ∙ ap (λ (file : List ℕ). Check c.in-Ok-Check.program file) c.as_str-in-Ok-Check-2.ensures in
+    let is : asked ≡ Some command = c.in-Ok-Check.ensures.ok ∙ ap Some (c.in-Ok-Check.field-0-is ∙ sym named) in
+    command-completes asked command (outside (g.F.Files.told c.args.files.now) (g.F.Files.faults c.args.files.now) (g.F.Files.faults c.check_files.new.files)) _ _ _ _ _ is c.check_files.ensures

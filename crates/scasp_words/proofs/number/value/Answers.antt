@@ -1,4 +1,4 @@
-use Rattle.std.proofs.Common.{rules, arith, ◌≡◌, ◌∙◌, IsTrue, ℕ, ◌<◌, ◌≤◌, ◌^◌, length, Bool, true, false, not, ◌&&◌, ◌==◌, nat_le, List, [], ◌∷◌, Result, Ok, refl, cond}
+use Rattle.std.proofs.Common.{rules, arith, ◌≡◌, IsTrue, ℕ, ◌<◌, ◌≤◌, length, true, not, ◌&&◌, ◌==◌, nat_le, List, [], ◌∷◌, Result, Ok, refl}
 use Rattle.std.proofs.lemmas.Bool.{and_parts, leb-true}
 use Rattle.std.proofs.lemmas.Str.Parse.{IsNumeralModel, digits_value_short, numerals_by_value, parse_gives}
 use Rattle.std.specs.Char.{is_ascii_digit}

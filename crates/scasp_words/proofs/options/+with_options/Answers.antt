@@ -1,4 +1,4 @@
-use Rattle.std.proofs.Common.{arith, ◌≡◌, ◌<◌, ◌≤◌, ℕ, length, map, drop, get_or, string_bytes, Global, List, [], ◌∷◌, Option, None, Some, refl, sym, ◌∙◌, String}
+use Rattle.std.proofs.Common.{arith, ◌≡◌, ◌<◌, ◌≤◌, ℕ, length, map, drop, get_or, string_bytes, Global, List, [], ◌∷◌, None, Some, refl, sym, ◌∙◌, String}
 use Rattle.std.proofs.lemmas.List.{take_rest}
 use Rattle.scasp_words.specs.Options.{with_option, with_options}
 use Rattle.scasp_words.specs.declared.options.Options.{Options}

@@ -1,0 +1,4 @@
+mod EntryLemmas
+pub mod MeaningLemmas
+mod TookLemmas
+mod WorthLemmas

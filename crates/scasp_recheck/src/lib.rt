@@ -1,0 +1,11 @@
+//! The text of the command `check`: what each block of an answer file is worth.
+#![tactic(auto)]
+
+mod checking;
+mod laws;
+mod lines;
+mod worth;
+
+pub use checking::{Rechecked, recheck};
+pub use laws::{accepted_means, right_means};
+pub use worth::{Worth, find_worth, see_worth};

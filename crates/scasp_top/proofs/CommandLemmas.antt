@@ -1,0 +1,55 @@
+-- What the sink took of a command.
+use Rattle.std.proofs.Common.{◌≡◌, ◌≤◌, ℕ, Option, Some, List, refl, subst}
+use Rattle.scasp_syntax.specs.declared.program.Program.{Program}
+use Rattle.scasp_answers.specs.States.{Entry}
+use Rattle.scasp_words.specs.declared.command.Command.{Command}
+use Rattle.scasp_words.specs.declared.command.Command.TheVariants.{Run, Check}
+use Rattle.scasp_top.specs.Inside.Halts.{IfLine, Tells}
+use Rattle.scasp_top.specs.Outputs.{outside, program_file, Checks, IsAnswers, IsNoAnswers, IsNoProgram, IsProgram, Outputs, Runs, nothing, no_program, runs, no_answers, checks}
+use Rattle.scasp_top.specs.Reports.{Reports}
+use Rattle.scasp_top.specs.declared.halt.Halt.{Halt}
+use Rattle.scasp_top.specs.declared.status.Status.{Status}
+use Rattle.scasp_top.proofs.InputLemmas.{no_answers-since}
+use Rattle.scasp_top.proofs.ReportLemmas.{reports-widen, tells-widen}
+
+-- the program's file is not read
+pub stops-at-program : (command : Command) (told : List ℕ → Option (List ℕ)) (first after : List ℕ → ℕ) (h : Halt)
+    (taken taken' : Option (List ℕ)) (faults faults' : ℕ) (status : Status)
+    → IfLine h (IsNoProgram (outside told first after) (program_file command)) → Reports (Tells h) taken taken' faults faults' status
+    → Reports (Outputs (Some command) (outside told first after)) taken taken' faults faults' status
+stops-at-program command told first after h taken taken' faults faults' status line =
+    let o = outside told first after in
+    reports-widen (Tells h) (Outputs (Some command) o) taken taken' faults faults' status
+    (tells-widen (IsNoProgram o (program_file command)) (Outputs (Some command) o) h line (λ text s no. no_program command refl no) (λ text s says. nothing says))
+
+-- the program is run
+pub goes-on-run : (file : List ℕ) (budget answers : ℕ) (told : List ℕ → Option (List ℕ)) (first after : List ℕ → ℕ) (p : Program) (names : List (List ℕ))
+    (taken taken' : Option (List ℕ)) (faults faults' : ℕ) (status : Status)
+    → IsProgram (told file) p names → Reports (Runs p names budget answers) taken taken' faults faults' status
+    → Reports (Outputs (Some (Run file budget answers)) (outside told first after)) taken taken' faults faults' status
+goes-on-run file budget answers told first after p names taken taken' faults faults' status program =
+    reports-widen (Runs p names budget answers) (Outputs (Some (Run file budget answers)) (outside told first after)) taken taken' faults faults' status
+    (λ text s r. runs file budget answers p names refl program r)
+
+-- the answer file is not read, behind a program
+pub stops-at-answers : (program answers : List ℕ) (told told' : List ℕ → Option (List ℕ)) (first before after : List ℕ → ℕ) (p : Program) (names : List (List ℕ)) (h : Halt)
+    (taken taken' : Option (List ℕ)) (faults faults' : ℕ) (status : Status)
+    → told' answers ≡ told answers → first answers ≤ before answers → IsProgram (told program) p names
+    → IfLine h (IsNoAnswers (outside told' before after) answers names) → Reports (Tells h) taken taken' faults faults' status
+    → Reports (Outputs (Some (Check program answers)) (outside told first after)) taken taken' faults faults' status
+stops-at-answers program answers told told' first before after p names h taken taken' faults faults' status stays counts is line =
+    let o = outside told first after in
+    reports-widen (Tells h) (Outputs (Some (Check program answers)) o) taken taken' faults faults' status
+    (tells-widen (IsNoAnswers (outside told' before after) answers names) (Outputs (Some (Check program answers)) o) h line
+    (λ text s no. no_answers program answers p names refl is (no_answers-since told told' first before after answers names text s stays counts no))
+    (λ text s says. nothing says))
+
+-- the blocks are checked
+pub goes-on-check : (program answers : List ℕ) (told told' : List ℕ → Option (List ℕ)) (first after : List ℕ → ℕ) (p : Program) (names : List (List ℕ)) (entries : List Entry)
+    (taken taken' : Option (List ℕ)) (faults faults' : ℕ) (status : Status)
+    → told' answers ≡ told answers → IsProgram (told program) p names → IsAnswers (told' answers) names entries
+    → Reports (Checks p entries) taken taken' faults faults' status
+    → Reports (Outputs (Some (Check program answers)) (outside told first after)) taken taken' faults faults' status
+goes-on-check program answers told told' first after p names entries taken taken' faults faults' status stays is has =
+    reports-widen (Checks p entries) (Outputs (Some (Check program answers)) (outside told first after)) taken taken' faults faults' status
+    (λ text s c. checks program answers p names entries refl is (subst (λ (t : Option (List ℕ)). IsAnswers t names entries) stays has) c)
