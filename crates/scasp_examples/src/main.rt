@@ -1,10 +1,11 @@
-//! Runs the example programs: `scasp run FILE` for each FILE that the words name, one after the other.
+//! Runs the example programs in the files that the words name, one after the other, as `scasp run FILE` does, and checks what is
+//! printed of each against its program, as `scasp check` does.
 #![tactic(auto)]
 
-use scasp_io::{Files, Sink, write_all};
-use scasp_list::Memory;
+use scasp_io::{Files, Sink, read_file, write_all};
 use scasp_system::{HostFiles, SystemFiles, SystemSink, command_words};
-use scasp_top::{Status, scasp};
+use scasp_top::Status;
+use scasp_worked::{Command, SOUND, printed};
 use std::alloc::Global;
 use std::process::ExitCode;
 use std::{env, io};
@@ -12,20 +13,12 @@ use std::{env, io};
 /// The exit code where the system does not give the words.
 const NO_WORDS: u8 = 13;
 
-/// The words of the run of a file.
-fn run_of(alloc: Global, file: &String) -> Result<Vec<String>, Memory> {
-    let mut words = Vec::new(alloc);
-    words.push(String::from_str(alloc, "run")?)?;
-    words.push(file.clone()?)?;
-    Ok(words)
-}
+/// The longest program that is read.
+const LONGEST: u64 = 100_000;
 
-/// Runs the file; whether each query ended.
-fn is_run<F: Files, K: Sink>(alloc: Global, file: &String, files: &mut F, out: &mut K) -> bool {
-    let Ok(words) = run_of(alloc, file) else {
-        return false;
-    };
-    match scasp(alloc, &words, files, out) {
+/// Whether each query ended, or each block is accepted.
+fn is_well(status: Status) -> bool {
+    match status {
         Status::Done | Status::NoAnswer => true,
         Status::Usage
         | Status::Text
@@ -34,17 +27,60 @@ fn is_run<F: Files, K: Sink>(alloc: Global, file: &String, files: &mut F, out: &
         | Status::Spent
         | Status::Overflow
         | Status::Memory
+        | Status::Refused
         | Status::Limit => false,
     }
 }
 
-/// Prints the name of each file before its run; whether all went well.
+/// Carries out the command and prints what it prints, which is told where all went well.
+fn told<K: Sink>(alloc: Global, command: &Command, out: &mut K) -> Option<String> {
+    let (status, bytes) = printed(alloc, command, SOUND).ok()?;
+    write_all(out, bytes.as_slice()).ok()?;
+    if !is_well(status) {
+        return None;
+    }
+    String::from_utf8(bytes).ok()
+}
+
+/// Runs the program and checks what is printed of it; whether all went well.
+fn is_right<K: Sink>(alloc: Global, program: &str, out: &mut K) -> bool {
+    let run = Command {
+        words: &["run", "p"],
+        program,
+        answers: "",
+    };
+    let Some(answers) = told(alloc, &run, out) else {
+        return false;
+    };
+    let check = Command {
+        words: &["check", "p", "a"],
+        program,
+        answers: answers.as_str(),
+    };
+    told(alloc, &check, out).is_some()
+}
+
+/// The text of the file, where it is read.
+fn text<F: Files>(alloc: Global, name: &str, files: &mut F) -> Option<String> {
+    let bytes = read_file(alloc, files, name, LONGEST).ok()?;
+    String::from_utf8(bytes).ok()
+}
+
+/// Prints the name of the file, and then what is printed of its program; whether all went well.
+fn is_run<F: Files, K: Sink>(alloc: Global, name: &str, files: &mut F, out: &mut K) -> bool {
+    let is_named = write_all(out, b"% ").is_ok()
+        && write_all(out, name.as_bytes()).is_ok()
+        && write_all(out, b"\n").is_ok();
+    let Some(program) = text(alloc, name, files) else {
+        return false;
+    };
+    is_named && is_right(alloc, program.as_str(), out)
+}
+
+/// Whether all went well with each file.
 fn are_run<F: Files, K: Sink>(alloc: Global, names: &[String], files: &mut F, out: &mut K) -> bool {
     for name in names {
-        let is_named = write_all(out, b"% ").is_ok()
-            && write_all(out, name.as_bytes()).is_ok()
-            && write_all(out, b"\n").is_ok();
-        if !is_named || !is_run(alloc, name, files, out) {
+        if !is_run(alloc, name.as_str(), files, out) {
             return false;
         }
     }

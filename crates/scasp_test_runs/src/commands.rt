@@ -2,7 +2,7 @@
 use scasp_io::Memory;
 use scasp_top::Status;
 use scasp_worked::{
-    Command, Device, FACT_PRINTED, FACT_PROGRAM, FORALL_OVER_FACTS, Row, SOUND, printed,
+    Command, Device, FACT_PRINTED, FACT_PROGRAM, FORALL_OVER_FACTS, Row, SOUND, printed, prints,
 };
 use std::alloc::Global;
 use std::process::Abort;
@@ -12,22 +12,11 @@ use std::test::Fail;
 const RUN: Command = Command {
     words: &["run", "p"],
     program: FACT_PROGRAM,
+    answers: "",
 };
 
 const USAGE: &str =
     "usage: scasp run FILE [--budget N] [--answers N] | check PROGRAM ANSWERS | trial N\n";
-
-/// Whether the command prints this on the device, and ends so.
-fn prints(
-    alloc: Global,
-    command: &Command,
-    device: Device,
-    text: &str,
-    status: Status,
-) -> Result<bool, Memory> {
-    let (ended, bytes) = printed(alloc, command, device)?;
-    Ok(ended == status && bytes.as_slice() == text.as_bytes())
-}
 
 /// Words that are the run of the fact.
 const GOOD: &[&[&str]] = &[
@@ -44,7 +33,6 @@ const FAULTY: &[&[&str]] = &[
     &["run"],
     &["check"],
     &["check", "p"],
-    &["check", "p", "a"],
     &["check", "p", "a", "a"],
     &["walk", "p"],
     &["Run", "p"],

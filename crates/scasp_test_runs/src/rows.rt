@@ -1,14 +1,13 @@
 //! Whole runs of worked programs.
 use scasp_io::Memory;
-use scasp_worked::{BIRDS, LOOPS, NUMBERS, PASSED, QUERIES, Row, SOUND, TERMS, printed};
+use scasp_worked::{BIRDS, LOOPS, NUMBERS, PASSED, QUERIES, Row, SOUND, TERMS, prints};
 use std::alloc::Global;
 use std::process::Abort;
 use std::test::Fail;
 
 /// Whether the run prints what it should, and ends so.
 fn is_run(alloc: Global, row: &Row) -> Result<bool, Memory> {
-    let (status, bytes) = printed(alloc, &row.run(), SOUND)?;
-    Ok(status == row.status && bytes.as_slice() == row.printed.as_bytes())
+    prints(alloc, &row.run(), SOUND, row.printed, row.status)
 }
 
 fn check_runs(rt: &impl Abort, alloc: Global, rows: &[Row]) -> Result<(), Memory> {

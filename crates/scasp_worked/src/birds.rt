@@ -239,5 +239,10 @@ end
 stopped 3
 ended 4
 ",
+    checked: "1.1 right any
+2.1 right any
+3.1 right any
+checked 3
+",
     ..RUN
 }];

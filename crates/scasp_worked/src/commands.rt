@@ -3,11 +3,12 @@ use scasp_io::{Bytes, CallList, MemFile, MemFileList, MemFiles, MemSink, Memory}
 use scasp_top::{Status, scasp};
 use std::alloc::{AllocError, Global};
 
-/// The words of a command, and the text of the file `p`.
+/// The words of a command, and the texts of the files `p` and `a`.
 #[derive(Clone, Copy)]
 pub struct Command<'a> {
     pub words: &'a [&'a str],
     pub program: &'a str,
+    pub answers: &'a str,
 }
 
 /// The most bytes of one write, and the numbers of the read and of the write that fail, from 1, or 0 for none.
@@ -45,6 +46,7 @@ fn file(alloc: Global, name: &str, text: &str) -> Result<MemFile, Memory> {
 fn files_of(alloc: Global, command: &Command) -> Result<MemFileList, Memory> {
     let mut files = MemFileList::new(alloc);
     files.push(file(alloc, "p", command.program)?)?;
+    files.push(file(alloc, "a", command.answers)?)?;
     Ok(files)
 }
 
@@ -68,4 +70,16 @@ pub fn printed(
     let mut out = MemSink::new(alloc, ROOM, device.chunk, unwritten)?;
     let status = scasp(alloc, &words, &mut files, &mut out);
     Ok((status, out.taken))
+}
+
+/// Whether the command prints this over the device, and ends so.
+pub fn prints(
+    alloc: Global,
+    command: &Command,
+    device: Device,
+    text: &str,
+    status: Status,
+) -> Result<bool, Memory> {
+    let (ended, bytes) = printed(alloc, command, device)?;
+    Ok(ended == status && bytes.as_slice() == text.as_bytes())
 }

@@ -1,4 +1,4 @@
-//! Worked runs: programs with what `run` prints of them, and commands over files in memory.
+//! Worked runs: programs with what `run` prints of them and what `check` says of that, and commands over files in memory.
 #![tactic(auto)]
 
 mod birds;
@@ -11,7 +11,7 @@ mod rows;
 mod terms;
 
 pub use birds::BIRDS;
-pub use commands::{Command, Device, SOUND, printed};
+pub use commands::{Command, Device, SOUND, printed, prints};
 pub use loops::{EVEN_LOOP, FACT, FACT_PRINTED, FACT_PROGRAM, LOOPS, THROUGH_NEGATION};
 pub use numbers::{FORALL_OVER_NUMBERS, LINEAR_DENIAL, NUMBER_OR_NOT, NUMBERS};
 pub use passed::PASSED;

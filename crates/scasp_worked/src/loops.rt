@@ -21,6 +21,9 @@ stopped 1
 pub const FACT: Row = Row {
     program: FACT_PROGRAM,
     printed: FACT_PRINTED,
+    checked: "1.1 right any
+checked 1
+",
     ..RUN
 };
 
@@ -52,6 +55,9 @@ end
 % domain any
 stopped 1
 ",
+    checked: "1.1 right any
+checked 1
+",
     ..RUN
 };
 
@@ -70,6 +76,9 @@ end
 % domain any
 stopped 1
 ",
+        checked: "1.1 right any
+checked 1
+",
         ..RUN
     },
     Row {
@@ -83,6 +92,9 @@ map p/0 0 +
 end
 % domain any
 stopped 1
+",
+        checked: "1.1 right any
+checked 1
 ",
         ..RUN
     },
@@ -98,6 +110,9 @@ map q/0 0 +
 end
 % domain any
 stopped 1
+",
+        checked: "1.1 right any
+checked 1
 ",
         ..RUN
     },
@@ -118,6 +133,9 @@ end
 % domain any
 stopped 1
 ",
+        checked: "1.1 right any
+checked 1
+",
         ..RUN
     },
     Row {
@@ -136,6 +154,9 @@ map r/0 1 +
 end
 % domain any
 stopped 1
+",
+        checked: "1.1 right any
+checked 1
 ",
         ..RUN
     },
@@ -162,6 +183,9 @@ end
 % domain any
 stopped 1
 ",
+        checked: "1.1 right any
+checked 1
+",
         ..RUN
     },
     THROUGH_NEGATION,
@@ -186,6 +210,9 @@ end
 % domain any
 stopped 1
 ",
+        checked: "1.1 right any
+checked 1
+",
         ..RUN
     },
     Row {
@@ -209,6 +236,9 @@ map x/0 0 +
 end
 % domain any
 ended 1
+",
+        checked: "1.1 right any
+checked 1
 ",
         ..RUN
     },
@@ -239,6 +269,9 @@ end
 % domain any
 stopped 1
 ",
+        checked: "1.1 right any
+checked 1
+",
         ..RUN
     },
     Row {
@@ -268,6 +301,9 @@ end
 % domain any
 ended 1
 ",
+        checked: "1.1 right any
+checked 1
+",
         ..RUN
     },
     Row {
@@ -285,6 +321,9 @@ map c/0 0 +
 end
 % domain any
 stopped 1
+",
+        checked: "1.1 right any
+checked 1
 ",
         ..RUN
     },
@@ -305,6 +344,9 @@ end
 % domain any
 stopped 1
 ",
+        checked: "1.1 right any
+checked 1
+",
         ..RUN
     },
     Row {
@@ -321,6 +363,9 @@ map p/0 0 +
 end
 % domain any
 stopped 1
+",
+        checked: "1.1 right any
+checked 1
 ",
         ..RUN
     },
@@ -346,6 +391,9 @@ end
 % domain any
 stopped 1
 ",
+        checked: "1.1 right any
+checked 1
+",
         ..RUN
     },
     Row {
@@ -360,6 +408,9 @@ map 'q r'/0 0 +
 end
 % domain any
 stopped 1
+",
+        checked: "1.1 right any
+checked 1
 ",
         ..RUN
     },
@@ -378,6 +429,9 @@ end
 % domain any
 stopped 1
 ",
+        checked: "1.1 right any
+checked 1
+",
         ..RUN
     },
     Row {
@@ -395,6 +449,9 @@ map p/0 0 +
 end
 % domain any
 stopped 1
+",
+        checked: "1.1 right any
+checked 1
 ",
         ..RUN
     },

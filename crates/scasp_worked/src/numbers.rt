@@ -34,6 +34,10 @@ end
 % domain any
 ended 1
 ",
+    checked: "1.1 right any
+1.2 right any
+checked 2
+",
     ..RUN
 };
 
@@ -75,6 +79,9 @@ end
 % domain any
 stopped 1
 ",
+    checked: "1.1 right any
+checked 1
+",
     ..RUN
 };
 
@@ -103,6 +110,9 @@ end
 % domain any
 stopped 1
 ",
+    checked: "1.1 right any
+checked 1
+",
     ..RUN
 };
 
@@ -128,6 +138,9 @@ end
 % domain any
 stopped 1
 ",
+        checked: "1.1 right any
+checked 1
+",
         ..RUN
     },
     Row {
@@ -147,6 +160,9 @@ map ok/1 0 +
 end
 % domain any
 stopped 1
+",
+        checked: "1.1 right any
+checked 1
 ",
         ..RUN
     },
@@ -179,6 +195,9 @@ end
 % domain any
 stopped 1
 ",
+        checked: "1.1 right any
+checked 1
+",
         ..RUN
     },
     Row {
@@ -193,6 +212,9 @@ tree
 end
 % domain any
 stopped 1
+",
+        checked: "1.1 right any
+checked 1
 ",
         ..RUN
     },
@@ -209,6 +231,9 @@ tree
 end
 % domain any
 stopped 1
+",
+        checked: "1.1 right any
+checked 1
 ",
         ..RUN
     },
@@ -230,6 +255,9 @@ tree
 end
 % domain any
 stopped 1
+",
+        checked: "1.1 right any
+checked 1
 ",
         ..RUN
     },
@@ -262,6 +290,9 @@ map q/0 0 +
 end
 % domain any
 stopped 1
+",
+        checked: "1.1 right any
+checked 1
 ",
         ..RUN
     },
@@ -310,6 +341,9 @@ map r/0 1 +
 end
 % domain any
 stopped 1
+",
+        checked: "1.1 right any
+checked 1
 ",
         ..RUN
     },

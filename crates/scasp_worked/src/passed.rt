@@ -188,5 +188,12 @@ end
 % domain any
 stopped 1
 ",
+    checked: "1.1 right any
+1.2 right any
+1.3 right any
+1.4 right any
+1.5 right any
+checked 5
+",
     ..RUN
 };

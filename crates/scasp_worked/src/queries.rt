@@ -49,6 +49,10 @@ end
 % domain any
 stopped 2
 ",
+        checked: "1.1 right any
+2.1 right any
+checked 2
+",
         ..RUN
     },
     Row {
@@ -64,6 +68,9 @@ map q/0 0 +
 end
 % domain any
 stopped 2
+",
+        checked: "2.1 right any
+checked 1
 ",
         ..RUN
     },
@@ -92,6 +99,9 @@ stopped 1
 spent 2
 ",
         status: Status::Spent,
+        checked: "1.1 right any
+checked 1
+",
         ..RUN
     },
     Row {
@@ -116,6 +126,10 @@ map q/0 0 +
 end
 % domain any
 stopped 1
+",
+        checked: "1.1 right any
+1.2 right any
+checked 2
 ",
         ..RUN
     },
@@ -142,6 +156,10 @@ end
 % domain any
 ended 1
 ",
+        checked: "1.1 right any
+1.2 right any
+checked 2
+",
         ..RUN
     },
     Row {
@@ -167,6 +185,10 @@ end
 % domain any
 ended 1
 ",
+        checked: "1.1 right any
+1.2 right any
+checked 2
+",
         ..RUN
     },
     Row {
@@ -184,6 +206,9 @@ end
 spent 1
 ",
         status: Status::Spent,
+        checked: "1.1 right any
+checked 1
+",
         ..RUN
     },
     Row {
@@ -217,6 +242,11 @@ map q/0 0 +
 end
 % domain any
 stopped 3
+",
+        checked: "1.1 right any
+2.1 right any
+3.1 right any
+checked 3
 ",
         ..RUN
     },

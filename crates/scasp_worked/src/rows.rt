@@ -2,13 +2,14 @@
 use crate::commands::Command;
 use scasp_top::Status;
 
-/// The words of a run, the text of the file `p`, what is printed, and the status.
+/// The words of a run, the text of the file `p`, what is printed, the status, and what `check` prints of that output.
 #[derive(Clone, Copy)]
 pub struct Row<'a> {
     pub words: &'a [&'a str],
     pub program: &'a str,
     pub printed: &'a str,
     pub status: Status,
+    pub checked: &'a str,
 }
 
 /// A run of a program without a query.
@@ -17,6 +18,7 @@ pub(crate) const RUN: Row = Row {
     program: "",
     printed: "scasp 1\n",
     status: Status::Done,
+    checked: "checked 0\n",
 };
 
 impl<'a> Row<'a> {
@@ -25,6 +27,16 @@ impl<'a> Row<'a> {
         Command {
             words: self.words,
             program: self.program,
+            answers: "",
+        }
+    }
+
+    /// The check of what the run prints.
+    pub fn check(&self) -> Command<'a> {
+        Command {
+            words: &["check", "p", "a"],
+            program: self.program,
+            answers: self.printed,
         }
     }
 }

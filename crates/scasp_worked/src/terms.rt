@@ -20,6 +20,9 @@ end
 % domain any
 stopped 1
 ",
+    checked: "1.1 right any
+checked 1
+",
     ..RUN
 };
 
@@ -53,6 +56,9 @@ end
 % domain any
 stopped 1
 ",
+    checked: "1.1 right any
+checked 1
+",
     ..RUN
 };
 
@@ -77,6 +83,9 @@ end
 % domain any
 ended 1
 ",
+        checked: "1.1 right any
+checked 1
+",
         ..RUN
     },
     Row {
@@ -98,6 +107,9 @@ end
 spent 1
 ",
         status: Status::Spent,
+        checked: "1.1 right any
+checked 1
+",
         ..RUN
     },
     Row {
@@ -131,6 +143,9 @@ end
 % domain any
 stopped 1
 ",
+        checked: "1.1 right any
+checked 1
+",
         ..RUN
     },
     Row {
@@ -163,6 +178,10 @@ end
 % domain any
 ended 1
 ",
+        checked: "1.1 right any
+1.2 right any
+checked 2
+",
         ..RUN
     },
     FORALL_OVER_FACTS,
@@ -191,6 +210,9 @@ end
 % domain any
 stopped 1
 ",
+        checked: "1.1 right any
+checked 1
+",
         ..RUN
     },
     Row {
@@ -211,6 +233,9 @@ end
 % domain closed
 stopped 1
 ",
+        checked: "1.1 right closed
+checked 1
+",
         ..RUN
     },
     Row {
@@ -224,6 +249,9 @@ map p/1 0 +
 end
 % domain any
 stopped 1
+",
+        checked: "1.1 right any
+checked 1
 ",
         ..RUN
     },
@@ -255,6 +283,9 @@ end
 % domain any
 stopped 1
 ",
+        checked: "1.1 right any
+checked 1
+",
         ..RUN
     },
     Row {
@@ -269,6 +300,9 @@ map p/1 0 +
 end
 % domain any
 stopped 1
+",
+        checked: "1.1 right any
+checked 1
 ",
         ..RUN
     },
@@ -293,6 +327,9 @@ end
 % domain any
 stopped 1
 ",
+        checked: "1.1 right any
+checked 1
+",
         ..RUN
     },
     Row {
@@ -310,6 +347,9 @@ end
 % domain any
 stopped 1
 ",
+        checked: "1.1 right any
+checked 1
+",
         ..RUN
     },
     Row {
@@ -324,6 +364,9 @@ tree
 end
 % domain any
 stopped 1
+",
+        checked: "1.1 right any
+checked 1
 ",
         ..RUN
     },

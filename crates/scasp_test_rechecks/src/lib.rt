@@ -1,0 +1,13 @@
+//! Tests of the command `check`: what is printed by `run` is right, and what is changed in it is told.
+#![tactic(auto)]
+
+#[cfg(test)]
+mod all;
+#[cfg(test)]
+mod changes;
+#[cfg(test)]
+mod deep;
+#[cfg(test)]
+mod faults;
+#[cfg(test)]
+mod rows;

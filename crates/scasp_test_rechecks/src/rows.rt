@@ -1,0 +1,27 @@
+//! What worked programs print, read back and checked.
+use scasp_io::Memory;
+use scasp_top::Status;
+use scasp_worked::{BIRDS, LOOPS, NUMBERS, PASSED, QUERIES, Row, SOUND, TERMS, prints};
+use std::alloc::Global;
+use std::process::Abort;
+use std::test::Fail;
+
+/// Whether each block of what the run prints is told right.
+fn is_right(alloc: Global, row: &Row) -> Result<bool, Memory> {
+    prints(alloc, &row.check(), SOUND, row.checked, Status::Done)
+}
+
+fn check_rows(rt: &impl Abort, alloc: Global, rows: &[Row]) -> Result<(), Memory> {
+    for (number, row) in rows.iter().enumerate() {
+        assert!(rt; is_right(alloc, row)?, "at {number}");
+    }
+    Ok(())
+}
+
+#[test]
+fn printed_answers_are_right(rt: HostRuntime) -> Result<(), Fail> {
+    for rows in [LOOPS, QUERIES, TERMS, NUMBERS, BIRDS, &[PASSED]] {
+        check_rows(&rt, rt.alloc(), rows)?;
+    }
+    Ok(())
+}
