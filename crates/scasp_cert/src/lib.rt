@@ -3,6 +3,7 @@
 
 mod certificate;
 mod count;
+mod depth;
 mod flatness;
 mod lists;
 mod skeletons;

@@ -8,12 +8,9 @@ ghost use Rattle.scasp_successors.specs.Reading.{term_under};
 ghost use Rattle.scasp_successors.specs.Numbering.{lit_renamed};
 
 use scasp_list::Memory;
-use scasp_syntax::{Atom, Lit, Term, Terms};
+use scasp_syntax::{Atom, Lit, TERM_DEPTH, Term, Terms};
 use scasp_unify::Binding;
 use std::alloc::Global;
-
-/// The deepest term that bindings make: walks over such a term are served by the machine's stack.
-pub const TERM_DEPTH: u64 = 10_000;
 
 /// One step less, or want of memory where none is left.
 fn deeper(left: u64) -> Result<u64, Memory>

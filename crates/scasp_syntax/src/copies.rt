@@ -7,13 +7,13 @@ use crate::con::Con;
 use crate::hint::Hint;
 use crate::predicate_map::PredMap;
 use crate::program::Program;
+use crate::rebuilding::{Unchanged, rebuilt};
 use crate::term::{Term, Terms};
 use scasp_list::Sequence;
 use scasp_name::{Memory, NameId};
 use std::alloc::Global;
 
-/// A copy of a term.
-#[cycle(copy_term)]
+/// A copy of a term. It takes memory for what is still to be copied, and no machine stack.
 pub fn copy(alloc: Global, term: &Term) -> Result<Term, Memory>
     ensures { IfOk result (λ copied. copied ≡ term.now) }
 {
@@ -24,16 +24,11 @@ pub fn copy(alloc: Global, term: &Term) -> Result<Term, Memory>
     }
 }
 
-/// A copy of a list of terms.
-#[cycle(copy_term)]
+/// A copy of a list of terms, with memory as `copy`.
 pub fn copy_terms(alloc: Global, terms: &Terms) -> Result<Terms, Memory>
     ensures { IfOk result (λ copied. copied ≡ terms.now) }
 {
-    let mut copied = Terms::new(alloc);
-    for term in terms.as_slice() {
-        copied.push(copy(alloc, term)?)?;
-    }
-    Ok(copied)
+    rebuilt(alloc, terms.as_slice(), &Unchanged)
 }
 
 /// A value of which copies are made with an allocator's memory.
@@ -69,11 +64,11 @@ impl DeepCopy for Term {
 
 impl<T: DeepCopy + Drop> DeepCopy for Sequence<T> {
     fn copy(&self, alloc: Global) -> Result<Sequence<T>, Memory> {
-        let mut copied = Sequence::new(alloc);
+        let mut copied = Vec::with_capacity(alloc, self.len())?;
         for item in self.as_slice() {
             copied.push(item.copy(alloc)?)?;
         }
-        Ok(copied)
+        Ok(Sequence::from(copied))
     }
 }
 

@@ -1,10 +1,11 @@
 //! Terms.
-ghost use Rattle.std.specs.Prelude.{◌≡◌, [], ◌∷◌, ◌++◌, length, slice_get, OnOk, OnErr, option_copied, option_map};
+ghost use Rattle.std.specs.Prelude.{◌≡◌, [], ◌∷◌, ◌++◌, length, slice_get, IfOk, OnOk, OnErr, option_copied, option_map};
 
 use scasp_name::{Memory, NameId};
 use scasp_num::Rat;
 use std::alloc::Global;
 use std::marker::Model;
+use std::mem;
 
 /// A variable by its number, a rational number, or a name with its arguments.
 #[cycle(term)]
@@ -17,7 +18,7 @@ pub enum Term {
 
 /// A list of terms. Contracts see it as a `Tms`, whose list is `items`.
 #[cycle(term)]
-#[derive(Debug, Drop)]
+#[derive(Debug)]
 pub struct Terms {
     list: Vec<Term>,
 }
@@ -41,6 +42,30 @@ impl Model for Terms {
     ghost size_decreases = { λ a h. falls a.list.items };
 }
 
+impl Drop for Terms {
+    /// Frees terms of any depth with no memory and no machine stack. A term in hand is left for its last argument: the arguments
+    /// beside that are freed next, and the first of them is a term with all that is left elsewhere as its arguments.
+    #[cycle(term)]
+    fn drop(self) {
+        let Terms { list } = self;
+        let mut rest = list;
+        while let Some(term) = rest.pop() {
+            let mut hand = term;
+            while let Term::App(name, args) = hand {
+                let mut below = args.into_list();
+                let Some(last) = below.pop() else { break };
+                let aside = mem::replace(&mut rest, below);
+                if aside.is_empty() {
+                    drop(aside);
+                } else {
+                    let _ = rest.insert(0, Term::App(name, Terms { list: aside }));
+                }
+                hand = last;
+            }
+        }
+    }
+}
+
 impl Terms {
     ghost use Rattle.scasp_syntax.specs.Tm.{nil, items, pushed, weight, weight_s};
     ghost use Rattle.scasp_syntax.specs.View.{tm_of, tms_of};
@@ -53,6 +78,15 @@ impl Terms {
         Terms {
             list: Vec::new(alloc),
         }
+    }
+
+    /// The empty list, with room for so many terms.
+    pub(crate) fn with_room(alloc: Global, count: usize) -> Result<Terms, Memory>
+        ensures { IfOk result (λ made. made ≡ nil) }
+    {
+        Ok(Terms {
+            list: Vec::with_capacity(alloc, count)?,
+        })
     }
 
     /// The number of terms.
@@ -86,5 +120,13 @@ impl Terms {
     {
         self.list.push(item)?;
         Ok(())
+    }
+
+    /// The terms as a `Vec`, which takes no memory.
+    fn into_list(self) -> Vec<Term>
+        ensures { tms_of result.items ≡ self }
+    {
+        let Terms { list } = self;
+        list
     }
 }

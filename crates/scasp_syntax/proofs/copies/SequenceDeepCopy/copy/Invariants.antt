@@ -2,4 +2,4 @@ use Rattle.std.proofs.Common.{◌≡◌, take}
 use Rattle.scasp_syntax.proofs.copies.SequenceDeepCopy.copy.Given as goal
 
 abbrev pub invariant-loop-item : goal.invariant-loop-item
-invariant-loop-item g l = l.copied ≡ take l.item-index l.item-items
+invariant-loop-item g l = l.copied.items ≡ take l.item-index l.item-items
