@@ -23,3 +23,4 @@ pub mod Indexing
 pub mod BetweenLemmas
 pub mod PlainLemmas
 pub mod SettingAside
+pub mod Placing

@@ -3,4 +3,5 @@ pub mod Asides
 pub mod Halting
 pub mod Keys
 pub mod Outlooks
+pub mod Replacing
 pub mod Sampled

@@ -1,86 +1,24 @@
 //! The elimination of variables (Fourier 1826, Motzkin 1936).
-ghost use Rattle.std.specs.Prelude.{◌≡◌, ◌≢◌, ◌+◌, ◌++◌, [], ◌∷◌, IfOk, OnOk, filter, length};
+ghost use Rattle.std.specs.Prelude.{◌≡◌, ◌≢◌, ◌+◌, ◌++◌, ◌<◌, ◌≤◌, [], ◌∷◌, IfOk, OnOk, drop, filter, length, slice_get, slice_index, take};
 ghost use Rattle.std.specs.Option.{option_copied};
 ghost use Rattle.scasp_list.specs.Each.{Each};
 ghost use Rattle.scasp_num.specs.Linear.{IsNormal};
-ghost use Rattle.scasp_rows.specs.Elimination.{Ends, all_looked, all_paired, and_then, by_bounds, eliminated, elimination, first_equation, limited, looked, made, met, others, paired, placed, replaced, rows_with, solved, variables, with_terms, without};
+ghost use Rattle.scasp_rows.specs.Elimination.{Ends, all_looked, all_paired, and_then, by_bounds, by_equation, eliminated, elimination, first_equation, limited, looked, met, others, paired, placed, rows_with, variables, with_terms, without};
 ghost use Rattle.scasp_rows.specs.Inside.Outlooks.{all_paired_outlook, all_paired_steps};
 ghost use Rattle.scasp_rows.specs.declared.state.State.{State as ThisState};
 
 use crate::indexed::Indexed;
 use crate::outlook::{Outlook, all_paired_outlook, all_paired_steps, meeting};
-use crate::rows::{
-    against, factor, has_sign, is_constant, is_false, share, size_over, solves, stands,
-};
-use crate::state::{
-    Halt, Sign, Standing, StandingRows, State, copy, next, unsat, with_row, with_step,
-};
+use crate::replacing::{equation_place, solved};
+use crate::rows::{factor, has_sign, solves};
+use crate::state::{Halt, Sign, Standing, StandingRows, State, copy, next};
 use crate::steps::row_sum;
 use scasp_list::Memory;
-use scasp_num::{Coeff, Row, Step, Steps};
+use scasp_num::{Coeff, Row, Steps};
 use std::alloc::Global;
 
 /// As many rows may stand after a variable.
 const LIMIT: usize = 4096;
-
-/// Looks at a new row: a false constant row ends the elimination; a true one is dropped, and so is one that
-/// stands already, among those so far or in `later`.
-#[tactic(auto, using(crate::proofs::Lists::appended))]
-fn looked(state: State, r: Standing, later: &[Standing]) -> Result<State, Halt>
-    ensures { Ends result (looked r later.now state) }
-{
-    if is_false(&r.row) {
-        return Err(unsat(state));
-    }
-    let stands = stands(state.standing.as_slice(), &r.row) || stands(later, &r.row);
-    if is_constant(&r.row) || stands {
-        return Ok(state);
-    }
-    Ok(with_row(state, r)?)
-}
-
-/// Makes the row `a` times `p` plus `b` times `q` by a step, and looks at it.
-fn made(
-    alloc: Global,
-    a: i128,
-    p: &Standing,
-    b: i128,
-    q: &Standing,
-    later: &[Standing],
-    state: State,
-) -> Result<State, Halt>
-    ensures { Ends result (made a p.now b q.now later.now state) }
-{
-    let row = row_sum(alloc, a, &p.row, b, &q.row)?;
-    let state = with_step(
-        state,
-        Step {
-            a,
-            p: p.number,
-            b,
-            q: q.number,
-        },
-    )?;
-    let number = state.last;
-    looked(state, Standing { number, row }, later)
-}
-
-/// Makes the row that `q` becomes by the equation `p`, without `x`.
-fn replaced(
-    alloc: Global,
-    x: u64,
-    p: &Standing,
-    q: &Standing,
-    later: &[Standing],
-    state: State,
-) -> Result<State, Halt>
-    ensures { Ends result (replaced x p.now q.now later.now state) }
-{
-    let a = factor(x, p);
-    let b = factor(x, q);
-    let g = share(a, b);
-    made(alloc, size_over(a, g), q, against(a, b, g), p, later, state)
-}
 
 /// Makes the row without `x` of a lower row and an upper row.
 fn met(alloc: Global, x: u64, l: &Standing, u: &Standing, state: Indexed) -> Result<Indexed, Halt>
@@ -94,11 +32,11 @@ fn met(alloc: Global, x: u64, l: &Standing, u: &Standing, state: Indexed) -> Res
 }
 
 /// The rows in which the coefficient of `x` compares so with 0.
-fn rows_with(alloc: Global, sign: Sign, x: u64, rows: &[Standing]) -> Result<StandingRows, Memory>
+fn rows_with(alloc: Global, sign: Sign, x: u64, rows: &StandingRows) -> Result<StandingRows, Memory>
     ensures { IfOk result (λ kept. kept ≡ rows_with sign x rows.now) }
 {
     let mut kept = StandingRows::new(alloc);
-    for r in rows {
+    for r in rows.as_slice() {
         if has_sign(sign, factor(x, r)) {
             kept.push(copy(r)?)?;
         }
@@ -118,43 +56,6 @@ pub(crate) fn first_equation(x: u64, rows: &[Standing]) -> Option<&Standing>
     None
 }
 
-/// The rows but the first equation with `x`.
-fn others(alloc: Global, x: u64, rows: &[Standing]) -> Result<StandingRows, Memory>
-    ensures { IfOk result (λ kept. kept ≡ others x rows.now) }
-{
-    let mut kept = StandingRows::new(alloc);
-    let mut is_found = false;
-    for r in rows {
-        if !is_found && solves(x, r) {
-            is_found = true;
-        } else {
-            kept.push(copy(r)?)?;
-        }
-    }
-    Ok(kept)
-}
-
-/// By the equation `p`, each row with `x` becomes one without, in its place.
-fn solved(
-    alloc: Global,
-    x: u64,
-    p: &Standing,
-    rows: &[Standing],
-    start: State,
-) -> Result<State, Halt>
-    ensures { Ends result (solved x p.now rows.now start) }
-{
-    let mut state = start;
-    for (i, q) in rows.iter().enumerate() {
-        if factor(x, q) == 0 {
-            state = with_row(state, copy(q)?)?;
-        } else {
-            state = replaced(alloc, x, p, q, &rows[i + 1..], state)?;
-        }
-    }
-    Ok(state)
-}
-
 /// The lower row with each upper row, in order.
 fn paired(
     alloc: Global,
@@ -172,23 +73,17 @@ fn paired(
     Ok(state)
 }
 
-/// The rows without `x`, before those that the others make.
-fn rows_without(
-    alloc: Global,
-    x: u64,
-    rows: &[Standing],
-    steps: Steps,
-    last: u64,
-) -> Result<Indexed, Memory>
-    ensures { IfOk result (λ s. s ≡ record { standing = rows_with Sign.Zero x rows.now; steps = steps; last = last }) }
+/// The rows without `x`.
+fn rows_without(alloc: Global, x: u64, rows: StandingRows) -> Result<StandingRows, Memory>
+    ensures { IfOk result (λ kept. kept ≡ rows_with Sign.Zero x rows) }
 {
-    let mut state = Indexed::empty(alloc, steps, last);
-    for r in rows {
-        if has_sign(Sign::Zero, factor(x, r)) {
-            state = state.with_row(copy(r)?)?;
+    let mut kept = StandingRows::new(alloc);
+    for r in rows.into_vec() {
+        if has_sign(Sign::Zero, factor(x, &r)) {
+            kept.push(r)?;
         }
     }
-    Ok(state)
+    Ok(kept)
 }
 
 /// Each lower row with each upper row, in order, where none of them ends the elimination. So once too many
@@ -237,20 +132,6 @@ fn falsified(
     }
 }
 
-/// Sets the rows with `x` aside, where the equation has it.
-fn by_equation(
-    alloc: Global,
-    x: u64,
-    p: &Standing,
-    rows: &[Standing],
-    cleared: State,
-) -> Result<State, Halt>
-    ensures { Ends result (solved x p.now (others x rows.now) cleared) }
-{
-    let rest = others(alloc, x, rows)?;
-    solved(alloc, x, p, rest.as_slice(), cleared)
-}
-
 /// Overflow where too many rows stand.
 fn limited(state: State) -> Result<State, Halt>
     ensures { Ends result (limited state) }
@@ -266,23 +147,55 @@ fn limited(state: State) -> Result<State, Halt>
 fn by_bounds(
     alloc: Global,
     x: u64,
-    rows: &[Standing],
+    rows: StandingRows,
     steps: Steps,
     last: u64,
 ) -> Result<State, Halt>
-    ensures { Ends result (and_then (by_bounds x rows.now steps last) limited) }
+    ensures { Ends result (and_then (by_bounds x rows steps last) limited) }
 {
-    let lowers = rows_with(alloc, Sign::Below, x, rows)?;
-    let uppers = rows_with(alloc, Sign::Above, x, rows)?;
+    let lowers = rows_with(alloc, Sign::Below, x, &rows)?;
+    let uppers = rows_with(alloc, Sign::Above, x, &rows)?;
     let (lowers, uppers) = (lowers.as_slice(), uppers.as_slice());
     match all_paired_outlook(alloc, x, lowers, uppers)? {
         Outlook::Overflow => Err(Halt::Overflow),
         Outlook::False => Err(falsified(alloc, x, lowers, uppers, steps, last)),
         Outlook::Open => {
-            let kept = rows_without(alloc, x, rows, steps, last)?;
+            let standing = rows_without(alloc, x, rows)?;
+            let state = State {
+                standing,
+                steps,
+                last,
+            };
+            let pairs = lowers.len().saturating_mul(uppers.len());
+            let kept = Indexed::of(alloc, state, pairs)?;
             all_paired(alloc, x, lowers, uppers, kept)
         }
     }
+}
+
+/// Takes the equation with `x` from its place, and replaces `x` by it in the other rows.
+fn by_equation(
+    alloc: Global,
+    x: u64,
+    place: usize,
+    rows: StandingRows,
+    steps: Steps,
+    last: u64,
+) -> Result<State, Halt>
+    requires within { place < length rows }
+    requires first { slice_get rows place ≡ first_equation x rows }
+    requires others { take place rows ++ drop (place + 1) rows ≡ others x rows }
+    ensures { Ends result (by_equation x (record { standing = rows; steps = steps; last = last }) (first_equation x rows)) }
+{
+    let mut rows = rows.into_vec();
+    let p = rows.remove(place);
+    let standing = StandingRows::from(rows);
+    let rest = State {
+        standing,
+        steps,
+        last,
+    };
+    solved(alloc, x, &p, rest)
 }
 
 /// Eliminates `x`: the rows without it that follow from those that stand.
@@ -295,17 +208,9 @@ pub(crate) fn without(alloc: Global, x: u64, state: State) -> Result<State, Halt
         steps,
         last,
     } = state;
-    let rows = standing.as_slice();
-    match first_equation(x, rows) {
-        Some(p) => {
-            let cleared = State {
-                standing: StandingRows::new(alloc),
-                steps,
-                last,
-            };
-            limited(by_equation(alloc, x, p, rows, cleared)?)
-        }
-        None => by_bounds(alloc, x, rows, steps, last),
+    match equation_place(x, standing.as_slice()) {
+        Some(place) => limited(by_equation(alloc, x, place, standing, steps, last)?),
+        None => by_bounds(alloc, x, standing, steps, last),
     }
 }
 
@@ -332,7 +237,12 @@ fn given(row: &Row, number: u64, state: Indexed) -> Result<Indexed, Halt>
 pub(crate) fn all_looked(alloc: Global, rows: &[Row]) -> Result<State, Halt>
     ensures { Ends result (all_looked 1 rows.now (record { standing = []; steps = []; last = length rows.now })) }
 {
-    let mut state = Indexed::empty(alloc, Steps::new(alloc), rows.len() as u64);
+    let start = State {
+        standing: StandingRows::new(alloc),
+        steps: Steps::new(alloc),
+        last: rows.len() as u64,
+    };
+    let mut state = Indexed::of(alloc, start, rows.len())?;
     let mut number = 0;
     for row in rows {
         number = next(number)?;
@@ -341,34 +251,44 @@ pub(crate) fn all_looked(alloc: Global, rows: &[Row]) -> Result<State, Halt>
     Ok(state.into_state())
 }
 
-/// The variable put among others that ascend.
-fn placed(alloc: Global, x: u64, variables: &[u64]) -> Result<Vec<u64>, Memory>
-    ensures { IfOk result (λ all. all.items ≡ placed x variables.now) }
+/// The place of the first variable that is not less, or of the end.
+fn place_of(x: u64, variables: &[u64]) -> usize
+    ensures within { result ≤ length variables.now }
+    ensures first { result < length variables.now → x ≤ slice_index variables.now result }
+    ensures placed { placed x variables.now ≡ take result variables.now ++ placed x (drop result variables.now) }
 {
-    let mut all = Vec::new(alloc);
-    let mut is_placed = false;
-    for y in variables {
-        if !is_placed && *y >= x {
-            is_placed = true;
-            if *y != x {
-                all.push(x)?;
-            }
+    for (i, y) in variables.iter().enumerate() {
+        if *y >= x {
+            return i;
         }
-        all.push(*y)?;
     }
-    if !is_placed {
+    variables.len()
+}
+
+/// The variable put among others that ascend.
+fn placed(x: u64, variables: Vec<u64>) -> Result<Vec<u64>, Memory>
+    ensures { IfOk result (λ all. all.items ≡ placed x variables.items) }
+{
+    let mut all = variables;
+    let place = place_of(x, all.as_slice());
+    if place == all.len() {
         all.push(x)?;
+        return Ok(all);
+    }
+    if all[place] != x {
+        all.insert(place, x)?;
+        return Ok(all);
     }
     Ok(all)
 }
 
 /// The variables, and those of the terms.
-fn with_terms(alloc: Global, terms: &[Coeff], start: Vec<u64>) -> Result<Vec<u64>, Memory>
+fn with_terms(terms: &[Coeff], start: Vec<u64>) -> Result<Vec<u64>, Memory>
     ensures { IfOk result (λ all. all.items ≡ with_terms terms.now start.items) }
 {
     let mut all = start;
     for k in terms {
-        all = placed(alloc, k.x, all.as_slice())?;
+        all = placed(k.x, all)?;
     }
     Ok(all)
 }
@@ -380,7 +300,7 @@ pub(crate) fn variables(alloc: Global, rows: &[Row]) -> Result<Vec<u64>, Memory>
 {
     let mut all = Vec::new(alloc);
     for row in rows {
-        all = with_terms(alloc, row.coeffs().as_slice(), all)?;
+        all = with_terms(row.coeffs().as_slice(), all)?;
     }
     Ok(all)
 }

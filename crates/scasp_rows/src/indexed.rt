@@ -1,14 +1,15 @@
 //! A state whose rows are found by their integers.
 ghost use Rattle.std.specs.Prelude.{◌≡◌, ◌+◌, ◌++◌, ◌||◌, [], ◌∷◌, IfOk, OnOk, length, not};
+ghost use Rattle.std.specs.List.{list_any};
 ghost use Rattle.std.specs.HashSet.{contains_by as has_key};
 ghost use Rattle.scasp_num.specs.Linear.{Linear as ThisLinear};
 ghost use Rattle.scasp_num.specs.SameRow.{same_row};
 ghost use Rattle.scasp_rows.specs.Elimination.{Ends, looked};
 
-use crate::rows::{is_constant, is_false};
-use crate::state::{Halt, Standing, StandingRows, State, unsat, with_row, with_step};
+use crate::rows::{is_constant, is_false, stands};
+use crate::state::{Halt, Standing, State, unsat, with_row, with_step};
 use scasp_list::Memory;
-use scasp_num::{Row, Step, Steps};
+use scasp_num::{Row, Step};
 use std::alloc::Global;
 use std::collections::HashSet;
 use std::hash::{Hash, Hasher};
@@ -71,16 +72,30 @@ fn insert(keys: &mut HashSet<RowKey>, row: &Row) -> Result<bool, Memory>
     Ok(keys.insert(key)?)
 }
 
-/// A state, seen as such, with the keys of its rows.
+/// So few rows are looked at by going through those that stand.
+const FEW: usize = 32;
+
+/// The keys of the rows.
+fn keys_of(alloc: Global, rows: &[Standing]) -> Result<HashSet<RowKey>, Memory>
+    ensures { IfOk result (λ keys. (q : ThisLinear) → has_key (λ k. same_row k.row q) keys ≡ list_any (λ o. same_row o.row q) rows.now) }
+{
+    let mut keys = HashSet::new(alloc);
+    for r in rows {
+        insert(&mut keys, &r.row)?;
+    }
+    Ok(keys)
+}
+
+/// A state, seen as such, with the keys of its rows where many rows are looked at.
 #[derive(Drop)]
 pub(crate) struct Indexed {
     state: State,
-    keys: HashSet<RowKey>,
+    keys: Option<HashSet<RowKey>>,
 }
 
 impl Model for Indexed {
     ghost use Rattle.scasp_rows.specs.declared.state.State.{State as ThisState};
-    ghost use Rattle.std.specs.Prelude.{◌≡◌};
+    ghost use Rattle.std.specs.Prelude.{◌≡◌, IfSome};
     ghost use Rattle.scasp_num.specs.Linear.{Linear};
     ghost use Rattle.scasp_num.specs.SameRow.{same_row};
     ghost use Rattle.std.specs.HashSet.{contains_by};
@@ -90,34 +105,22 @@ impl Model for Indexed {
 
     ghost view = { λ i. i.state };
 
-    ghost invariant = { λ i. (q : Linear) → contains_by (λ k. same_row k.row q) i.keys ≡ list_any (λ o. same_row o.row q) i.state.standing };
+    ghost invariant = { λ i. IfSome i.keys (λ keys. (q : Linear) → contains_by (λ k. same_row k.row q) keys ≡ list_any (λ o. same_row o.row q) i.state.standing) };
 }
 
 impl Indexed {
-    /// The state in which no row stands.
-    pub(crate) fn empty(alloc: Global, steps: Steps, last: u64) -> Indexed
-        ensures { result ≡ record { standing = []; steps = steps; last = last } }
+    /// The state, in which so many rows are to be looked at.
+    pub(crate) fn of(alloc: Global, state: State, looks: usize) -> Result<Indexed, Memory>
+        ensures { IfOk result (λ s. s ≡ state) }
     {
-        let state = State {
-            standing: StandingRows::new(alloc),
-            steps,
-            last,
-        };
-        Indexed {
-            state,
-            keys: HashSet::new(alloc),
+        if looks <= FEW {
+            return Ok(Indexed { state, keys: None });
         }
-    }
-
-    /// The state with one more row that stands.
-    pub(crate) fn with_row(self, r: Standing) -> Result<Indexed, Memory>
-        ensures { IfOk result (λ s. s ≡ record { standing = self.standing ++ r ∷ []; steps = self.steps; last = self.last }) }
-    {
-        let Indexed { state, keys } = self;
-        let mut keys = keys;
-        insert(&mut keys, &r.row)?;
-        let state = with_row(state, r)?;
-        Ok(Indexed { state, keys })
+        let keys = keys_of(alloc, state.standing.as_slice())?;
+        Ok(Indexed {
+            state,
+            keys: Some(keys),
+        })
     }
 
     /// The number of rows that stand.
@@ -149,18 +152,13 @@ impl Indexed {
         ensures { Ends result (looked r [] self) }
     {
         let Indexed { state, keys } = self;
-        if is_false(&r.row) {
-            return Err(unsat(state));
+        match keys {
+            Some(keys) => looked_by_keys(state, keys, r),
+            None => {
+                let state = looked(state, r)?;
+                Ok(Indexed { state, keys: None })
+            }
         }
-        if is_constant(&r.row) {
-            return Ok(Indexed { state, keys });
-        }
-        let mut keys = keys;
-        if insert(&mut keys, &r.row)? {
-            let state = with_row(state, r)?;
-            return Ok(Indexed { state, keys });
-        }
-        Ok(Indexed { state, keys })
     }
 
     /// The state without the keys.
@@ -170,4 +168,46 @@ impl Indexed {
         let Indexed { state, .. } = self;
         state
     }
+}
+
+/// Looks at a new row by going through those that stand.
+#[tactic(auto, using(crate::proofs::Lists::appended))]
+fn looked(state: State, r: Standing) -> Result<State, Halt>
+    ensures { Ends result (looked r [] state) }
+{
+    if is_false(&r.row) {
+        return Err(unsat(state));
+    }
+    if is_constant(&r.row) || stands(state.standing.as_slice(), &r.row) {
+        return Ok(state);
+    }
+    Ok(with_row(state, r)?)
+}
+
+/// Looks at a new row by the keys of those that stand.
+fn looked_by_keys(state: State, keys: HashSet<RowKey>, r: Standing) -> Result<Indexed, Halt>
+    requires { (q : ThisLinear) → has_key (λ k. same_row k.row q) keys ≡ list_any (λ o. same_row o.row q) state.standing }
+    ensures { Ends result (looked r [] state) }
+{
+    if is_false(&r.row) {
+        return Err(unsat(state));
+    }
+    if is_constant(&r.row) {
+        return Ok(Indexed {
+            state,
+            keys: Some(keys),
+        });
+    }
+    let mut keys = keys;
+    if insert(&mut keys, &r.row)? {
+        let state = with_row(state, r)?;
+        return Ok(Indexed {
+            state,
+            keys: Some(keys),
+        });
+    }
+    Ok(Indexed {
+        state,
+        keys: Some(keys),
+    })
 }

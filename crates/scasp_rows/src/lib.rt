@@ -9,6 +9,7 @@ mod indexed;
 pub mod laws;
 mod outlook;
 mod range;
+mod replacing;
 mod rows;
 mod samples;
 mod state;

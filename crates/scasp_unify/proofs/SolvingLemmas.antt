@@ -2,7 +2,7 @@
 use Rattle.std.proofs.Common.{◌≡◌, ◌≢◌, ◌<◌, get_or, remove, drop, take, ℕ, zero, suc, ◌+◌, ◌≤◌, zero-add, Bool, true, false, nat_eq, if◌then◌else◌, List, [], ◌∷◌, ◌++◌, map, length, Option, None, Some, is_some, refl, sym, ap, subst, ◌∙◌, arith, add_assoc, add-zero, append-nil}
 use Rattle.std.proofs.lemmas.Bool.{true≢false}
 use Rattle.std.proofs.lemmas.Bool.Decides.{Decides-eqb}
-use Rattle.std.proofs.lemmas.List.{length-take}
+use Rattle.std.proofs.lemmas.List.{length-append, length-take, take-take, take_at}
 use Rattle.scasp_list.specs.Each.{Each}
 use Rattle.scasp_num.specs.Arithmetic.{◌>>=◌}
 use Rattle.scasp_syntax.specs.Same.{same_number}
@@ -178,26 +178,33 @@ found-free s p q qs a e = whole (resolved_parts s p) e (parts-free s (under s (l
     whole : (o : Option (List Part)) → o ≡ Some (q ∷ qs) → IfParts o (Free s) → Each (Free s) (q ∷ qs)
     whole o f h = subst (λ (o : Option (List Part)). IfParts o (Free s)) f h
 
-pub part-bound : (s : Sub) (p q : Part) (qs : List Part) → Absorbs s s → resolved_parts s p ≡ Some (q ∷ qs) → LeadsTo s (p ∷ []) (then_by s (Bound q)) qs
-part-bound s p q qs a e = record { bound = 1; same = λ n more. ap (λ m. made_by m s (p ∷ more)) (one-more n) ∙ ap (λ o. then_solved (suc n) s (both_parts o (parts_under s more))) e ∙ by n more (parts_under s more) (later-each s (Bound q) more) }
+-- the first of resolved parts binds its variable in the others, and in those behind them
+first-binds : (s : Sub) (q : Part) (qs : List Part) → Each (Free s) qs → (n : ℕ) (more : List Part) → then_solved (suc n) s (both_parts (Some (q ∷ qs)) (parts_under s more)) ≡ made_by n (then_by s (Bound q)) (qs ++ more)
+first-binds s q qs free n more = by (parts_under s more) (later-each s (Bound q) more)
   where
-    one-more : (n : ℕ) → 1 + n ≡ suc n
-    one-more n = omega arith
-
-    solve : (n : ℕ) (o : Option (List Part)) → (o >>= (λ rs. solved n rs >>= (λ r. Some (then_by (Bound q) r))) >>= (λ r. Some (then_by s r))) ≡ then_solved n (then_by s (Bound q)) o
-    solve n None = refl
-    solve n (Some rs) = last (solved n rs)
+    solve : (o : Option (List Part)) → (o >>= (λ rs. solved n rs >>= (λ r. Some (then_by (Bound q) r))) >>= (λ r. Some (then_by s r))) ≡ then_solved n (then_by s (Bound q)) o
+    solve None = refl
+    solve (Some rs) = last (solved n rs)
       where
         last : (o : Option Sub) → (o >>= (λ r. Some (then_by (Bound q) r)) >>= (λ r. Some (then_by s r))) ≡ (o >>= (λ r. Some (then_by (then_by s (Bound q)) r)))
         last None = refl
         last (Some r) = ap Some (sym (then-assoc s (Bound q) r))
 
-    by : (n : ℕ) (more : List Part) (o : Option (List Part)) → parts_under (then_by s (Bound q)) more ≡ (o >>= parts_under (Bound q)) → then_solved (suc n) s (both_parts (Some (q ∷ qs)) o) ≡ made_by n (then_by s (Bound q)) (qs ++ more)
-    by n more None f =
+    by : (o : Option (List Part)) → parts_under (then_by s (Bound q)) more ≡ (o >>= parts_under (Bound q)) → then_solved (suc n) s (both_parts (Some (q ∷ qs)) o) ≡ made_by n (then_by s (Bound q)) (qs ++ more)
+    by None f =
         sym (ap (then_solved n (then_by s (Bound q))) (sym (under-append (then_by s (Bound q)) qs more) ∙ ap (both_parts (parts_under (then_by s (Bound q)) qs)) f ∙ both-none (parts_under (then_by s (Bound q)) qs)))
-    by n more (Some ms) f =
-        solve n (parts_under (Bound q) (qs ++ ms))
-        ∙ ap (then_solved n (then_by s (Bound q))) (sym (under-append (Bound q) qs ms) ∙ (λ i. both_parts (sym (under-free s (Bound q) qs (found-free s p q qs a e).1) i) (sym f i)) ∙ under-append (then_by s (Bound q)) qs more)
+    by (Some ms) f =
+        solve (parts_under (Bound q) (qs ++ ms))
+        ∙ ap (then_solved n (then_by s (Bound q))) (sym (under-append (Bound q) qs ms) ∙ (λ i. both_parts (sym (under-free s (Bound q) qs free) i) (sym f i)) ∙ under-append (then_by s (Bound q)) qs more)
+
+one-more : (n : ℕ) → 1 + n ≡ suc n
+one-more n = omega arith
+
+pub part-bound : (s : Sub) (p q : Part) (qs : List Part) → Absorbs s s → resolved_parts s p ≡ Some (q ∷ qs) → LeadsTo s (p ∷ []) (then_by s (Bound q)) qs
+part-bound s p q qs a e = record {
+  bound = 1;
+  same = λ n more. ap (λ m. made_by m s (p ∷ more)) (one-more n) ∙ ap (λ o. then_solved (suc n) s (both_parts o (parts_under s more))) e ∙ first-binds s q qs (found-free s p q qs a e).1 n more;
+}
 
 -- what was bound by parts of resolved terms stays resolved
 pub part-resolved : (s : Sub) (p q : Part) (qs : List Part) → Absorbs s s → resolved_parts s p ≡ Some (q ∷ qs) → Absorbs (then_by s (Bound q)) (then_by s (Bound q))
@@ -238,6 +245,11 @@ leads-past s r t ps ds p h k = record { bound = h.bound + k.bound; same = λ n m
 
 pub leads-self : (s : Sub) (ps : List Part) → LeadsTo s ps s ps
 leads-self s ps = record { bound = 0; same = λ n more. ap (λ m. made_by m s (ps ++ more)) (zero-add n) }
+
+-- no part is left to bind
+pub none-found : (s : Sub) (found : List FoundPart) → length found ≡ 0 → LeadsTo s (map part_of found) s []
+none-found s [] n = leads-self s []
+none-found s (f ∷ fs) n = absurd (omega (arith, n))
 
 pub next-part : (ps : List FoundPart) (i : ℕ) (p : FoundPart) → i < length ps → p ≡ get_or ps i p → map part_of (drop i ps) ≡ part_of p ∷ map part_of (drop (i + 1) ps)
 next-part [] i p h e = absurd (omega arith)
@@ -283,20 +295,20 @@ leads-clash s r ps ds p h k = λ n more. by n more (made_by n s (ps ++ more)) re
         let none : made_by (h.bound + n) s (ps ++ more) ≡ None = h.same n more ∙ k n (ds ++ more) in
         cc
 
--- what all of some parts clash with, each of the first ones does
-pub rest-clashes : (s r : Sub) (p : Part) (qs : List Part) → LeadsTo s (p ∷ []) r qs → Clashes r qs → Clashes s (p ∷ [])
-rest-clashes s r p qs h k = λ n more. by n more (made_by n s (p ∷ more)) refl
+-- what is left of some parts clashes, and so do they
+rest-clashes : (s r : Sub) (ps qs : List Part) → LeadsTo s ps r qs → Clashes r qs → Clashes s ps
+rest-clashes s r ps qs h k = λ n more. by n more (made_by n s (ps ++ more)) refl
   where
-    by : (n : ℕ) (more : List Part) (o : Option Sub) → made_by n s (p ∷ more) ≡ o → o ≡ None
+    by : (n : ℕ) (more : List Part) (o : Option Sub) → made_by n s (ps ++ more) ≡ o → o ≡ None
     by n more None e = refl
     by n more (Some t) e =
-        let later : made_by (h.bound + n) s (p ∷ more) ≡ Some t = made-more n (h.bound + n) s (p ∷ more) t (omega arith) e in
-        let none : made_by (h.bound + n) s (p ∷ more) ≡ None = h.same n more ∙ k n more in
+        let later : made_by (h.bound + n) s (ps ++ more) ≡ Some t = made-more n (h.bound + n) s (ps ++ more) t (omega arith) e in
+        let none : made_by (h.bound + n) s (ps ++ more) ≡ None = h.same n more ∙ k n more in
         cc
 
-pub rest-solved : (b : Bool) (s r t : Sub) (p : Part) (qs : List Part) → LeadsTo s (p ∷ []) r qs → Solves b r qs t → Solves b s (p ∷ []) t
-rest-solved true s r t p qs h k = leads-on s r t (p ∷ []) qs h k
-rest-solved false s r t p qs h k = rest-clashes s r p qs h k
+pub rest-solved : (b : Bool) (s r t : Sub) (ps qs : List Part) → LeadsTo s ps r qs → Solves b r qs t → Solves b s ps t
+rest-solved true s r t ps qs h k = leads-on s r t ps qs h k
+rest-solved false s r t ps qs h k = rest-clashes s r ps qs h k
 
 -- ---- a whole equation
 
@@ -306,6 +318,31 @@ parts-again s t u ps a e =
     let l = resolved-twice s s t a in
     let r = resolved-twice s s u a in
     ap (λ (o : Option (List Part)). o >>= parts_under s) (sym e) ∙ sym (parts-later s (under s t) (under s u)) ∙ (λ i. parts (l i) (r i)) ∙ e
+
+-- the first of them is bound as it stands
+pub record WholeBound (bs : List Binding) (found : List FoundPart) (after : List Binding) (rest : List FoundPart) : Type 0 where
+  pub leads : LeadsTo (sub_of bs) (map part_of found) (sub_of after) (map part_of rest)
+  pub resolved : Absorbs (sub_of after) (sub_of after)
+
+parts-bound : (s : Sub) (q : Part) (qs : List Part) → Each (Free s) (q ∷ qs) → parts_under s (q ∷ qs) ≡ Some (q ∷ qs) → LeadsTo s (q ∷ qs) (then_by s (Bound q)) qs
+parts-bound s q qs free e = record {
+  bound = 1;
+  same = λ n more. ap (λ m. made_by m s (q ∷ qs ++ more)) (one-more n) ∙ ap (then_solved (suc n) s) (sym (under-append s (q ∷ qs) more)) ∙ ap (λ o. then_solved (suc n) s (both_parts o (parts_under s more))) e ∙ first-binds s q qs free.1 n more;
+}
+
+pub whole-bound : (bs : List Binding) (t u : Tm) (found rest : List FoundPart) (f : FoundPart) (after : List Binding) → Absorbs (sub_of bs) (sub_of bs) → parts (under (sub_of bs) t) (under (sub_of bs) u) ≡ Some (map part_of found) → found ≡ f ∷ rest → after ≡ bs ++ record { x = f.at; term = f.term } ∷ [] → WholeBound bs found after rest
+whole-bound bs t u found rest f after a e is new =
+    let s = sub_of bs in
+    let q = part_of f in
+    let qs = map part_of rest in
+    let listed : map part_of found ≡ q ∷ qs = ap (λ (fs : List FoundPart). map part_of fs) is in
+    let whole : parts (under s t) (under s u) ≡ Some (q ∷ qs) = e ∙ ap Some listed in
+    let free : Each (Free s) (q ∷ qs) = subst (λ (o : Option (List Part)). IfParts o (Free s)) whole (parts-free s (under s t) (under s u) (resolved-twice s s t a) (resolved-twice s s u a)) in
+    let bound : then_by s (Bound q) ≡ sub_of after = sym (ap sub_of new ∙ sub-push bs (record { x = f.at; term = f.term })) in
+    record {
+      leads = subst (λ (ps : List Part). LeadsTo s ps (sub_of after) qs) (sym listed) (subst (λ (r : Sub). LeadsTo s (q ∷ qs) r qs) bound (parts-bound s q qs free (parts-again s t u (q ∷ qs) a whole)));
+      resolved = subst (λ (r : Sub). Absorbs r r) bound (bound-resolved s q a free.0);
+    }
 
 pub equation-clashes : (s : Sub) (t u : Tm) → parts (under s t) (under s u) ≡ None → unifier (under s t) (under s u) ≡ None
 unfolding unifier
@@ -373,6 +410,12 @@ not-unified s (Some q) e = cc
 pub behind-none : (o : Option (List Part)) (ps : List Part) → behind [] o ≡ Some ps → o ≡ Some ps
 behind-none None ps e = cc
 behind-none (Some qs) ps e = e
+
+-- what is kept of more bindings is kept of the first ones
+pub kept-first : (bs ds cs : List Binding) (b : Binding) → ds ≡ bs ++ b ∷ [] → take (length ds) cs ≡ ds → take (length bs) cs ≡ bs
+kept-first bs ds cs b e k =
+    let less : length bs ≤ length ds = omega (arith, ap (λ (xs : List Binding). length xs) e, length-append bs (b ∷ [])) in
+    sym (take-take (length bs) (length ds) cs less) ∙ ap (take (length bs)) k ∙ ap (take (length bs)) e ∙ take_at bs (b ∷ []) (length bs) refl
 
 pub kept-longer : (bs cs : List Binding) → take (length bs) cs ≡ bs → length bs ≤ length cs
 kept-longer bs cs e = omega (arith, ap length e, length-take (length bs) cs)

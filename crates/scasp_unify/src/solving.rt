@@ -118,7 +118,8 @@ fn solve(alloc: Global, parts: &[Part], bindings: &mut Vec<Binding>) -> Result<b
 }
 
 /// Unifies two terms, as the bindings resolve them; false where they do not unify, and then nothing more is bound. Of
-/// two unbound variables the left one is bound to the right one.
+/// two unbound variables the left one is bound to the right one. The first part of the resolved terms is bound as it
+/// stands.
 pub(crate) fn unify(
     alloc: Global,
     left: &Term,
@@ -138,7 +139,15 @@ pub(crate) fn unify(
     if !find_parts(alloc, &first, &second, &mut parts)? {
         return Ok(false);
     }
+    if parts.is_empty() {
+        return Ok(true);
+    }
     let count = bindings.len();
+    let part = parts.remove(0);
+    bindings.push(Binding {
+        x: part.at,
+        term: part.term,
+    })?;
     if solve(alloc, parts.as_slice(), bindings)? {
         return Ok(true);
     }

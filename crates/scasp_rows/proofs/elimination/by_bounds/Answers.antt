@@ -10,7 +10,7 @@ use Rattle.scasp_rows.proofs.elimination.by_bounds.Goals as goal
 pub returns-in-Overflow : goal.returns-in-Overflow
 returns-in-Overflow c =
     let x = c.args.x in
-    let rows = c.args.rows.now in
+    let rows = c.args.rows in
     let lowers = rows_with sign.Below x rows in
     let uppers = rows_with sign.Above x rows in
     let start : State = record { standing = rows_with sign.Zero x rows; steps = c.args.steps; last = c.args.last } in
@@ -21,7 +21,7 @@ returns-in-Overflow c =
 pub returns-in-False : goal.returns-in-False
 returns-in-False c =
     let x = c.args.x in
-    let rows = c.args.rows.now in
+    let rows = c.args.rows in
     let start : State = record { standing = rows_with sign.Zero x rows; steps = c.args.steps; last = c.args.last } in
     let lo : c.as_slice-lowers.result.now ≡ rows_with sign.Below x rows = c.as_slice-lowers.ensures ∙ c.in_ok-lowers.ensures in
     let up : c.as_slice-uppers.result.now ≡ rows_with sign.Above x rows = c.as_slice-uppers.ensures ∙ c.in_ok-uppers.ensures in

@@ -3,4 +3,4 @@ use Rattle.scasp_rows.specs.Elimination.{rows_with}
 use Rattle.scasp_rows.proofs.elimination.rows_with.Given as goal
 
 abbrev pub invariant-loop-r : goal.invariant-loop-r
-invariant-loop-r l = l.kept ++ rows_with l.sign l.x (drop l.r-index l.rows) ≡ rows_with l.sign l.x l.rows
+invariant-loop-r l = l.kept ++ rows_with l.sign l.x (drop l.r-index l.r-items) ≡ rows_with l.sign l.x l.rows

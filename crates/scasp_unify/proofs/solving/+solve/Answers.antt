@@ -35,6 +35,6 @@ solve_part-returns-in_ok-is_solved-in-Some-clause-solved t c =
     let s = sub_of c.args.bindings.now.items in
     let r = sub_of c.bind_first.new.bindings.items in
     let p = part_of c.args.part.now in
-    rest-solved c.in_ok-is_solved-in-Some.is_solved s r (sub_of c.solve.new.bindings.items) p (map part_of c.in-Some.rest.items)
+    rest-solved c.in_ok-is_solved-in-Some.is_solved s r (sub_of c.solve.new.bindings.items) (p ∷ []) (map part_of c.in-Some.rest.items)
     (subst (λ o. MatchOption o (Clashes s (p ∷ [])) (λ parts. LeadsTo s (p ∷ []) r (map part_of parts.items))) c.in-Some.is c.in_ok-bind_first.ensures.found)
     (subst (λ (ps : List FoundPart). Solves c.in_ok-is_solved-in-Some.is_solved r (map part_of ps) (sub_of c.solve.new.bindings.items)) c.as_slice.ensures.value c.in_ok-is_solved-in-Some.ensures.solved)
