@@ -26,9 +26,9 @@ use std::alloc::Global;
 /// The longest file that is read.
 pub const BYTE_LIMIT: usize = 67_108_864;
 
-/// The most opening brackets and commas of a line. Walks down a term, such as freeing it, are served by the machine's stack so
-/// far; in a line with more of them memory is wanting.
-pub const MARK_LIMIT: usize = 10_000;
+/// The most opening brackets and commas of a line, each of which takes memory while the line is read; in a line with more
+/// of them memory is wanting.
+pub const MARK_LIMIT: usize = 1_000_000;
 
 /// Reads the line at its depth; tells what is wrong with it, if anything is.
 fn stand(

@@ -126,11 +126,18 @@ impl State {
         requires none_open { opens_of self.old.opens ≡ [] }
         ensures { Follows (at_edge (state_of self.old) (phase_of self.old.phase) lines.tree_line) result self.new }
     {
-        if self.phase != Phase::InSample {
-            return Ok(Placing::OutOfOrder);
+        match self.phase {
+            Phase::InSample => {
+                self.phase = Phase::InTree;
+                self.open(alloc, Line::Tree)
+            }
+            Phase::AtStart
+            | Phase::Between
+            | Phase::InGiven
+            | Phase::InTree
+            | Phase::InClashes
+            | Phase::InMap => Ok(Placing::OutOfOrder),
         }
-        self.phase = Phase::InTree;
-        self.open(alloc, Line::Tree)
     }
 
     fn check(&mut self, alloc: Global, clause: u128) -> Result<Placing, Memory>

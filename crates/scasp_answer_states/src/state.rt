@@ -92,16 +92,25 @@ impl State {
         }
     }
 
-    /// Opens the line below the innermost open one.
+    /// Opens the line right below the other one.
+    fn open_under(&mut self, alloc: Global, top: Open, line: Line) -> Result<Placing, Memory>
+        requires { line_fits (line_of line) ≡ true }
+        ensures { Follows (Some (states.with_opens (state_of self.old) (states.opened (line_of line) ∷ open_of top ∷ opens_of self.old.opens) (certificate_of self.old.block.cert))) result self.new }
+    {
+        self.opens.push(top)?;
+        self.open(alloc, line)
+    }
+
+    /// Opens the line below the innermost open one, where it may stand there.
     fn open_below(&mut self, alloc: Global, top: Open, line: Line) -> Result<Placing, Memory>
         requires { line_fits (line_of line) ≡ true }
         ensures { Follows (states.below (state_of self.old) (open_of top) (opens_of self.old.opens) (line_of line)) result self.new }
     {
-        if !top.takes(&line) {
-            return Ok(Placing::OutOfOrder);
+        if top.takes(&line) {
+            self.open_under(alloc, top, line)
+        } else {
+            Ok(Placing::OutOfOrder)
         }
-        self.opens.push(top)?;
-        self.open(alloc, line)
     }
 
     /// Opens the line.

@@ -1,3 +1,4 @@
 -- Words for contracts of private functions.
+pub mod Alike
 pub mod Assumed
 pub mod Open

@@ -1,7 +1,7 @@
 //! Earlier literals: one that is seen again, and those of the other sign.
 ghost use Rattle.std.specs.Prelude.{◌≡◌, IfOk, filter, map};
 ghost use Rattle.scasp_calls.specs.Inside.Open.{first_number};
-ghost use Rattle.scasp_successors.specs.Calls.{can_be_seen, differing, is_firm, is_free, is_in_scope, is_opposite, open_cases, opposites};
+ghost use Rattle.scasp_successors.specs.Calls.{can_be_seen, differing, is_firm, is_free, is_in_scope, is_opposite, lit_under, open_cases, opposites};
 ghost use Rattle.scasp_successors.specs.Reading.{among};
 ghost use Rattle.scasp_syntax.specs.Tm.{app, cons, items, nil};
 ghost use Rattle.scasp_syntax.specs.View.{tm_of};
@@ -50,11 +50,19 @@ fn is_firm(literal: &Literal) -> bool
     !(literal.lit.positive && literal.loops)
 }
 
-fn can_be_seen(alloc: Global, state: &State, lit: &Lit, other: &Literal) -> Result<bool, Memory>
+/// Whether the call sees this literal again, where its arguments read as `args`.
+fn can_be_seen(
+    alloc: Global,
+    state: &State,
+    lit: &Lit,
+    args: &Terms,
+    other: &Literal,
+) -> Result<bool, Memory>
+    requires { args.now ≡ (lit_under state.now lit.now).atom.args }
     ensures { IfOk result (λ answer. answer ≡ can_be_seen state.now lit.now other.now) }
 {
     if other.is_done && is_firm(other) && is_in_scope(state, other) {
-        is_same(alloc, state, lit, other)
+        is_same(alloc, state, lit, args, other)
     } else {
         Ok(false)
     }
@@ -64,8 +72,9 @@ fn can_be_seen(alloc: Global, state: &State, lit: &Lit, other: &Literal) -> Resu
 pub(crate) fn seen(alloc: Global, state: &State, lit: &Lit) -> Result<Option<u64>, Memory>
     ensures { IfOk result (λ found. found ≡ first_number (filter (can_be_seen state.now lit.now) state.now.literals)) }
 {
+    let args = read_terms(alloc, &lit.atom.args, state.bound.as_slice())?;
     for literal in state.literals.as_slice() {
-        if can_be_seen(alloc, state, lit, literal)? {
+        if can_be_seen(alloc, state, lit, &args, literal)? {
             return Ok(Some(literal.number));
         }
     }

@@ -132,18 +132,18 @@ fn rule_line(
     })
 }
 
-/// A copy of the state inside the literal, with this line, and so many variables of a rule.
+/// The state inside the literal, with this line, and so many variables of a rule.
 fn inside_rule(
     alloc: Global,
-    state: &State,
+    state: State,
     lit: &Lit,
     vars: u64,
     line: Line,
 ) -> Result<State, Memory>
-    ensures { IfOk result (λ made. made ≡ with_literal (with_line (with_new state.now Kind.Existential (length state.now.covers) vars) line) lit.now) }
+    ensures { IfOk result (λ made. made ≡ with_literal (with_line (with_new state Kind.Existential (length state.covers) vars) line) lit.now) }
 {
     let depth = state.covers.len() as u64;
-    let state = with_new(state.copy(alloc)?, Kind::Existential, depth, vars)?;
+    let state = with_new(state, Kind::Existential, depth, vars)?;
     with_literal(alloc, with_line(state, line)?, lit)
 }
 
@@ -151,11 +151,11 @@ fn inside_rule(
 fn by_rule(
     alloc: Global,
     program: &Program,
-    state: &State,
+    state: State,
     lit: &Lit,
     rule: u64,
 ) -> Result<State, Memory>
-    ensures { IfOk result (λ made. made ≡ by_rule program.now state.now lit.now rule) }
+    ensures { IfOk result (λ made. made ≡ by_rule program.now state lit.now rule) }
 {
     let first = state.made.len() as u64;
     let vars = vars_of_clause(program, rule);
@@ -166,8 +166,8 @@ fn by_rule(
     before(tasks, inside_rule(alloc, state, lit, vars, line)?)
 }
 
-/// The literal by each of these rules.
-fn by_rules(
+/// The literal by each of these rules, in copies of the state.
+fn by_copies(
     alloc: Global,
     program: &Program,
     state: &State,
@@ -178,8 +178,26 @@ fn by_rules(
 {
     let mut made = States::new(alloc);
     for rule in rules {
-        made.push(by_rule(alloc, program, state, lit, *rule)?)?;
+        made.push(by_rule(alloc, program, state.copy(alloc)?, lit, *rule)?)?;
     }
+    Ok(made)
+}
+
+/// The literal by each of these rules; the last one takes the state itself.
+fn by_rules(
+    alloc: Global,
+    program: &Program,
+    state: State,
+    lit: &Lit,
+    rules: &[u64],
+) -> Result<States, Memory>
+    ensures { IfOk result (λ made. made ≡ map (by_rule program.now state lit.now) rules.now) }
+{
+    let Some((last, others)) = rules.split_last() else {
+        return Ok(States::new(alloc));
+    };
+    let mut made = by_copies(alloc, program, &state, lit, others)?;
+    made.push(by_rule(alloc, program, state, lit, *last)?)?;
     Ok(made)
 }
 
@@ -222,7 +240,7 @@ pub(crate) fn entered(
 {
     let rules = rules_of(alloc, program, &lit.atom)?;
     if lit.positive {
-        return by_rules(alloc, program, &state, lit, rules.as_slice());
+        return by_rules(alloc, program, state, lit, rules.as_slice());
     }
     let mut made = States::new(alloc);
     made.push(by_none(alloc, state, lit, rules.as_slice())?)?;

@@ -1,30 +1,40 @@
 //! The literal above that a call repeats.
 ghost use Rattle.std.specs.Prelude.{◌≡◌, ◌∷◌, ◌<◌, [], IfOk, MatchOption, false, length};
+ghost use Rattle.scasp_calls.specs.Inside.Alike.{is_alike};
 ghost use Rattle.scasp_calls.specs.Inside.Open.{open_among};
-ghost use Rattle.scasp_successors.specs.Calls.{ancestors, is_same, nearest};
+ghost use Rattle.scasp_successors.specs.Calls.{ancestors, is_same, lit_under, nearest};
 
-use scasp_copying::reading::read_lit;
+use scasp_copying::reading::read_terms;
 use scasp_list::Memory;
 use scasp_states::{Literal, Repeated, State};
-use scasp_syntax::{Lit, same_lit};
+use scasp_syntax::{Lit, Terms, same_terms};
 use std::alloc::Global;
 
-/// Whether the literal is this one, as both read now.
+/// Whether the literals have one sign and one name, whatever their arguments.
+fn is_alike(lit: &Lit, other: &Lit) -> bool
+    ensures { result ≡ is_alike lit.now other.now }
+{
+    lit.positive == other.positive
+        && lit.atom.minus == other.atom.minus
+        && lit.atom.name == other.atom.name
+}
+
+/// Whether the literal is this one, as both read now; `args` is how the arguments of the first read.
 pub(crate) fn is_same(
     alloc: Global,
     state: &State,
     lit: &Lit,
+    args: &Terms,
     other: &Literal,
 ) -> Result<bool, Memory>
+    requires { args.now ≡ (lit_under state.now lit.now).atom.args }
     ensures { IfOk result (λ answer. answer ≡ is_same state.now lit.now other.now) }
 {
-    if other.is_general {
+    if other.is_general || !is_alike(&other.lit, lit) {
         return Ok(false);
     }
-    let bindings = state.bound.as_slice();
-    let first = read_lit(alloc, &other.lit, bindings)?;
-    let second = read_lit(alloc, lit, bindings)?;
-    same_lit(alloc, &first, &second)
+    let read = read_terms(alloc, &other.lit.atom.args, state.bound.as_slice())?;
+    same_terms(alloc, &read, args)
 }
 
 /// The last of the literals that is open, and those before it.
@@ -47,10 +57,11 @@ pub(crate) fn last_open(literals: &[Literal]) -> Option<(&Literal, &[Literal])>
 pub(crate) fn nearest(alloc: Global, state: &State, lit: &Lit) -> Result<Option<Repeated>, Memory>
     ensures { IfOk result (λ found. found ≡ nearest state.now lit.now false (ancestors state.now)) }
 {
+    let args = read_terms(alloc, &lit.atom.args, state.bound.as_slice())?;
     let mut rest = state.literals.as_slice();
     let mut passed = false;
     while let Some((last, before)) = last_open(rest) {
-        if is_same(alloc, state, lit, last)? {
+        if is_same(alloc, state, lit, &args, last)? {
             return Ok(Some(Repeated {
                 number: last.number,
                 is_behind_negation: passed,

@@ -3,3 +3,4 @@ pub mod DueLemmas
 pub mod AboveLemmas
 pub mod ContextLemmas
 pub mod NormalLemmas
+pub mod RoomLemmas

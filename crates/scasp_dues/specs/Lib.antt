@@ -2,3 +2,5 @@ pub mod DueView
 pub mod Seen
 pub mod Above
 pub mod Wholes
+pub mod Pending
+pub mod PendingView

@@ -4,6 +4,7 @@
 mod contexts;
 mod determining;
 mod due;
+mod pending;
 mod raised;
 mod rooms;
 mod simple;

@@ -12,10 +12,11 @@ use crate::status::Status;
 use scasp_answer_files::{AnswerErr, BYTE_LIMIT as ANSWER_LIMIT, Entries, read_answers};
 use scasp_answers::{AnswerFault, AnswerKind};
 use scasp_io::{Files, ReadErr, read_file};
+use scasp_list::Memory;
 use scasp_name::Names;
 use scasp_phrase::{Count, Fault, Kind, Stop};
 use scasp_program::read_program;
-use scasp_syntax::Program;
+use scasp_syntax::{Nested, Program};
 use scasp_text::BYTE_LIMIT;
 use std::alloc::Global;
 
@@ -28,7 +29,10 @@ fn read_text(alloc: Global, bytes: &[u8]) -> Result<(Program, Names), Halt>
         return Err(Halt::Memory);
     };
     match read_program(alloc, bytes, table) {
-        Ok(read) => Ok(read),
+        Ok((program, names)) => match program.serves_walks(alloc) {
+            Ok(()) => Ok((program, names)),
+            Err(Memory) => Err(Halt::Memory),
+        },
         Err(Stop::At(fault)) => Err(program_refusal(alloc, fault)),
         Err(Stop::Memory) => Err(Halt::Memory),
     }

@@ -7,7 +7,7 @@ ghost use Rattle.scasp_faults.specs.Judged.{Judges};
 use scasp_cert::Cert;
 use scasp_faults::{CheckErr, accept_answer, accept_map, accept_sample};
 use scasp_pairs::accept_apart;
-use scasp_syntax::Program;
+use scasp_syntax::{Nested, Program};
 use scasp_walk::{accept_lines, with_table};
 use std::alloc::Global;
 
@@ -21,6 +21,7 @@ pub fn accept(alloc: Global, program: &Program, cert: &Cert) -> Result<(), Check
     ensures { Judges result (faults program.now (certificate_of cert.now)) }
 {
     accept_answer(alloc, program, cert)?;
+    cert.serves_walks(alloc)?;
     let tabled = with_table(alloc, program, cert)?;
     accept_lines(alloc, &tabled)?;
     accept_apart(alloc, &tabled.common, &tabled.table)?;

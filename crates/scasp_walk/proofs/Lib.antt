@@ -1,3 +1,4 @@
 pub mod CheckedLemmas
 pub mod LineLemmas
+pub mod RuleLemmas
 pub mod WalkLemmas

@@ -2,6 +2,7 @@
 #![tactic(auto)]
 
 mod lines;
+mod rules;
 mod tabled;
 mod walk;
 

@@ -1,7 +1,7 @@
 //! The tests of a line, by what stands on it.
 ghost use Rattle.std.specs.Prelude.{◌≡◌, ◌&&◌, length, nat_lt, true, IfOk};
-ghost use Rattle.scasp_cert.specs.Trees.{listed, pos_tree};
-ghost use Rattle.scasp_cert.specs.View.{branch_of, tree_of, trees_of};
+ghost use Rattle.scasp_cert.specs.Trees.{covering, listed, neg_tree, pos_tree};
+ghost use Rattle.scasp_cert.specs.View.{branch_of, covers_of, tree_of, trees_of};
 ghost use Rattle.scasp_dues.specs.DueView.{due_value};
 ghost use Rattle.scasp_places.specs.View.{body_of, place_of};
 ghost use Rattle.scasp_syntax.specs.Programs.{numbered};
@@ -12,15 +12,19 @@ ghost use Rattle.scasp_line_faults.specs.Whole.{whole};
 ghost use Rattle.scasp_table_faults.specs.Tables.{Tells};
 ghost use Rattle.scasp_traversal.specs.View.{line_of};
 ghost use Rattle.scasp_walk.specs.Checked.{AreBelow};
+ghost use Rattle.scasp_walk.specs.Rules.{HasRules};
 
+use crate::rules::{Rules, names_its_rules};
 use crate::tabled::Tabled;
 use scasp_acceptance::Reason;
-use scasp_cert::{Case, Node, Nodes};
+use scasp_cert::{Case, Covers, Node, Nodes};
 use scasp_dues::Due;
 use scasp_faults::{CheckErr, has_count_of, want};
-use scasp_line_faults::{accept_head, accept_leaf, accept_split};
+use scasp_line_faults::{Common, accept_head, accept_leaf, accept_split};
 use scasp_list::Memory;
-use scasp_node_faults::{accept_loop, accept_negated, accept_positive, accept_test, accept_void};
+use scasp_node_faults::{
+    accept_literal, accept_loop, accept_positive, accept_test, accept_void, asks_negated,
+};
 use scasp_places::{Body, Place};
 use scasp_syntax::{Atom, Program, Terms, flat};
 use scasp_table_faults::accept_seen;
@@ -56,16 +60,51 @@ fn accept_rule(
     want(at, Reason::WrongChildren, has_count_of(children, items))
 }
 
+/// Tests a line of a negated literal.
+fn accept_negated(
+    alloc: Global,
+    common: &Common,
+    rules: &Rules,
+    at: u64,
+    here: &Place,
+    due: &Due,
+    atom: &Atom,
+    covers: &Covers,
+) -> Result<(), CheckErr>
+    requires { HasRules rules.now common.now.program.now.clauses }
+    ensures { Judges result (node_faults (whole common.now) at (place_of here.now) (due_value due.now) (neg_tree atom.now (covering (covers_of covers.now)))) }
+{
+    let terms = Terms::new(alloc);
+    accept_literal(
+        alloc,
+        common,
+        at,
+        here,
+        due,
+        asks_negated(due),
+        false,
+        atom,
+        &terms,
+    )?;
+    want(
+        at,
+        Reason::UncoveredCase,
+        names_its_rules(rules, atom.pred(), covers),
+    )
+}
+
 /// Tests a line of a node.
 fn accept_node(
     alloc: Global,
     tabled: &Tabled,
+    rules: &Rules,
     at: u64,
     here: &Place,
     due: &Due,
     node: &Node,
 ) -> Result<(), CheckErr>
-    requires { Tells tabled.now.table tabled.now.common }
+    requires tells { Tells tabled.now.table tabled.now.common }
+    requires rules { HasRules rules.now tabled.now.common.program.now.clauses }
     ensures { Judges result (node_faults (whole tabled.now.common) at (place_of here.now) (due_value due.now) (tree_of node.now)) }
 {
     let common = &tabled.common;
@@ -76,7 +115,9 @@ fn accept_node(
             terms,
             children,
         } => accept_rule(alloc, tabled, at, here, due, atom, *rule, terms, children),
-        Node::Neg { atom, covers } => accept_negated(alloc, common, at, here, due, atom, covers),
+        Node::Neg { atom, covers } => accept_negated(
+            alloc, common, rules, at, here, due, atom, covers,
+        ),
         Node::Loop { lit, at: to } => accept_loop(alloc, common, at, here, due, lit, *to),
         Node::Seen { lit, at: to } => {
             accept_seen(alloc, common, &tabled.table, at, here, due, lit, *to)
@@ -133,15 +174,19 @@ fn accept_check(tabled: &Tabled, at: u64, clause: u64, before: u64) -> Result<()
 pub(crate) fn accept_line(
     alloc: Global,
     tabled: &Tabled,
+    rules: &Rules,
     line: &Line,
     before: u64,
 ) -> Result<(), CheckErr>
     requires tells { Tells tabled.now.table tabled.now.common }
+    requires rules { HasRules rules.now tabled.now.common.program.now.clauses }
     requires below { AreBelow (whole tabled.now.common) line.now.at before }
     ensures { Judges result (line_faults (whole tabled.now.common) (line_of line.now)) }
 {
     match &line.part {
-        Part::Node { due, node } => accept_node(alloc, tabled, line.at, &line.here, due, *node),
+        Part::Node { due, node } => accept_node(
+            alloc, tabled, rules, line.at, &line.here, due, *node,
+        ),
         Part::Rule { .. } => Ok(()),
         Part::Check { clause, .. } => accept_check(tabled, line.at, *clause, before),
         Part::Case { body, bare, case } => accept_case(
