@@ -1,3 +1,3 @@
-mod Leads
+pub mod Leads
 mod TreeLeads
-mod BlockLeads
+pub mod BlockLeads

@@ -37,7 +37,7 @@ pub one-taken : (b : ℕ) (bytes name : List ℕ) → is_name_byte b ≡ true �
 one-taken b bytes name e h =
     take_while-cons is_name_byte b bytes ∙ ap (λ t. cond t (b ∷ take_while is_name_byte bytes) []) e ∙ ap (λ r. b ∷ r) h
 
-all-taken : (bytes rest : List ℕ) → list_all is_word_byte bytes ≡ true → ends_name rest ≡ true → take_while is_name_byte (bytes ++ rest) ≡ bytes
+pub all-taken : (bytes rest : List ℕ) → list_all is_word_byte bytes ≡ true → ends_name rest ≡ true → take_while is_name_byte (bytes ++ rest) ≡ bytes
 all-taken [] rest e end = ends-word rest end
 all-taken (b ∷ bytes) rest e end =
     let parts = and_parts (is_word_byte b) (list_all is_word_byte bytes) e in

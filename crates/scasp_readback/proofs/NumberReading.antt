@@ -28,7 +28,7 @@ all-append (x ∷ xs) ys h g =
     let parts = and_parts (is_digit x) (list_all is_digit xs) h in
     and_from (is_digit x) (list_all is_digit (xs ++ ys)) parts.0 (all-append xs ys parts.1 g)
 
-abbrev Spells : ℕ → List ℕ → Type 0
+abbrev pub Spells : ℕ → List ℕ → Type 0
 Spells n ds = (list_all is_digit ds ≡ true) × (digits_value 0 ds ≡ n)
 
 one-digit : (n : ℕ) → n < 10 → Spells n ((48 + n) ∷ [])
@@ -45,7 +45,7 @@ more-digits n ds h s =
       digits_value-append 0 ds ((48 + n % 10) ∷ []) ∙ ap (λ v. 10 * v + (48 + n % 10 - 48)) s.1 ∙ value,
     )
 
-spells : (n : ℕ) → n < 10 ^ 64 → Spells n (decimal n)
+pub spells : (n : ℕ) → n < 10 ^ 64 → Spells n (decimal n)
 spells n h = decimal_by_steps_wide Spells one-digit more-digits n h
 
 pub decimal-digits : (n : ℕ) → n < 10 ^ 64 → list_all is_digit (decimal n) ≡ true

@@ -14,11 +14,11 @@ use Rattle.scasp_lexis.specs.Quoted.{begins_pair, is_pair, byte_of_escape, is_es
 use Rattle.scasp_lexis.proofs.QuotedLemmas.{quoted_length-plain, text_of-plain, length_before_bad-plain}
 
 -- how a byte is written: by itself, or as a backslash and another
-data Escape (c : ℕ) : Type 0 where
+pub data Escape (c : ℕ) : Type 0 where
   pair : (d : ℕ) → escaped c ≡ 92 ∷ d ∷ [] → byte_of_escape d ≡ c → is_escape d ≡ true → Escape c
   alone : escaped c ≡ c ∷ [] → (c == 92) ≡ false → (c == 39) ≡ false → Escape c
 
-escape-of : (c : ℕ) → Escape c
+pub escape-of : (c : ℕ) → Escape c
 escape-of c = by (c == 39) (c == 92) (c == 10) (c == 9) refl refl refl refl
   where
     by : (q b n t : Bool) → (c == 39) ≡ q → (c == 92) ≡ b → (c == 10) ≡ n → (c == 9) ≡ t → Escape c

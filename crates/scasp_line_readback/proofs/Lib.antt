@@ -1,0 +1,15 @@
+pub mod Fronts
+pub mod Words
+pub mod Numerals
+pub mod Table
+pub mod Leaves
+pub mod Terms
+pub mod Lists
+pub mod Rows
+pub mod NoRows
+pub mod Constraints
+pub mod Readings
+pub mod Hints
+pub mod Lines
+pub mod Feeds
+pub mod Files

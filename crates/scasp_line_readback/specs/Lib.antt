@@ -1,0 +1,4 @@
+pub mod Endings
+pub mod Writable
+pub mod Texts
+pub mod Examples
