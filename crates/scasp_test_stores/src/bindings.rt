@@ -104,6 +104,37 @@ fn a_binding_is_taken_out_and_comes_back(rt: HostRuntime) -> Result<(), Fail> {
     Ok(())
 }
 
+fn test_unbound_between(rt: &impl Abort, alloc: Global) -> Result<(), Memory> {
+    let mut bindings = existentials(alloc, 3)?;
+    let term = constant(alloc);
+    bind(rt, &mut bindings, 0, &Term::Var(1))?;
+    bind(rt, &mut bindings, 1, &Term::Var(2))?;
+    bind(rt, &mut bindings, 2, &term)?;
+    let mark = bindings.mark();
+    unbind(rt, &mut bindings, 1)?;
+    assert!(rt; resolves_to(rt, alloc, &bindings, 0, &Term::Var(1))?);
+    assert!(rt; resolves_to(rt, alloc, &bindings, 2, &term)?);
+    bind(rt, &mut bindings, 1, &application(alloc, Term::Var(2))?)?;
+    assert!(rt;
+        resolves_to(
+            rt,
+            alloc,
+            &bindings,
+            0,
+            &application(alloc, constant(alloc))?
+        )?
+    );
+    undo(rt, &mut bindings, mark);
+    assert!(rt; resolves_to(rt, alloc, &bindings, 0, &term)?);
+    Ok(())
+}
+
+#[test]
+fn a_binding_between_others_is_taken_out_and_comes_back(rt: HostRuntime) -> Result<(), Fail> {
+    test_unbound_between(&rt, rt.alloc())?;
+    Ok(())
+}
+
 /// Binds each of so many variables to the next one, the first one first.
 fn chain(rt: &impl Abort, bindings: &mut Bindings, count: u64) -> Result<(), Memory> {
     for x in 0..count {

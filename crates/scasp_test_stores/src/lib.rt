@@ -3,3 +3,5 @@
 
 #[cfg(test)]
 mod bindings;
+#[cfg(test)]
+mod diseqs;

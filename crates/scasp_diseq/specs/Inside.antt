@@ -1,0 +1,4 @@
+pub mod Chains
+pub mod Indexed
+pub mod Noting
+pub mod Unseen
