@@ -31,7 +31,7 @@ fn line_found(alloc: Global, text: &str) -> Result<Found, Fail> {
     }
 }
 
-const LINES: [(&str, Found); 60] = [
+const LINES: [(&str, Found); 69] = [
     ("scasp 1", Found::Fits),
     ("scasp 2", Found::NoLine),
     ("scasp 1 ", Found::NoLine),
@@ -104,6 +104,17 @@ const LINES: [(&str, Found); 60] = [
     ("void rows [1*18446744073709551616+1*0]", Found::TooLarge),
     ("leaf 1", Found::Fits),
     ("head", Found::Fits),
+    // Quotes that are not needed, and those that are.
+    ("answer 1.1 ['p']", Found::NoLine),
+    ("neg 'p'", Found::NoLine),
+    ("neg 'p q'", Found::Fits),
+    ("neg ''", Found::Fits),
+    // A blank more, or another one.
+    ("ended  2", Found::NoLine),
+    ("answer  1.1 []", Found::NoLine),
+    ("given V0 =  p", Found::NoLine),
+    ("clash 1  2 terms", Found::NoLine),
+    ("leaf\t1", Found::NoLine),
 ];
 
 #[test]

@@ -1,8 +1,8 @@
 //! Deep terms: f of f of .. of a variable, made by bindings of one f each.
-use scasp_copying::reading::{TERM_DEPTH, read};
+use scasp_copying::reading::read;
 use scasp_list::Memory;
 use scasp_name::NameId;
-use scasp_syntax::{Term, Terms};
+use scasp_syntax::{TERM_DEPTH, Term, Terms};
 use scasp_unify::Binding;
 use std::alloc::Global;
 use std::test::Fail;

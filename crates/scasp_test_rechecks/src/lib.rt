@@ -6,7 +6,7 @@ mod all;
 #[cfg(test)]
 mod changes;
 #[cfg(test)]
-mod deep;
+mod cuts;
 #[cfg(test)]
 mod faults;
 #[cfg(test)]

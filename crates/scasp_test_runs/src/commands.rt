@@ -2,7 +2,8 @@
 use scasp_io::Memory;
 use scasp_top::Status;
 use scasp_worked::{
-    Command, Device, FACT_PRINTED, FACT_PROGRAM, FORALL_OVER_FACTS, Row, SOUND, printed, prints,
+    BIRDS, Command, Device, FACT_PRINTED, FACT_PROGRAM, FORALL_OVER_FACTS, Row, SOUND, printed,
+    printed_bytes, prints,
 };
 use std::alloc::Global;
 use std::process::Abort;
@@ -104,6 +105,15 @@ const REFUSED: &[(&str, &str)] = &[
     ("p é", "text program 2 BadByte\n"),
 ];
 
+/// A byte that begins no token, and is no text by itself.
+#[test]
+fn a_lone_byte_is_told(rt: HostRuntime) -> Result<(), Fail> {
+    let (status, bytes) = printed_bytes(rt.alloc(), &["run", "p"], b"p \xC3", b"", SOUND)?;
+    assert_eq!(rt; status, Status::Text);
+    assert!(rt; bytes.as_slice() == "text program 2 BadByte\n".as_bytes());
+    Ok(())
+}
+
 /// Texts past a limit, and the lines that say so.
 const TOO_LARGE: &[(&str, &str)] = &[
     (
@@ -162,31 +172,39 @@ fn check_writes(rt: &impl Abort, alloc: Global) -> Result<(), Memory> {
     Ok(())
 }
 
-/// Each write of seven bytes fails once: what is taken is a first part of the text, and all of it where no write fails.
-fn check_parts(rt: &impl Abort, alloc: Global, row: &Row) -> Result<(), Memory> {
-    for failing_write in 1..80u64 {
-        let device = Device {
-            chunk: 7,
-            failing_write,
-            ..SOUND
-        };
-        let (status, bytes) = printed(alloc, &row.run(), device)?;
-        let text = row.printed.as_bytes();
-        assert!(rt; text.starts_with(bytes.as_slice()), "at {failing_write}");
-        let wanted = if bytes.len() == text.len() {
-            Status::Done
-        } else {
-            Status::Write
-        };
-        assert_eq!(rt; status, wanted, "at {failing_write}");
+/// Whether all of the row's text is taken where the write of this number, of seven bytes, fails; what is taken is a first part of
+/// it, and the status is by that.
+fn is_whole(rt: &impl Abort, alloc: Global, row: &Row, failing_write: u64) -> Result<bool, Memory> {
+    let device = Device {
+        chunk: 7,
+        failing_write,
+        ..SOUND
+    };
+    let (status, bytes) = printed(alloc, &row.run(), device)?;
+    let text = row.printed.as_bytes();
+    let whole = bytes.len() == text.len();
+    let wanted = if whole { Status::Done } else { Status::Write };
+    assert!(rt; text.starts_with(bytes.as_slice()), "at {failing_write}");
+    assert_eq!(rt; status, wanted, "at {failing_write}");
+    Ok(whole)
+}
+
+/// Each write of seven bytes fails once, of which there are fewer than this.
+fn check_parts(rt: &impl Abort, alloc: Global, row: &Row, writes: u64) -> Result<(), Memory> {
+    for failing_write in 1..writes {
+        let _whole = is_whole(rt, alloc, row, failing_write)?;
     }
+    assert!(rt; is_whole(rt, alloc, row, writes)?);
     Ok(())
 }
 
 #[test]
 fn each_write_may_fail(rt: HostRuntime) -> Result<(), Fail> {
     check_writes(&rt, rt.alloc())?;
-    check_parts(&rt, rt.alloc(), &FORALL_OVER_FACTS)?;
+    check_parts(&rt, rt.alloc(), &FORALL_OVER_FACTS, 80)?;
+    for row in BIRDS {
+        check_parts(&rt, rt.alloc(), row, 600)?;
+    }
     let row = Device { chunk: 4, ..SOUND };
     assert!(rt; prints(rt.alloc(), &RUN, row, FACT_PRINTED, Status::Done)?);
     let third = Device {

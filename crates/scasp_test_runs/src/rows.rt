@@ -1,6 +1,6 @@
 //! Whole runs of worked programs.
 use scasp_io::Memory;
-use scasp_worked::{BIRDS, LOOPS, NUMBERS, PASSED, QUERIES, Row, SOUND, TERMS, prints};
+use scasp_worked::{BIRDS, LIMITS, LOOPS, NUMBERS, PASSED, QUERIES, Row, SOUND, TERMS, prints};
 use std::alloc::Global;
 use std::process::Abort;
 use std::test::Fail;
@@ -19,7 +19,7 @@ fn check_runs(rt: &impl Abort, alloc: Global, rows: &[Row]) -> Result<(), Memory
 
 #[test]
 fn worked_programs_are_run(rt: HostRuntime) -> Result<(), Fail> {
-    for rows in [LOOPS, QUERIES, TERMS, NUMBERS, BIRDS, &[PASSED]] {
+    for rows in [LOOPS, QUERIES, TERMS, NUMBERS, BIRDS, LIMITS, &[PASSED]] {
         check_runs(&rt, rt.alloc(), rows)?;
     }
     Ok(())

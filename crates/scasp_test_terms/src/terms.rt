@@ -65,10 +65,10 @@ fn terms_are_copied_renamed_counted_and_compared(rt: HostRuntime) -> Result<(), 
     Ok(())
 }
 
-/// The term under 10,000 names.
+/// The term under 100,000 names.
 fn nested(alloc: Global, inner: Term) -> Result<Term, Memory> {
     let mut term = inner;
-    for _level in 0..10_000 {
+    for _level in 0..100_000 {
         term = application(alloc, 2, term)?;
     }
     Ok(term)
@@ -84,6 +84,14 @@ fn deep_terms_are_compared(rt: HostRuntime) -> Result<(), Fail> {
 }
 
 #[test]
+fn deep_terms_are_copied(rt: HostRuntime) -> Result<(), Fail> {
+    let alloc = rt.alloc();
+    let open = nested(alloc, Term::Var(0))?;
+    assert!(rt; same(alloc, &copy(alloc, &open)?, &open)?);
+    Ok(())
+}
+
+#[test]
 fn deep_terms_are_open(rt: HostRuntime) -> Result<(), Fail> {
     let open = nested(rt.alloc(), Term::Var(0))?;
     assert!(rt; !is_ground(rt.alloc(), &open)?);
@@ -95,7 +103,7 @@ fn deep_terms_are_counted(rt: HostRuntime) -> Result<(), Fail> {
     let alloc = rt.alloc();
     let closed = nested(alloc, Term::Num(Rat::new(1, 2)?))?;
     assert!(rt; is_ground(alloc, &closed)?);
-    assert_eq!(rt; size(alloc, &closed)?, 10_001);
+    assert_eq!(rt; size(alloc, &closed)?, 100_001);
     Ok(())
 }
 

@@ -12,6 +12,8 @@ mod loops;
 #[cfg(test)]
 mod numbers;
 #[cfg(test)]
+mod passed;
+#[cfg(test)]
 mod positives;
 #[cfg(test)]
 mod runs;
@@ -19,3 +21,5 @@ mod runs;
 mod terms;
 #[cfg(test)]
 mod trials;
+#[cfg(test)]
+mod universals;

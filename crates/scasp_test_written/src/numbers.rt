@@ -1,6 +1,27 @@
 //! Numbers and rows.
-use crate::runs::{Run, Told, check};
+use crate::runs::{Run, Told, check, check_at};
 use std::test::Fail;
+
+/// A number, or what is none.
+const NUMBER_OR_NOT: Run = Run {
+    text: "p(X) :- not q(X). q(3). ?- p(X).",
+    query: 1,
+    events: &[
+        (
+            Told::Block(
+                "answer 1.1 [V0]\ngiven not num(V0)\nsample [w0]\ntree\n pos p(V0) rule 1 [V0]\n  neg q(V0)\n   rule 2\n    void terms\nmap p/1 1 +\nmap q/1 0 +\nend\n",
+            ),
+            2,
+        ),
+        (
+            Told::Block(
+                "answer 1.1 [V0]\ngiven num(V0)\ngiven V0 \\= 3\nsample [2]\ntree\n pos p(V0) rule 1 [V0]\n  neg q(V0)\n   rule 2\n    void terms\nmap p/1 1 +\nmap q/1 0 +\nend\n",
+            ),
+            2,
+        ),
+        (Told::Ended, 3),
+    ],
+};
 
 static RUNS: [Run; 6] = [
     Run {
@@ -22,27 +43,20 @@ end
             (Told::Ended, 1),
         ],
     },
-    Run {
-        text: "p(X) :- not q(X). q(3). ?- p(X).",
-        query: 1,
-        events: &[
-            (
-                Told::Block(
-                    "answer 1.1 [V0]\ngiven not num(V0)\nsample [w0]\ntree\n pos p(V0) rule 1 [V0]\n  neg q(V0)\n   rule 2\n    void terms\nmap p/1 1 +\nmap q/1 0 +\nend\n",
-                ),
-                2,
-            ),
-            (
-                Told::Block(
-                    "answer 1.1 [V0]\ngiven num(V0)\ngiven V0 \\= 3\nsample [2]\ntree\n pos p(V0) rule 1 [V0]\n  neg q(V0)\n   rule 2\n    void terms\nmap p/1 1 +\nmap q/1 0 +\nend\n",
-                ),
-                2,
-            ),
-            (Told::Ended, 3),
-        ],
-    },
+    NUMBER_OR_NOT,
     Run {
         text: "ok(X) :- X #> 3, X #< 5. ?- ok(X).",
+        query: 1,
+        events: &[(
+            Told::Block(
+                "answer 1.1 [V0]\ngiven num(V0)\ngiven -V0+3 #< 0\ngiven V0-5 #< 0\nsample [4]\ntree\n pos ok(V0) rule 1 [V0]\n  test num(V0) terms\n  test -V0+3 #< 0 terms\n  test V0-5 #< 0 terms\nmap ok/1 0 +\nend\n",
+            ),
+            1,
+        )],
+    },
+    // The other spelling of relations.
+    Run {
+        text: "ok(X) :- X .>. 3, X .<. 5. ?- ok(X).",
         query: 1,
         events: &[(
             Told::Block(
@@ -80,48 +94,6 @@ end
             1,
         )],
     },
-    // All numbers of a predicate, each in a case of its own, and what is no number.
-    Run {
-        text: "bad :- v(X), X #> 10. v(3). v(7). ?- not bad.",
-        query: 1,
-        events: &[(
-            Told::Block(
-                "answer 1.1 []
-sample []
-tree
- neg bad
-  rule 1
-   split not num(V0)
-    leaf 1
-     neg v(V0)
-      rule 2
-       void terms
-      rule 3
-       void terms
-    split V0 \\= 3
-     split V0 \\= 7
-      leaf 1
-       neg v(V0)
-        rule 2
-         void terms
-        rule 3
-         void terms
-      leaf 3
-       pos v(7) rule 3 []
-       test num(7) terms
-       test -1 #=< 0 terms
-     leaf 3
-      pos v(3) rule 2 []
-      test num(3) terms
-      test -1 #=< 0 terms
-map bad/0 1 +
-map v/1 0 +
-end
-",
-            ),
-            15,
-        )],
-    },
 ];
 
 #[test]
@@ -130,4 +102,10 @@ fn numbers_are_met(rt: HostRuntime) -> Result<(), Fail> {
         check(&rt, rt.alloc(), run)?;
     }
     Ok(())
+}
+
+/// A budget with some to spare.
+#[test]
+fn calls_are_left(rt: HostRuntime) -> Result<(), Fail> {
+    check_at(&rt, rt.alloc(), &NUMBER_OR_NOT, 100)
 }

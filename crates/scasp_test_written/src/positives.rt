@@ -2,7 +2,7 @@
 use crate::runs::{Run, Told, check};
 use std::test::Fail;
 
-static RUNS: [Run; 7] = [
+static RUNS: [Run; 8] = [
     Run {
         text: "p. ?- p.",
         query: 1,
@@ -20,6 +20,26 @@ end
                 1,
             ),
             (Told::Ended, 1),
+            (Told::Ended, 1),
+        ],
+    },
+    // A directive that is skipped.
+    Run {
+        text: "#show p/0. p. ?- p.",
+        query: 1,
+        events: &[
+            (
+                Told::Block(
+                    "answer 1.1 []
+sample []
+tree
+ pos p rule 1 []
+map p/0 0 +
+end
+",
+                ),
+                1,
+            ),
             (Told::Ended, 1),
         ],
     },

@@ -18,8 +18,7 @@ pub(crate) enum Told {
     Overflow,
 }
 
-/// A program's text, the number of a query, and the events with the calls before each. The budget is the calls before the
-/// last one.
+/// A program's text, the number of a query, and the events with the calls before each.
 pub(crate) struct Run {
     pub text: &'static str,
     pub query: u64,
@@ -56,7 +55,29 @@ fn within(told: Told, calls: u64, budget: u64) -> (Told, u64) {
     }
 }
 
-/// Each event within the budget is the one that is told, with the calls before it.
+/// A program with its table, and the number of the first name of samples in it.
+#[derive(Drop)]
+struct Text {
+    program: Program,
+    names: Names,
+    fresh: u64,
+}
+
+/// The program that the bytes spell. The names of samples are `w0` and `w1`.
+fn text_of(alloc: Global, bytes: &[u8]) -> Result<Text, Fail> {
+    let (program, table) = read_program(alloc, bytes, Names::new(alloc)?)?;
+    let mut names = table;
+    let fresh = names.len();
+    let _first = names.intern("w0")?;
+    let _second = names.intern("w1")?;
+    Ok(Text {
+        program,
+        names,
+        fresh,
+    })
+}
+
+/// Each event of the search is the one that is told, with the calls before it.
 fn check_events(
     rt: &impl Abort,
     alloc: Global,
@@ -75,41 +96,46 @@ fn check_events(
     Ok(())
 }
 
-/// The calls before the last of the events.
-fn last_calls(events: &[(Told, u64)]) -> u64 {
-    match events.last() {
-        Some((_, calls)) => *calls,
-        None => 0,
-    }
-}
-
-/// Checks the events of the run within two budgets: the one that just serves, and one less.
-fn check_budgets(
+/// Checks the events of the query within the budget.
+fn check_within(
     rt: &impl Abort,
     alloc: Global,
-    program: &Program,
-    fresh: u64,
-    names: &Names,
-    run: &Run,
+    text: &Text,
+    query: u64,
+    budget: u64,
+    events: &[(Told, u64)],
 ) -> Result<(), Fail> {
-    let serves = last_calls(run.events);
-    for budget in &[serves, serves.saturating_sub(1)] {
-        if program.query(run.query).is_none() {
-            assert!(rt; false);
-            return Ok(());
-        }
-        let search = Written::open(alloc, program, run.query, *budget, fresh)?;
-        check_events(rt, alloc, names, search, *budget, run.events)?;
+    if text.program.query(query).is_none() {
+        assert!(rt; false);
+        return Ok(());
+    }
+    let search = Written::open(alloc, &text.program, query, budget, text.fresh)?;
+    check_events(rt, alloc, &text.names, search, budget, events)
+}
+
+/// Checks the events of the query: for each of them within the budget that just serves for it, and within one less.
+pub(crate) fn check_text(
+    rt: &impl Abort,
+    alloc: Global,
+    bytes: &[u8],
+    query: u64,
+    events: &[(Told, u64)],
+) -> Result<(), Fail> {
+    let text = text_of(alloc, bytes)?;
+    for (_, calls) in events {
+        check_within(rt, alloc, &text, query, *calls, events)?;
+        check_within(rt, alloc, &text, query, calls.saturating_sub(1), events)?;
     }
     Ok(())
 }
 
-/// Checks the events of the run. The names of samples are `w0` and `w1`.
+/// Checks the events of the run within the same budgets.
 pub(crate) fn check(rt: &impl Abort, alloc: Global, run: &Run) -> Result<(), Fail> {
-    let (program, table) = read_program(alloc, run.text.as_bytes(), Names::new(alloc)?)?;
-    let mut names = table;
-    let fresh = names.len();
-    let _first = names.intern("w0")?;
-    let _second = names.intern("w1")?;
-    check_budgets(rt, alloc, &program, fresh, &names, run)
+    check_text(rt, alloc, run.text.as_bytes(), run.query, run.events)
+}
+
+/// Checks the events of the run within this budget.
+pub(crate) fn check_at(rt: &impl Abort, alloc: Global, run: &Run, budget: u64) -> Result<(), Fail> {
+    let text = text_of(alloc, run.text.as_bytes())?;
+    check_within(rt, alloc, &text, run.query, budget, run.events)
 }

@@ -2,7 +2,7 @@
 use crate::runs::{Run, Told, check};
 use std::test::Fail;
 
-static RUNS: [Run; 9] = [
+static RUNS: [Run; 8] = [
     Run {
         text: "p(X) :- not q(X). q(a). ?- p(X).",
         query: 1,
@@ -15,39 +15,6 @@ static RUNS: [Run; 9] = [
             ),
             (Told::Ended, 3),
         ],
-    },
-    Run {
-        text: "p :- q(X), not r(X). q(a). q(b). r(a). r(b). ?- not p.",
-        query: 1,
-        events: &[(
-            Told::Block(
-                "answer 1.1 []
-sample []
-tree
- neg p
-  rule 1
-   split V0 \\= a
-    split V0 \\= b
-     leaf 1
-      neg q(V0)
-       rule 2
-        void terms
-       rule 3
-        void terms
-     leaf 2
-      pos q(b) rule 3 []
-      pos r(b) rule 5 []
-    leaf 2
-     pos q(a) rule 2 []
-     pos r(a) rule 4 []
-map p/0 1 +
-map q/1 0 +
-map r/1 0 +
-end
-",
-            ),
-            13,
-        )],
     },
     // A listed term has a universal variable below a name.
     Run {

@@ -3,6 +3,7 @@
 
 mod birds;
 mod commands;
+mod limits;
 mod loops;
 mod numbers;
 mod passed;
@@ -11,7 +12,8 @@ mod rows;
 mod terms;
 
 pub use birds::BIRDS;
-pub use commands::{Command, Device, SOUND, printed, prints};
+pub use commands::{Command, Device, ROOMY, SOUND, printed, printed_bytes, prints};
+pub use limits::LIMITS;
 pub use loops::{EVEN_LOOP, FACT, FACT_PRINTED, FACT_PROGRAM, LOOPS, THROUGH_NEGATION};
 pub use numbers::{FORALL_OVER_NUMBERS, LINEAR_DENIAL, NUMBER_OR_NOT, NUMBERS};
 pub use passed::PASSED;
