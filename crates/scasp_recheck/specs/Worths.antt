@@ -9,9 +9,9 @@ use Rattle.scasp_acceptance.specs.Accepted.{Accepts}
 use Rattle.scasp_acceptance.specs.Faults.{faults}
 use Rattle.scasp_acceptance.specs.declared.refusal.Refusal.{Refusal}
 use Rattle.scasp_soundness.specs.Good.{Good, HasClosedDomains}
-use Rattle.scasp_finish.specs.Right.{IsRight}
 use Rattle.scasp_recheck.specs.declared.worth.Worth.{Worth}
 use Rattle.scasp_recheck.specs.declared.worth.Worth.TheVariants.{Right, Joins, Refused}
+use Rattle.scasp_verdict.specs.Right.{IsRight}
 
 -- the first fault, else the first clause that breaks the map
 abbrev pub worth_by : List Refusal → List ℕ → Worth

@@ -1,2 +1,3 @@
 pub mod DefaultOverVariable
+pub mod Right
 pub mod Verdicts

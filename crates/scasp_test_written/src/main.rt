@@ -1,4 +1,5 @@
 //! Tests of the written search over the whole language.
+//! The program itself does nothing.
 #![tactic(auto)]
 
 #[cfg(test)]
@@ -23,3 +24,5 @@ mod terms;
 mod trials;
 #[cfg(test)]
 mod universals;
+
+fn main(_rt: HostRuntime) {}

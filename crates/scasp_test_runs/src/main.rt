@@ -1,4 +1,5 @@
 //! Tests of reads and writes, of the edge to the system, and of whole runs.
+//! The program itself does nothing.
 #![tactic(auto)]
 
 #[cfg(test)]
@@ -11,3 +12,5 @@ mod rows;
 mod samples;
 #[cfg(test)]
 mod system;
+
+fn main(_rt: HostRuntime) {}

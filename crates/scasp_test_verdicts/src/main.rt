@@ -1,4 +1,5 @@
 //! Tests of the checker: worked certificates of small programs, and for each reason ones that are wrong in that one thing.
+//! The program itself does nothing.
 #![tactic(auto)]
 
 #[cfg(test)]
@@ -19,3 +20,5 @@ mod worked;
 mod written;
 #[cfg(test)]
 mod wrong;
+
+fn main(_rt: HostRuntime) {}

@@ -1,4 +1,5 @@
 //! Tests of the command `check`: what is printed by `run` is right, and what is changed in it is told.
+//! The program itself does nothing.
 #![tactic(auto)]
 
 #[cfg(test)]
@@ -11,3 +12,5 @@ mod cuts;
 mod faults;
 #[cfg(test)]
 mod rows;
+
+fn main(_rt: HostRuntime) {}

@@ -1,4 +1,5 @@
 //! Tests with programs and answer files that are long or deep.
+//! The program itself does nothing.
 #![tactic(auto)]
 
 #[cfg(test)]
@@ -15,3 +16,5 @@ mod terms;
 mod texts;
 #[cfg(test)]
 mod trees;
+
+fn main(_rt: HostRuntime) {}
