@@ -10,5 +10,5 @@ mod voids;
 pub use constraints::accept_test;
 pub use counted::common_of;
 pub use dues::{asks_constraint, asks_literal, asks_negated, asks_positive, is_due, is_fact_due};
-pub use literals::{accept_literal, accept_loop, accept_negated, accept_positive, accept_seen};
+pub use literals::{accept_literal, accept_loop, accept_positive, accept_seen};
 pub use voids::accept_void;

@@ -1,7 +1,6 @@
 //! The tests of lines of literals by themselves.
 ghost use Rattle.std.specs.Prelude.{◌≡◌, IfOk};
-ghost use Rattle.scasp_cert.specs.Trees.{covering, loop_tree, neg_tree};
-ghost use Rattle.scasp_cert.specs.View.{covers_of};
+ghost use Rattle.scasp_cert.specs.Trees.{loop_tree};
 ghost use Rattle.scasp_places.specs.View.{place_of};
 ghost use Rattle.scasp_dues.specs.DueView.{due_value};
 ghost use Rattle.scasp_syntax.specs.Programs.{is_rule_of, numbered, pred_of};
@@ -12,11 +11,10 @@ ghost use Rattle.scasp_faults.specs.Judged.{Judges};
 ghost use Rattle.scasp_line_faults.specs.Whole.{whole};
 ghost use Rattle.scasp_node_faults.specs.Nodes.{literal_tests, pos_tests, seen_tests};
 
-use crate::dues::{asks_literal, asks_negated, asks_positive, is_due};
+use crate::dues::{asks_literal, asks_positive, is_due};
 use scasp_acceptance::Reason;
-use scasp_cert::Covers;
 use scasp_dues::Due;
-use scasp_faults::{CheckErr, is_instance, names_its_rules, want};
+use scasp_faults::{CheckErr, is_instance, want};
 use scasp_line_faults::{Common, entry_at, is_entry_of, is_negated_before, knows_atom};
 use scasp_list::Memory;
 use scasp_places::Place;
@@ -104,37 +102,6 @@ pub fn accept_positive(
     )?;
     let applies = applies_rule(alloc, common.program, rule, terms, atom)?;
     want(at, Reason::WrongInstance, applies)
-}
-
-/// Tests a line of a negated literal by itself.
-pub fn accept_negated(
-    alloc: Global,
-    common: &Common,
-    at: u64,
-    here: &Place,
-    due: &Due,
-    atom: &Atom,
-    covers: &Covers,
-) -> Result<(), CheckErr>
-    ensures { Judges result (node_faults (whole common.now) at (place_of here.now) (due_value due.now) (neg_tree atom.now (covering (covers_of covers.now)))) }
-{
-    let terms = Terms::new(alloc);
-    accept_literal(
-        alloc,
-        common,
-        at,
-        here,
-        due,
-        asks_negated(due),
-        false,
-        atom,
-        &terms,
-    )?;
-    want(
-        at,
-        Reason::UncoveredCase,
-        names_its_rules(common.program, &atom.pred(), covers),
-    )
 }
 
 /// Whether the literal above on line `to` is this one, as its atom is replaced here.
