@@ -1,4 +1,3 @@
 pub mod Judging
 pub mod KnownLemmas
-pub mod Counting
 pub mod NameClashLemmas

@@ -13,7 +13,7 @@ use Rattle.scasp_cert.specs.declared.tree.Covers.{Covers}
 use Rattle.scasp_cert.specs.declared.tree.Node.{Node}
 use Rattle.scasp_cert.specs.declared.tree.Node.TheVariants as node
 use Rattle.scasp_cert.specs.declared.tree.Nodes.{Nodes}
-use Rattle.scasp_faults.proofs.Counting.{count-listed}
+use Rattle.scasp_lines.proofs.CountLemmas.{count-listed}
 use Rattle.scasp_lines.specs.Below.{rule_numbers}
 use Rattle.scasp_list.specs.declared.memory.Memory.{Memory}
 use Rattle.scasp_syntax.specs.Tm.{Tms}

@@ -2,7 +2,7 @@
 use Rattle.std.proofs.Common.{◌≡◌, ◌∙◌, ℕ, zero, suc, ◌-◌, ◌<◌, Bool, true, false, ◌&&◌, List, [], ◌∷◌, ◌++◌, length, drop, reverse, refl, ap, arith}
 use Rattle.std.proofs.lemmas.List.{length-map, reverse-append}
 use Rattle.scasp_cert.specs.Trees.{Branch, covering}
-use Rattle.scasp_faults.proofs.Counting.{numbers-covering}
+use Rattle.scasp_lines.proofs.CountLemmas.{numbers-covering}
 use Rattle.scasp_lines.specs.Below.{rule_numbers}
 use Rattle.scasp_shown.specs.Inside.Ends.{gathered}
 use Rattle.scasp_shown.specs.declared.ends.Ended.{Ended}

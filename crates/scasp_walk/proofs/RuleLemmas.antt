@@ -4,17 +4,16 @@ use Rattle.std.proofs.lemmas.Bool.{cond-true, cond-false}
 use Rattle.std.proofs.lemmas.Bool.Decides.{nat_tests}
 use Rattle.scasp_acceptance.specs.LineFaults.{same_numbers}
 use Rattle.scasp_cert.specs.Trees.{Branch, covering}
-use Rattle.scasp_faults.specs.Named.{named}
-use Rattle.scasp_faults.proofs.Counting.{numbers-covering}
 use Rattle.scasp_graph.proofs.PlaceLemmas.{eq-is}
 use Rattle.scasp_graph.proofs.PredLemmas.{pred_is, same_pred-sym}
+use Rattle.scasp_lines.proofs.CountLemmas.{numbers-covering}
 use Rattle.scasp_lines.specs.Below.{rule_numbers}
 use Rattle.scasp_places.specs.Chains.{chained}
 use Rattle.scasp_places.specs.declared.chain.Chain.{Chain}
 use Rattle.scasp_syntax.specs.Same.{same_pred}
 use Rattle.scasp_syntax.specs.contracts.atom.PredPartialEq.TheImpl.{eq-value}
 use Rattle.scasp_syntax.specs.declared.atom.Pred.{Pred}
-use Rattle.scasp_walk.specs.Rules.{numbers_in}
+use Rattle.scasp_walk.specs.Rules.{named, numbers_in}
 
 -- the number that is put in front, where it stood behind those of its predicate
 pub put-first : (f g : Pred → Option (Chain ℕ)) (key pred : Pred) (n : ℕ) (longer : Chain ℕ) → key ≡ pred

@@ -1,12 +1,16 @@
--- The rules of a program by their predicates.
+-- The rules of a program by their predicates, and the rules that covers name.
 use Rattle.std.specs.HashMap.{HashMap, get}
-use Rattle.std.specs.Prelude.{◌≡◌, ℕ, List, [], Option, None, Some}
+use Rattle.std.specs.Prelude.{◌≡◌, ℕ, List, [], map, Option, None, Some}
+use Rattle.scasp_cert.specs.Trees.{Branch}
 use Rattle.scasp_places.specs.Chains.{chained}
 use Rattle.scasp_places.specs.declared.chain.Chain.{Chain}
 use Rattle.scasp_syntax.specs.Programs.{rules_from}
 use Rattle.scasp_syntax.specs.contracts.atom.PredPartialEq.TheImpl.{eq-value}
 use Rattle.scasp_syntax.specs.declared.atom.Pred.{Pred}
 use Rattle.scasp_syntax.specs.declared.clause.Clause.{Clause}
+
+abbrev pub named : List (ℕ × Branch) → List ℕ
+named cs = map (λ c. c.0) cs
 
 abbrev pub numbers_in : Option (Chain ℕ) → List ℕ
 numbers_in None = []

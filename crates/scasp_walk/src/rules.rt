@@ -3,13 +3,12 @@ ghost use Rattle.std.specs.Prelude.{◌≡◌, ℕ, false, ◌∷◌, List, IfOk
 ghost use Rattle.scasp_acceptance.specs.LineFaults.{same_numbers};
 ghost use Rattle.scasp_cert.specs.Trees.{covering};
 ghost use Rattle.scasp_cert.specs.View.{cover_of, covers_of};
-ghost use Rattle.scasp_faults.specs.Named.{named};
 ghost use Rattle.scasp_lines.specs.Below.{rule_numbers};
 ghost use Rattle.scasp_places.specs.Chains.{chained};
 ghost use Rattle.scasp_syntax.specs.Programs.{is_rule_of, pred_of};
 ghost use Rattle.scasp_syntax.specs.Same.{same_pred};
 ghost use Rattle.scasp_syntax.specs.declared.atom.Pred.{Pred as ThisPred};
-ghost use Rattle.scasp_walk.specs.Rules.{HasRules, rules_at};
+ghost use Rattle.scasp_walk.specs.Rules.{HasRules, named, rules_at};
 
 use scasp_cert::{Cover, Covers};
 use scasp_list::Memory;

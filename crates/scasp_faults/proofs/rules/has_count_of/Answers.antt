@@ -1,6 +1,6 @@
 use Rattle.std.proofs.Common.{nat_eq, sym, ap, ◌∙◌}
 use Rattle.scasp_cert.specs.View.{trees_of}
-use Rattle.scasp_faults.proofs.Counting.{count-listed}
+use Rattle.scasp_lines.proofs.CountLemmas.{count-listed}
 use Rattle.scasp_faults.proofs.rules.has_count_of.Goals as goal
 
 pub returns : goal.returns

@@ -1,7 +1,7 @@
 use Rattle.std.proofs.Common.{◌∙◌, ap, sym}
 use Rattle.scasp_cert.proofs.ViewLemmas.{head-is, leaf-is}
 use Rattle.scasp_cert.specs.View.{branch_of, trees_of}
-use Rattle.scasp_faults.proofs.Counting.{count-listed}
+use Rattle.scasp_lines.proofs.CountLemmas.{count-listed}
 use Rattle.scasp_shown.specs.Inside.Ends.{parts_of_case}
 use Rattle.scasp_shown.proofs.ends.parts_of_case.Goals as goal
 

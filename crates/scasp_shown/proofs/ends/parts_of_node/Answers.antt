@@ -1,7 +1,7 @@
 use Rattle.std.proofs.Common.{◌∙◌, ap, sym}
 use Rattle.scasp_cert.proofs.ViewLemmas.{neg-is, pos-is}
 use Rattle.scasp_cert.specs.View.{covers_of, tree_of, trees_of}
-use Rattle.scasp_faults.proofs.Counting.{count-listed}
+use Rattle.scasp_lines.proofs.CountLemmas.{count-listed}
 use Rattle.scasp_shown.specs.Inside.Ends.{parts_of_node}
 use Rattle.scasp_shown.proofs.GatherLemmas.{covering-counted}
 use Rattle.scasp_shown.proofs.ends.parts_of_node.Goals as goal
