@@ -22,7 +22,7 @@ pub enum Worth {
     Refused(Refusal),
 }
 
-/// What a certificate is worth. The recursion is as deep as the certificate.
+/// What a certificate is worth. Only `see_rows` and freeing go down it by calls.
 ///
 /// # Errors
 ///

@@ -1,5 +1,5 @@
-pub mod Analysed
 -- Words for contracts of private functions.
+pub mod Analysed
 pub mod Goals
 pub mod Heights
 pub mod Reached

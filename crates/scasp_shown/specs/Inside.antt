@@ -1,1 +1,2 @@
+-- What private functions alone speak of.
 pub mod Ends

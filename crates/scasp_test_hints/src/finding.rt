@@ -24,7 +24,7 @@ struct Case {
     wanted: Wanted,
 }
 
-static CASES: [Case; 34] = [
+static CASES: [Case; 36] = [
     // Without constraints there is a valuation.
     Case {
         list: &[],
@@ -133,6 +133,27 @@ static CASES: [Case; 34] = [
             Compared(&[(0, 2)], -3, Le),
         ],
         wanted: Wanted::ByTerms,
+    },
+    // num(V0), -2*V0+3 < 0, 2*V0-3 < 0, V1 < 0, where V1 may be a name: its row shows nothing, and the others still do.
+    Case {
+        list: &[
+            Number(0),
+            Compared(&[(0, -2)], 3, Lt),
+            Compared(&[(0, 2)], -3, Lt),
+            Compared(&[(1, 1)], 0, Lt),
+        ],
+        wanted: Wanted::ByRows(1),
+    },
+    // num(V0), V0 =< 0, -V0 =< 0, V0 =\= 0, V1 < 0: the same with a disequation.
+    Case {
+        list: &[
+            Number(0),
+            Compared(&[(0, 1)], 0, Le),
+            Compared(&[(0, -1)], 0, Le),
+            Compared(&[(0, 1)], 0, Ne),
+            Compared(&[(1, 1)], 0, Lt),
+        ],
+        wanted: Wanted::BySame(1, 2),
     },
     // num(V0), V0 = 0, V0 =\= 0: a disequation that is the negation of a row.
     Case {

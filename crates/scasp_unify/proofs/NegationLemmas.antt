@@ -198,3 +198,7 @@ entailed cs c k b d = (to, from)
         by : (a : Bool) → holds v.of c ≡ a → IsTrue (holds v.of c)
         by true e = e
         by false e = absurd (none (with-negation cs c k v b d m e))
+
+-- what is entailed holds of each valuation anyway
+pub adds-nothing : (cs : List Con) (c : Con) → Entails cs c → (v : Valuation) → Meets v.of (cs ++ c ∷ []) ↔ Meets v.of cs
+adds-nothing cs c h v = ((λ m. (all-append (holds v.of) cs c m).0), (λ m. append-all (holds v.of) cs c m (h v m)))

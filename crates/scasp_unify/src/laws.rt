@@ -8,7 +8,7 @@ ghost use Rattle.scasp_num.specs.Values.{Holds};
 ghost use Rattle.scasp_syntax.specs.Constraints.{Entails, Meets, Sat, holds};
 ghost use Rattle.scasp_syntax.specs.RowTruth.{row_holds};
 ghost use Rattle.scasp_syntax.specs.Tm.{Tm};
-ghost use Rattle.scasp_syntax.specs.Values.{Sub, under};
+ghost use Rattle.scasp_syntax.specs.Values.{Sub, Valuation, under};
 ghost use Rattle.scasp_syntax.specs.View.{tm_of};
 ghost use Rattle.scasp_syntax.specs.declared.con.Con.{Con as ThisCon};
 ghost use Rattle.scasp_syntax.specs.declared.con.Con.TheVariants as con;
@@ -60,6 +60,11 @@ pub fn rows_are_read()
 pub fn lists_are_decided()
     ensures met { (cs : List ThisCon) (p : ℕ → Number) → Sorted cs → fails_by_terms cs ≡ false → Each (PointMeets cs p) cs → Sat cs }
     ensures point { (cs : List ThisCon) (v : Sub) → Meets v cs → (fails_by_terms cs ≡ false) × Each (PointMeets cs (point v)) cs }
+{}
+
+/// A constraint that a list entails adds nothing to it: the same valuations meet the list with it.
+pub fn entailed_constraints_add_nothing()
+    ensures { (cs : List ThisCon) (c : ThisCon) → Entails cs c → (v : Valuation) → Meets v.of (cs ++ c ∷ []) ↔ Meets v.of cs }
 {}
 
 /// A list entails a constraint exactly where it has no valuation with the negation, whose new variables start above
