@@ -1,0 +1,5 @@
+pub mod Styles
+pub mod Fitting
+pub mod Counting
+pub mod Reading
+pub mod Examples

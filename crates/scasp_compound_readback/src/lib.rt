@@ -1,0 +1,4 @@
+//! Terms of all forms that are written are read back: laws that join their texts with the grammar of terms.
+#![tactic(auto)]
+
+pub mod laws;
