@@ -30,7 +30,7 @@ use Rattle.scasp_compound_readback.proofs.TermTokens.{CallFits, call-parts, IsPa
 use Rattle.scasp_compound_readback.proofs.Steps.{term-front, paren-step, bracket-step, behind_one, series-step, behind-last, argument-step, element, behind_elements, elements_from, goes_on, elements-step, goes-to_end, goes-to_bar, compound-step}
 use Rattle.scasp_compound_readback.proofs.Leaves.{number-reads, variable-reads, name-reads, constant-reads}
 
-bind-parts : {A B : Type 0} (o : Option A) (f : A → Option B) (y : B) → (o >>= f) ≡ Some y → (x : A) × (o ≡ Some x) × (f x ≡ Some y)
+pub bind-parts : {A B : Type 0} (o : Option A) (f : A → Option B) (y : B) → (o >>= f) ≡ Some y → (x : A) × (o ≡ Some x) × (f x ≡ Some y)
 bind-parts None f y e = absurd cc
 bind-parts (Some x) f y e = (x, refl, e)
 

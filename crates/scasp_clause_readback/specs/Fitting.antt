@@ -1,0 +1,28 @@
+-- Which atoms and items have a text within the limits of a reader.
+use Rattle.std.specs.Prelude.{ℕ, ◌-◌, Bool, true, false, not, ◌&&◌, nat_lt, length}
+use Rattle.scasp_syntax.specs.Tm.{Tms, nil, cons, items}
+use Rattle.scasp_syntax.specs.View.{tm_of}
+use Rattle.scasp_syntax.specs.declared.atom.Atom.{Atom}
+use Rattle.scasp_syntax.specs.declared.clause.Item.{Item}
+use Rattle.scasp_syntax.specs.declared.clause.Item.TheVariants as form
+use Rattle.scasp_cert.specs.Text.Names.{text_at}
+use Rattle.scasp_body.specs.declared.atoms.TheConstants.{DEPTH_LIMIT}
+use Rattle.scasp_body.specs.Atoms.{reserved, is_reserved}
+use Rattle.scasp_listing.specs.Terms.{Style}
+use Rattle.scasp_compound_readback.specs.Fitting.{fits, all_fit, call_fits}
+
+abbrev pub arguments_fit : Style → Tms → Bool
+arguments_fit w nil = true
+arguments_fit w (cons t ts) = call_fits DEPTH_LIMIT (cons t ts) (all_fit w (DEPTH_LIMIT - 1) (cons t ts))
+
+-- its arguments are within the limits, and its predicate is none of Prolog that the language lacks
+abbrev pub atom_fits : Style → Atom → Bool
+atom_fits w a =
+    nat_lt a.name (length w.names) && not (is_reserved reserved (text_at w.names a.name) (length (items a.args))) && arguments_fit w a.args
+
+-- a literal or an equation; linear items are left out
+abbrev pub item_fits : Style → Item → Bool
+item_fits w (form.Call l) = atom_fits w l.atom
+item_fits w (form.Equal t s) = fits w DEPTH_LIMIT (tm_of t) && fits w DEPTH_LIMIT (tm_of s)
+item_fits w (form.Differ t s) = fits w DEPTH_LIMIT (tm_of t) && fits w DEPTH_LIMIT (tm_of s)
+item_fits w (form.Linear l) = false
