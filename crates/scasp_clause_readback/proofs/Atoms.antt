@@ -1,5 +1,5 @@
 -- Atoms and literals are read back.
-use Rattle.std.proofs.Common.{◌≡◌, ℕ, ◌+◌, ◌<◌, Bool, true, false, not, ◌&&◌, nat_lt, List, [], ◌∷◌, ◌++◌, length, codes, Option, None, Some, Result, Ok, Err, refl, sym, ap, ◌∙◌, arith, append_assoc, length-append}
+use Rattle.std.proofs.Common.{◌≡◌, ℕ, ◌+◌, ◌<◌, Bool, true, false, not, ◌&&◌, nat_lt, List, [], ◌∷◌, ◌++◌, length, codes, Option, None, Some, Result, Ok, Err, refl, sym, ap, subst, ◌∙◌, arith, append_assoc, length-append}
 use Rattle.std.specs.Prelude.{if◌then◌else◌, is_some}
 use Rattle.std.proofs.lemmas.Bool.{and_parts, false≢true}
 use Rattle.scasp_name.specs.Texts.{with_text}
@@ -11,6 +11,7 @@ use Rattle.scasp_syntax.specs.declared.clause.Item.TheVariants as form
 use Rattle.scasp_syntax.proofs.TermLemmas.{listed-items}
 use Rattle.scasp_lexis.specs.declared.sign.Sign.TheVariants as sign
 use Rattle.scasp_lexis.specs.declared.token.Placed.{Placed}
+use Rattle.scasp_lexis.specs.declared.token.Token.{Token}
 use Rattle.scasp_lexis.specs.declared.token.Token.TheVariants as token
 use Rattle.scasp_lexis.specs.Tokens.{placed, tokens_behind}
 use Rattle.scasp_cert.specs.Text.Names.{text_at, name_text}
@@ -165,6 +166,16 @@ module _ (w : Style) (style : IsStyle w) (a : Atom) (n m : ℕ) (g : atom_fits w
           ≡ Ok (atom_of minus a.name a.args, behind_term (had w m s) (at + length (minus_text minus ++ named_text w a.name a.args)) rest)
       by true = minus-reads s rest at end
       by false = plain-reads s rest at end
+
+  -- an atom begins with a name or with `-`
+  pub atom-front : (P : Option Token → Type 0) → ((text : List ℕ) → P (Some (token.Name text))) → P (Some (token.Sign sign.Minus)) → (rest : List ℕ) (at : ℕ) → EndsTerm rest
+      → P (token_of (tokens_behind 0 at (atom_text w a ++ rest)))
+  unfolding atom_text
+  atom-front P f g rest at end = by a.minus
+    where
+      by : (minus : Bool) → P (token_of (tokens_behind 0 at ((minus_text minus ++ named_text w a.name a.args) ++ rest)))
+      by true = subst (λ ts. P (token_of ts)) (sym (minus-tokens rest at end)) g
+      by false = subst (λ ts. P (token_of ts)) (sym (named-tokens w a.name a.args rest at style fit.named end.1.0)) (f text)
 
   -- ---- literals
 

@@ -36,12 +36,12 @@ use Rattle.scasp_clause_readback.specs.Counting.{count_both}
 use Rattle.scasp_clause_readback.proofs.Names.{arguments_text, named_text, named-length, named-tokens, arguments-reads}
 
 -- what stands between the two sides: a sign, with a blank before and behind it
-record Between (text : List ℕ) (t : Sign) (are_equal : Bool) : Type 0 where
+pub record Between (text : List ℕ) (t : Sign) (are_equal : Bool) : Type 0 where
   pub is : equation_sign_of t ≡ Some are_equal
   pub ends : (rest : List ℕ) → EndsTerm (text ++ rest)
   pub reads : (rest : List ℕ) (at : ℕ) → tokens_behind 0 at (text ++ rest) ≡ placed (at + 1) (token.Sign t) ∷ tokens_behind 0 (at + length text) rest
 
-equal : Between (codes " = ") sign.Equal true
+pub equal : Between (codes " = ") sign.Equal true
 equal = record {
   is = refl;
   ends = equal_ends;
@@ -52,7 +52,7 @@ equal = record {
       ∙ ap (λ ts. placed (at + 1) (token.Sign sign.Equal) ∷ ts) (blank_read rest (at + 1 + 1) ∙ ap (λ a. tokens_behind 0 a rest) place);
 }
 
-differ : Between (codes " \\= ") sign.Differ false
+pub differ : Between (codes " \\= ") sign.Differ false
 differ = record {
   is = refl;
   ends = differ_ends;

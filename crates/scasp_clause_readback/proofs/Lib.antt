@@ -2,3 +2,10 @@ pub mod Names
 pub mod Atoms
 pub mod Equations
 pub mod Items
+pub mod ItemTokens
+pub mod Bodies
+pub mod RuleVariables
+pub mod Clauses
+pub mod Queries
+pub mod PartTokens
+pub mod Texts

@@ -1,5 +1,7 @@
 -- Which atoms and items have a text within the limits of a reader.
-use Rattle.std.specs.Prelude.{ℕ, ◌-◌, Bool, true, false, not, ◌&&◌, nat_lt, length}
+use Rattle.std.specs.Prelude.{ℕ, ◌-◌, Bool, true, false, not, ◌&&◌, nat_lt, nat_le, List, [], ◌∷◌, length}
+use Rattle.std.specs.List.{list_all}
+use Rattle.scasp_syntax.specs.Flat.{flat_body}
 use Rattle.scasp_syntax.specs.Tm.{Tms, nil, cons, items}
 use Rattle.scasp_syntax.specs.View.{tm_of}
 use Rattle.scasp_syntax.specs.declared.atom.Atom.{Atom}
@@ -7,6 +9,7 @@ use Rattle.scasp_syntax.specs.declared.clause.Item.{Item}
 use Rattle.scasp_syntax.specs.declared.clause.Item.TheVariants as form
 use Rattle.scasp_cert.specs.Text.Names.{text_at}
 use Rattle.scasp_body.specs.declared.atoms.TheConstants.{DEPTH_LIMIT}
+use Rattle.scasp_body.specs.declared.bodies.TheConstants.{ITEM_LIMIT}
 use Rattle.scasp_body.specs.Atoms.{reserved, is_reserved}
 use Rattle.scasp_listing.specs.Terms.{Style}
 use Rattle.scasp_compound_readback.specs.Fitting.{fits, all_fit, call_fits}
@@ -26,3 +29,8 @@ item_fits w (form.Call l) = atom_fits w l.atom
 item_fits w (form.Equal t s) = fits w DEPTH_LIMIT (tm_of t) && fits w DEPTH_LIMIT (tm_of s)
 item_fits w (form.Differ t s) = fits w DEPTH_LIMIT (tm_of t) && fits w DEPTH_LIMIT (tm_of s)
 item_fits w (form.Linear l) = false
+
+-- at least one item, each within the limits, and all together of so many flat items
+abbrev pub body_fits : Style → List Item → Bool
+body_fits w [] = false
+body_fits w (i ∷ items) = list_all (item_fits w) (i ∷ items) && nat_le (length (flat_body (i ∷ items))) ITEM_LIMIT

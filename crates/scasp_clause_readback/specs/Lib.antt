@@ -1,3 +1,5 @@
 pub mod Fitting
 pub mod Counting
 pub mod Reading
+pub mod Parts
+pub mod Texts

@@ -1,18 +1,53 @@
 //! What is written of a clause is read back.
-ghost use Rattle.std.specs.Prelude.{◌≡◌, ℕ, true, List, Some};
+ghost use Rattle.std.specs.Prelude.{◌≡◌, ℕ, true, List, ◌++◌, map, flat_map, length, ◌≤◌, codes, Some, Ok};
+ghost use Rattle.scasp_syntax.specs.declared.clause.Clause.{Clause};
 ghost use Rattle.scasp_syntax.specs.declared.clause.Item.{Item};
+ghost use Rattle.scasp_syntax.specs.declared.clause.Query.{Query};
 ghost use Rattle.scasp_phrase.specs.Steps.{State};
 ghost use Rattle.scasp_body.specs.Items.{item};
+ghost use Rattle.scasp_body.specs.Bodies.{body};
+ghost use Rattle.scasp_text.specs.declared.clauses.Part.TheVariants as part;
+ghost use Rattle.scasp_text.specs.declared.texts.TheConstants.{BYTE_LIMIT};
+ghost use Rattle.scasp_text.specs.Clauses.{clause};
+ghost use Rattle.scasp_text.specs.Texts.{read};
 ghost use Rattle.scasp_listing.specs.Terms.{Style};
-ghost use Rattle.scasp_listing.specs.Items.{item_text};
-ghost use Rattle.scasp_compound_readback.specs.Styles.{IsStyle};
+ghost use Rattle.scasp_listing.specs.Items.{item_text, items_text};
+ghost use Rattle.scasp_listing.specs.Programs.{rule_variables, query_variable, clause_text, query_text};
+ghost use Rattle.scasp_compound_readback.specs.Styles.{IsTable, IsStyle};
 ghost use Rattle.scasp_compound_readback.specs.Reading.{Reads};
-ghost use Rattle.scasp_clause_readback.specs.Fitting.{item_fits};
-ghost use Rattle.scasp_clause_readback.specs.Counting.{count_item};
+ghost use Rattle.scasp_clause_readback.specs.Fitting.{item_fits, body_fits};
+ghost use Rattle.scasp_clause_readback.specs.Counting.{count_item, count_body};
 ghost use Rattle.scasp_clause_readback.specs.Reading.{EndsItem};
+ghost use Rattle.scasp_clause_readback.specs.Parts.{clause_fits, query_fits, ReadsPart};
+ghost use Rattle.scasp_clause_readback.specs.Texts.{text_fits, reading};
 
 /// The text of an item is read as this item: a literal, an equation or a disequation.
 pub fn items_are_read_back()
     ensures { (w : Style) (i : Item) (n m : ℕ) (s : State) (rest : List ℕ) → IsStyle w → item_fits w i ≡ true → count_item w n i ≡ Some m → EndsItem rest
         → Reads w n m item (item_text w i) i s rest }
+{}
+
+/// A body is read back, before the stop at its line's end.
+pub fn bodies_are_read_back()
+    ensures { (w : Style) (items : List Item) (n m : ℕ) (s : State) (rest : List ℕ) → IsStyle w → body_fits w items ≡ true → count_body w n items ≡ Some m
+        → Reads w n m body (items_text w true items) items s (codes ".\n" ++ rest) }
+{}
+
+/// The text of a clause, with the end of its line, is read as this clause: a fact, a rule or a denial.
+pub fn clauses_are_read_back()
+    ensures { (names : List (List ℕ)) (c : Clause) (s : State) (rest : List ℕ) → IsTable names → clause_fits names c ≡ true
+        → ReadsPart names clause (clause_text names c) (part.Clause c) (rule_variables 0 c.vars) s rest }
+{}
+
+/// The text of a query, with the end of its line, is read as this query, with the names of its variables.
+pub fn queries_are_read_back()
+    ensures { (names : List (List ℕ)) (q : Query) (s : State) (rest : List ℕ) → IsTable names → query_fits names q ≡ true
+        → ReadsPart names clause (query_text names q) (part.Query q) (map (query_variable names) q.names) s rest }
+{}
+
+/// The text of clauses and queries is read as these, where it is within the limit of bytes.
+pub fn texts_are_read_back()
+    ensures { (names : List (List ℕ)) (clauses : List Clause) (queries : List Query) → IsTable names → text_fits names clauses queries ≡ true
+        → length (flat_map (clause_text names) clauses ++ flat_map (query_text names) queries) ≤ BYTE_LIMIT
+        → read names (flat_map (clause_text names) clauses ++ flat_map (query_text names) queries) ≡ Ok (reading clauses queries names) }
 {}

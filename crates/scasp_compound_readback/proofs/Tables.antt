@@ -27,17 +27,17 @@ at-place texts i h =
 
 module _ (w : Style) (style : IsStyle w) (f : ℕ) (h : nat_lt f (length w.names) ≡ true) where
   pub name-utf8 : IsUtf8 (text_at w.names f)
-  name-utf8 = Each-at IsUtf8 w.names f (text_at w.names f) style.utf8 (sym (at-place w.names f h))
+  name-utf8 = Each-at IsUtf8 w.names f (text_at w.names f) style.table.utf8 (sym (at-place w.names f h))
 
   pub name-place : place_in w.names (text_at w.names f) ≡ f
-  name-place = sym (place_in-at w.names (text_at w.names f) f style.distinct (at-place w.names f h))
+  name-place = sym (place_in-at w.names (text_at w.names f) f style.table.distinct (at-place w.names f h))
 
   pub name-there : with_text w.names (text_at w.names f) ≡ w.names
   name-there = sym (with_text-at w.names (text_at w.names f) f (at-place w.names f h))
 
 -- the name of the empty list needs quotes
 pub list-name : (w : Style) → IsStyle w → name_text w.names 0 ≡ codes "'[]'"
-list-name w style = ap (λ o. quoted_text (unwrap_or o [])) style.lists.nil
+list-name w style = ap (λ o. quoted_text (unwrap_or o [])) style.table.lists.nil
 
 -- ---- variables
 

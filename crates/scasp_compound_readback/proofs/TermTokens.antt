@@ -209,3 +209,7 @@ module _ (w : Style) (style : IsStyle w) where
         let p = and_parts (tail_fits w room t) (tails_fit w room ts) h in
         let behind = pair_text w room false ts in
         has-append 0 0 (tail_text w room t) behind rest (tail-has t room p.0 (behind ++ rest) (second-ends w room ts rest end)) (second-has ts room p.1 rest end)
+
+  -- a name with arguments
+  pub called-has : (f : ℕ) (t : Tm) (ts : Tms) (room : ℕ) → CallFits w room f t ts → (rest : List ℕ) → Has 1 (called_text w.names f (cons t ts) (terms_text w (room - 1) true (cons t ts))) rest
+  called-has f t ts = called f t ts (term-has t) (rest-has ts) (second-has ts)

@@ -44,7 +44,7 @@ has-fewer j k text rest le h at = omega (arith, h at)
 pub has-none : (rest : List ℕ) → Has 0 [] rest
 has-none rest at = let e : at + 0 ≡ at = omega arith in subst (λ a. 0 + length (tokens_behind 0 a rest) ≤ length (tokens_behind 0 at rest)) (sym e) (omega arith)
 
-has-token : (p : ℕ → Placed) (text rest : List ℕ) → ((at : ℕ) → tokens_behind 0 at (text ++ rest) ≡ p at ∷ tokens_behind 0 (at + length text) rest) → Has 1 text rest
+pub has-token : (p : ℕ → Placed) (text rest : List ℕ) → ((at : ℕ) → tokens_behind 0 at (text ++ rest) ≡ p at ∷ tokens_behind 0 (at + length text) rest) → Has 1 text rest
 has-token p text rest e at = rw (e at) (omega arith)
 
 pub sign-has : (text : List ℕ) (s : Sign) → Reads text s → (rest : List ℕ) → Has 1 text rest

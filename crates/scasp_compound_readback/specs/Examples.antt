@@ -21,9 +21,11 @@ style = record {
 is_style : IsStyle style
 unfolding is_utf8 chars encode_utf8
 is_style = record {
-  utf8 = (IsUtf8-from_is_utf8 (codes "[]") refl, (IsUtf8-from_is_utf8 (codes "[|]") refl, (IsUtf8-from_is_utf8 (codes "f") refl, (IsUtf8-from_is_utf8 (codes "it's") refl, tt))));
-  distinct = (refl, (refl, (refl, (refl, tt))));
-  lists = record { nil = refl; pair = refl };
+  table = record {
+    utf8 = (IsUtf8-from_is_utf8 (codes "[]") refl, (IsUtf8-from_is_utf8 (codes "[|]") refl, (IsUtf8-from_is_utf8 (codes "f") refl, (IsUtf8-from_is_utf8 (codes "it's") refl, tt))));
+    distinct = (refl, (refl, (refl, (refl, tt))));
+    lists = record { nil = refl; pair = refl };
+  };
   variables = refl;
 }
 

@@ -15,9 +15,13 @@ abbrev pub are_variables : List (List ℕ) → Bool
 are_variables [] = true
 are_variables (text ∷ texts) = is_variable_text text && (is_anonymous text || not (has_text texts text)) && are_variables texts
 
--- The names are UTF-8, none stands twice, and those of lists stand first; the variables have texts of their own.
+-- The names are UTF-8, none stands twice, and those of lists stand first.
+pub record IsTable (names : List (List ℕ)) : Type 0 where
+  pub utf8 : Each IsUtf8 names
+  pub distinct : AreDistinct names
+  pub lists : BeginWithLists names
+
+-- such a table, and variables with texts of their own
 pub record IsStyle (w : Style) : Type 0 where
-  pub utf8 : Each IsUtf8 w.names
-  pub distinct : AreDistinct w.names
-  pub lists : BeginWithLists w.names
+  pub table : IsTable w.names
   pub variables : IsTrue (are_variables w.variables)
