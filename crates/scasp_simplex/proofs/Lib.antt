@@ -1,0 +1,4 @@
+pub mod ChainLemmas
+pub mod DoubledLemmas
+pub mod PointLemmas
+pub mod VerdictLemmas

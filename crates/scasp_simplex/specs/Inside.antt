@@ -1,0 +1,4 @@
+-- What inner calls say.
+pub mod Certified
+pub mod Chains
+pub mod Numerators
