@@ -58,12 +58,6 @@ twice p q d (Some v) =
 pub lowers_none : (vs : List Variable) (d : ℕ) → Lowers vs vs (λ y. false) d
 lowers_none vs d = λ y. sym (not_lowered d (slice_get vs y))
 
-pub lowers_then : (vs ws zs : List Variable) (p q : ℕ → Bool) (d : ℕ) → Lowers vs ws p d → Lowers ws zs q d → Lowers vs zs (λ y. p y || q y) d
-lowers_then vs ws zs p q d f g = λ y. g y ∙ ap (lowered (q y) d) (f y) ∙ twice (p y) (q y) d (slice_get vs y)
-
-pub lowers_as : (vs ws : List Variable) (p q : ℕ → Bool) (d : ℕ) → ((y : ℕ) → p y ≡ q y) → Lowers vs ws p d → Lowers vs ws q d
-lowers_as vs ws p q d h f = λ y. f y ∙ ap (λ b. lowered b d (slice_get vs y)) (h y)
-
 -- one variable, which is an existential
 pub lowers_one : (vs : List Variable) (x d : ℕ) (v : Variable) → slice_get vs x ≡ Some v → is_existential v.sort ≡ true → Lowers vs (updated x (lowest d) vs) (λ y. nat_eq y x) d
 lowers_one vs x d v e f = λ y. by y (nat_eq y x) refl
@@ -88,25 +82,6 @@ lowers_universal vs x d v e f = λ y. by y (nat_eq y x) refl
     by : (y : ℕ) (q : Bool) → nat_eq y x ≡ q → slice_get vs y ≡ lowered q d (slice_get vs y)
     by y true p = subst (λ z. slice_get vs z ≡ lowered true d (slice_get vs z)) (sym (eqb-true y x p)) here
     by y false p = sym (not_lowered d (slice_get vs y))
-
--- ---- lists of terms
-
-pub occurs_last : (y : ℕ) (ts : List Term) (t : Term) → occurs_among y (tms_of (ts ++ t ∷ [])) ≡ (occurs_among y (tms_of ts) || occurs y (tm_of t))
-occurs_last y [] t = or-false (occurs y (tm_of t))
-  where
-    or-false : (b : Bool) → (b || false) ≡ b
-    or-false true = refl
-    or-false false = refl
-occurs_last y (u ∷ us) t = ap (λ b. occurs y (tm_of u) || b) (occurs_last y us t) ∙ sym (or-assoc (occurs y (tm_of u)) (occurs_among y (tms_of us)) (occurs y (tm_of t)))
-  where
-    or-assoc : (a b c : Bool) → ((a || b) || c) ≡ (a || (b || c))
-    or-assoc true b c = refl
-    or-assoc false b c = refl
-
-pub below_at : (n : ℕ) (ts : List Term) (i : ℕ) (d : Term) → i < length ts → are_below n (tms_of ts) ≡ true → is_below n (tm_of (get_or ts i d)) ≡ true
-below_at n [] i d h e = absurd (omega (arith, h))
-below_at n (t ∷ ts) zero d h e = (and_parts (is_below n (tm_of t)) (are_below n (tms_of ts)) e).0
-below_at n (t ∷ ts) (suc i) d h e = below_at n ts i d (omega (arith, h)) (and_parts (is_below n (tm_of t)) (are_below n (tms_of ts)) e).1
 
 -- ---- changes of depths
 

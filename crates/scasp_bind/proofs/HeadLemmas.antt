@@ -1,5 +1,5 @@
 -- Terms written down head by head, and built again.
-use Rattle.std.proofs.Common.{◌≡◌, ℕ, suc, ◌+◌, ◌<◌, ◌≤◌, true, ◌&&◌, List, [], ◌∷◌, ◌++◌, length, map, take, drop, get_or, reverse, refl, sym, ap, ◌∙◌, arith}
+use Rattle.std.proofs.Common.{◌≡◌, ℕ, suc, ◌+◌, ◌<◌, ◌≤◌, true, ◌&&◌, None, List, [], ◌∷◌, ◌++◌, length, map, take, drop, get_or, reverse, refl, sym, ap, ◌∙◌, arith}
 use Rattle.std.specs.Borrow.{Bor}
 use Rattle.std.specs.List.{list_all, sum_by}
 use Rattle.std.proofs.lemmas.Bool.{and_parts}
@@ -7,7 +7,7 @@ use Rattle.std.proofs.lemmas.List.{append-nil, append_assoc, drop_all, drop_more
 use Rattle.std.proofs.lemmas.List.Folds.{list_all-append}
 use Rattle.std.proofs.lemmas.List.Sums.{sum_by-append}
 use Rattle.std.proofs.Math.Seq.{take-append_seam, drop-append_seam}
-use Rattle.scasp_syntax.specs.Tm.{Tm, Tms, var, num, app, nil, cons, items, listed, weight, weight_s}
+use Rattle.scasp_syntax.specs.Tm.{Tm, Tms, var, num, app, nil, cons, args_of, items, listed, weight, weight_s}
 use Rattle.scasp_syntax.specs.Values.{Sub, under, all_under}
 use Rattle.scasp_syntax.specs.View.{tm_of}
 use Rattle.scasp_syntax.specs.WellFormed.{is_below}
@@ -15,7 +15,10 @@ use Rattle.scasp_syntax.specs.declared.term.Term.{Term}
 use Rattle.scasp_syntax.proofs.TermLemmas.{listed-items}
 use Rattle.scasp_bind.specs.declared.resolving.Head.{Head}
 use Rattle.scasp_bind.specs.declared.resolving.Head.TheVariants as head
-use Rattle.scasp_bind.specs.Inside.Heads.{assembled, heads_of, heads_of_each, terms_of, tops}
+use Rattle.scasp_bind.specs.Inside.Heads.{assembled, head_of, heads_of, heads_of_each, terms_of, tops}
+use Rattle.scasp_bind.specs.Resolving.{Binding, applied}
+use Rattle.scasp_bind.specs.Inside.Soundness.{bound_to}
+use Rattle.scasp_bind.proofs.ResolvingLemmas.{stays}
 use Rattle.scasp_bind.proofs.WalkLemmas.{below-items, work-items}
 
 -- ---- lists
@@ -70,10 +73,25 @@ name_written s hs f ts t u rest last next z e g a h k =
 pub leaf_below : (n : ℕ) (t : Tm) (rest last : List Tm) → last ≡ t ∷ rest → list_all (λ t. is_below n t) last ≡ true → (is_below n t ≡ true) × (list_all (λ t. is_below n t) rest ≡ true)
 leaf_below n t rest last e k = and_parts (is_below n t) (list_all (λ t. is_below n t) rest) (ap (list_all (λ t. is_below n t)) (sym e) ∙ k)
 
-pub name_below : (n f : ℕ) (ts : Tms) (u : Tm) (rest next : List Tm) → next ≡ items ts ++ rest → u ≡ app f ts → is_below n u ≡ true → list_all (λ t. is_below n t) rest ≡ true → list_all (λ t. is_below n t) next ≡ true
-name_below n f ts u rest next g a h k =
-    ap (list_all (λ t. is_below n t)) g ∙ list_all-append (λ t. is_below n t) (items ts) rest
-    ∙ ap (λ b. b && list_all (λ t. is_below n t) rest) (below-items n ts ∙ ap (is_below n) (sym a) ∙ h) ∙ k
+-- the head of what a term leads to was written down, and its arguments are next
+pub written : (n : ℕ) (b : Binding) (hs : List Head) (t u : Tm) (rest last next : List Tm) (z : List Head) → last ≡ t ∷ rest → next ≡ items (args_of u) ++ rest → under (applied n b) u ≡ under (applied n b) t
+    → bound_to b u ≡ None → hs ++ heads_under (applied n b) last ≡ z → (hs ++ head_of u ∷ []) ++ heads_under (applied n b) next ≡ z
+written n b hs t (var x) rest last next z e g h none k =
+    ap (λ l. (hs ++ head.Var x ∷ []) ++ heads_under (applied n b) l) g
+    ∙ leaf_written (applied n b) hs (head.Var x) t rest last z e (ap heads_of (sym h ∙ stays n b x none)) k
+written n b hs t (num q) rest last next z e g h none k =
+    ap (λ l. (hs ++ head.Num q ∷ []) ++ heads_under (applied n b) l) g ∙ leaf_written (applied n b) hs (head.Num q) t rest last z e (ap heads_of (sym h)) k
+written n b hs t (app f ts) rest last next z e g h none k = name_written (applied n b) hs f ts t (app f ts) rest last next z e g refl h k
+
+args-below : (n : ℕ) (t : Tm) → is_below n t ≡ true → list_all (λ u. is_below n u) (items (args_of t)) ≡ true
+args-below n (var x) h = refl
+args-below n (num q) h = refl
+args-below n (app f ts) h = below-items n ts ∙ h
+
+pub written_below : (n : ℕ) (t u : Tm) (rest last next : List Tm) → last ≡ t ∷ rest → next ≡ items (args_of u) ++ rest → is_below n u ≡ true → list_all (λ t. is_below n t) last ≡ true → list_all (λ t. is_below n t) next ≡ true
+written_below n t u rest last next e g h k =
+    ap (list_all (λ t. is_below n t)) g ∙ list_all-append (λ t. is_below n t) (items (args_of u)) rest
+    ∙ ap (λ b. b && list_all (λ t. is_below n t) rest) (args-below n u h) ∙ (leaf_below n t rest last e k).1
 
 abbrev pub heft : Sub → List Tm → ℕ
 heft s ts = sum_by (λ t. weight (under s t)) ts
@@ -90,6 +108,11 @@ pub name_lighter : (s : Sub) (f : ℕ) (ts : Tms) (t u : Tm) (rest last next : L
 name_lighter s f ts t u rest last next e g a h =
     let heavy : weight (under s t) ≡ 1 + weight_s (all_under s ts) = ap weight (sym h) ∙ ap (λ v. weight (under s v)) a in
     omega (arith, ap (heft s) e, sum_by-append (λ t. weight (under s t)) (t ∷ []) rest, ap (heft s) g, sum_by-append (λ t. weight (under s t)) (items ts) rest, work-items s ts, heavy)
+
+pub written_lighter : (s : Sub) (t u : Tm) (rest last next : List Tm) → last ≡ t ∷ rest → next ≡ items (args_of u) ++ rest → under s u ≡ under s t → heft s next < heft s last
+written_lighter s t (var x) rest last next e g h = omega (arith, ap (heft s) g, leaf_lighter s t rest last e)
+written_lighter s t (num q) rest last next e g h = omega (arith, ap (heft s) g, leaf_lighter s t rest last e)
+written_lighter s t (app f ts) rest last next e g h = name_lighter s f ts t (app f ts) rest last next e g refl h
 
 -- ---- the terms are built again
 

@@ -5,3 +5,6 @@ pub mod WalkLemmas
 pub mod HeadLemmas
 pub mod SoundLemmas
 pub mod DepthLemmas
+pub mod JobLemmas
+pub mod LoweringLemmas
+pub mod NoteLemmas

@@ -20,22 +20,11 @@ terms_of-push ts t = map-append (λ t. tm_of t.now) ts (t ∷ [])
 
 -- ---- the terms of a list of arguments
 
-pub any-items : (s : Sub) (x : ℕ) (ts : Tms) → list_any (λ t. occurs x (under s t)) (items ts) ≡ occurs_among x (all_under s ts)
-any-items s x nil = refl
-any-items s x (cons t ts) = ap (λ b. occurs x (under s t) || b) (any-items s x ts)
-
 pub below-items : (n : ℕ) (ts : Tms) → list_all (λ t. is_below n t) (items ts) ≡ are_below n ts
 below-items n nil = refl
 below-items n (cons t ts) = ap (λ b. is_below n t && b) (below-items n ts)
 
 -- ---- one more at the end
-
-pub any-pushed : (p : Tm → Bool) (ts : List Tm) (t : Tm) → list_any p (ts ++ t ∷ []) ≡ (list_any p ts || p t)
-any-pushed p ts t = list_any-append p ts (t ∷ []) ∙ ap (λ b. list_any p ts || b) (or-false (p t))
-  where
-    or-false : (b : Bool) → (b || false) ≡ b
-    or-false true = refl
-    or-false false = refl
 
 pub all-pushed : (p : Tm → Bool) (ts : List Tm) (t : Tm) → list_all p (ts ++ t ∷ []) ≡ true → (list_all p ts ≡ true) × (p t ≡ true)
 all-pushed p ts t e =
@@ -45,43 +34,11 @@ all-pushed p ts t e =
 pub work-pushed : (f : Tm → ℕ) (ts : List Tm) (t : Tm) → sum_by f (ts ++ t ∷ []) ≡ sum_by f ts + f t
 work-pushed f ts t = sum_by-append f ts (t ∷ []) ∙ (omega arith)
 
-pub lighter : (t : Tm) → 0 < weight t
-lighter (var x) = omega arith
-lighter (num q) = omega arith
-lighter (app f ts) = omega arith
-
 pub work-items : (s : Sub) (ts : Tms) → sum_by (λ t. weight (under s t)) (items ts) ≡ weight_s (all_under s ts)
 work-items s nil = refl
 work-items s (cons t ts) = sum_by-append (λ t. weight (under s t)) (t ∷ []) (items ts) ∙ (omega (arith, work-items s ts))
 
--- ---- a term that was seen to be a name with arguments, which are to be seen in its place
-
-abbrev any : Sub → ℕ → List Tm → Bool
-any s x ts = list_any (λ t. occurs x (under s t)) ts
-
-pub any_app : (s : Sub) (x f : ℕ) (before last next : List Tm) (t u : Tm) (args : Tms) (z : Bool) → last ≡ before ++ t ∷ [] → next ≡ before ++ items args
-    → u ≡ app f args → under s u ≡ under s t → any s x last ≡ z → any s x next ≡ z
-any_app s x f before last next t u args z e g a h k =
-    ap (any s x) g ∙ list_any-append (λ t. occurs x (under s t)) before (items args)
-    ∙ ap (λ b. any s x before || b) (any-items s x args ∙ ap (λ v. occurs x (under s v)) (sym a) ∙ ap (occurs x) h)
-    ∙ sym (any-pushed (λ t. occurs x (under s t)) before t) ∙ ap (any s x) (sym e) ∙ k
-
-pub below_app : (n f : ℕ) (before last next : List Tm) (t u : Tm) (args : Tms) → last ≡ before ++ t ∷ [] → next ≡ before ++ items args
-    → u ≡ app f args → is_below n u ≡ true → list_all (λ t. is_below n t) last ≡ true → list_all (λ t. is_below n t) next ≡ true
-below_app n f before last next t u args e g a h k =
-    let p = all-pushed (λ t. is_below n t) before t (ap (list_all (λ t. is_below n t)) (sym e) ∙ k) in
-    ap (list_all (λ t. is_below n t)) g ∙ list_all-append (λ t. is_below n t) before (items args)
-    ∙ ap (λ b. b && list_all (λ t. is_below n t) (items args)) p.0
-    ∙ below-items n args ∙ ap (is_below n) (sym a) ∙ h
-
-pub work_app : (s : Sub) (f : ℕ) (before last next : List Tm) (t u : Tm) (args : Tms) → last ≡ before ++ t ∷ [] → next ≡ before ++ items args
-    → u ≡ app f args → under s u ≡ under s t → sum_by (λ t. weight (under s t)) next < sum_by (λ t. weight (under s t)) last
-work_app s f before last next t u args e g a h =
-    let w : Tm → ℕ = λ t. weight (under s t) in
-    let heavy : weight (under s t) ≡ 1 + weight_s (all_under s args) = ap weight (sym h) ∙ ap w a in
-    omega (arith, ap (sum_by w) e, work-pushed w before t, ap (sum_by w) g, sum_by-append w before (items args), work-items s args, heavy)
-
--- ---- the same of terms as they are given
+-- ---- terms as they are given
 
 abbrev pub below : ℕ → List Tm → Bool
 below n ts = list_all (λ t. is_below n t) ts
@@ -99,7 +56,7 @@ known_var n x before last t z e a h k =
     sym (and-true (below n before)) ∙ ap (λ b. below n before && b) (sym (and-true (is_below n t) ∙ here))
     ∙ sym (list_all-append (λ t. is_below n t) before (t ∷ [])) ∙ ap (below n) (sym e) ∙ k
 
-work-plain : (ts : Tms) → sum_by weight (items ts) ≡ weight_s ts
+pub work-plain : (ts : Tms) → sum_by weight (items ts) ≡ weight_s ts
 work-plain nil = refl
 work-plain (cons t ts) = sum_by-append weight (t ∷ []) (items ts) ∙ (omega (arith, work-plain ts))
 

@@ -9,10 +9,12 @@ use crate::depths::lower_term;
 use crate::trailed::Trailed;
 use scasp_list::Memory;
 use scasp_syntax::Term;
+use std::alloc::Global;
 
 /// Binds the variable to the copy of the term, and lowers the depths of the existentials in the term; after an error
 /// some depths may be lower.
 pub(crate) fn bind_lowered(
+    alloc: Global,
     store: &mut Trailed,
     x: u64,
     term: &Term,
@@ -24,6 +26,6 @@ pub(crate) fn bind_lowered(
     ensures sound { IsSound store.new }
 {
     let depth = store.get(x).depth;
-    lower_term(store, term, depth)?;
+    lower_term(alloc, store, term, depth)?;
     store.set_term(x, Some(copied))
 }

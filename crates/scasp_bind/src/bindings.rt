@@ -1,5 +1,5 @@
 //! Bindings of variables, which can be undone.
-ghost use Rattle.std.specs.Prelude.{◌≡◌, ◌≤◌, ◌<◌, ◌∷◌, ◌++◌, [], true, None, Some, length, slice_get, option_map, is_some, OnOk, OnErr, IfOk};
+ghost use Rattle.std.specs.Prelude.{◌≡◌, ◌≤◌, ◌<◌, ◌∷◌, ◌++◌, [], true, None, Some, length, slice_get, take, option_map, is_some, OnOk, OnErr, IfOk};
 ghost use Rattle.scasp_syntax.specs.Tm.{Tm};
 ghost use Rattle.scasp_syntax.specs.View.{tm_of};
 ghost use Rattle.scasp_syntax.specs.WellFormed.{is_below};
@@ -11,10 +11,11 @@ ghost use Rattle.scasp_bind.specs.Resolving.{Resolves, binding};
 
 use crate::binding::bind_lowered;
 use crate::depths::lower;
+use crate::occurrences::occurs_resolved;
 use crate::resolving::resolved;
 use crate::trailed::Trailed;
 use crate::variable::{BindMark, Sort};
-use crate::walks::{is_known, occurs_resolved};
+use crate::walks::is_known;
 use scasp_list::Memory;
 use scasp_syntax::{Term, copy};
 use std::alloc::Global;
@@ -122,7 +123,7 @@ impl Bindings {
     {
         let copied = copy(self.alloc, term)?;
         let count = self.store.change_count();
-        if bind_lowered(&mut self.store, x, term, copied).is_err() {
+        if bind_lowered(self.alloc, &mut self.store, x, term, copied).is_err() {
             self.store.take_back(count);
             return Err(Memory);
         }
@@ -158,21 +159,21 @@ impl Bindings {
 
     /// The present time.
     pub fn mark(&self) -> BindMark
-        ensures { result.changes ≡ length self.now.changes }
+        ensures { result ≡ length self.now.changes }
     {
-        BindMark {
-            changes: self.store.change_count(),
-        }
+        BindMark::after(self.store.change_count())
     }
 
     /// Undoes all changes since the mark. No memory is taken, and the mark can be undone to again.
     pub fn undo(&mut self, mark: BindMark)
-        requires { mark.changes ≤ length self.old.changes }
-        ensures variables { self.new.variables ≡ variables_at mark.changes self.old }
-        ensures changes { length self.new.changes ≡ mark.changes }
+        ensures variables { self.new.variables ≡ variables_at mark self.old }
+        ensures changes { self.new.changes ≡ take mark self.old.changes }
         ensures continues { Continues self.new self.old }
     {
-        self.store.take_back(mark.changes);
+        let count = mark.change_count();
+        if count < self.store.change_count() {
+            self.store.take_back(count);
+        }
     }
 
     /// A law: the bindings have no cycle, so each term resolves.

@@ -1,16 +1,21 @@
 //! Depths of the variables of a term.
-ghost use Rattle.std.specs.Prelude.{◌≡◌, ◌<◌, true, length, nat_eq, OnOk, OnErr};
+ghost use Rattle.std.specs.Prelude.{◌≡◌, ◌<◌, ◌++◌, true, length, nat_eq, OnOk, OnErr};
+ghost use Rattle.scasp_syntax.specs.Tm.{args_of, items};
 ghost use Rattle.scasp_syntax.specs.View.{tm_of};
-ghost use Rattle.scasp_syntax.specs.WellFormed.{are_below, is_below};
-ghost use Rattle.scasp_unify.specs.Parts.{occurs, occurs_among};
+ghost use Rattle.scasp_syntax.specs.WellFormed.{is_below};
+ghost use Rattle.scasp_unify.specs.Parts.{occurs};
 ghost use Rattle.scasp_bind.specs.Depths.{Lowers, lowest};
 ghost use Rattle.scasp_bind.specs.Kept.{updated};
+ghost use Rattle.scasp_bind.specs.Inside.Heads.{terms_of};
+ghost use Rattle.scasp_bind.specs.Inside.Lowering.{is_itself};
 ghost use Rattle.scasp_bind.specs.Inside.Soundness.{GoesOn};
 
 use crate::trailed::Trailed;
 use crate::variable::Sort;
+use crate::walks::push_all;
 use scasp_list::Memory;
-use scasp_syntax::{Term, Terms};
+use scasp_syntax::Term;
+use std::alloc::Global;
 
 /// Lowers the variable to this depth, where its own is greater.
 pub(crate) fn lower(store: &mut Trailed, x: u64, depth: u64) -> Result<(), Memory>
@@ -38,27 +43,39 @@ fn lower_existential(store: &mut Trailed, x: u64, depth: u64) -> Result<(), Memo
 }
 
 /// The same of each existential in the term.
-#[cycle(lower_term)]
-pub(crate) fn lower_term(store: &mut Trailed, term: &Term, depth: u64) -> Result<(), Memory>
+pub(crate) fn lower_term<'a>(
+    alloc: Global,
+    store: &mut Trailed,
+    term: &'a Term,
+    depth: u64,
+) -> Result<(), Memory>
     requires { is_below (length store.old.variables) (tm_of term.now) ≡ true }
     ensures lowered { OnOk result (Lowers store.old.variables store.new.variables (λ y. occurs y (tm_of term.now)) depth) }
     ensures goes_on { GoesOn store.old store.new }
 {
-    match term {
-        Term::Var(x) => lower_existential(store, *x, depth),
-        Term::Num(_) => Ok(()),
-        Term::App(_, args) => lower_terms(store, args, depth),
-    }
-}
-
-#[cycle(lower_term)]
-fn lower_terms(store: &mut Trailed, terms: &Terms, depth: u64) -> Result<(), Memory>
-    requires { are_below (length store.old.variables) terms.now ≡ true }
-    ensures lowered { OnOk result (Lowers store.old.variables store.new.variables (λ y. occurs_among y terms.now) depth) }
-    ensures goes_on { GoesOn store.old store.new }
-{
-    for term in terms.as_slice() {
-        lower_term(store, term, depth)?;
+    let mut unseen: Vec<&'a Term> = Vec::new(alloc);
+    unseen.push(term)?;
+    while let Some(next) = unseen.pop() {
+        lower_next(store, &mut unseen, next, depth)?;
     }
     Ok(())
+}
+
+/// The same of the term, if it is a variable; if it is a name, its arguments are put on the list.
+fn lower_next<'a>(
+    store: &mut Trailed,
+    unseen: &mut Vec<&'a Term>,
+    next: &'a Term,
+    depth: u64,
+) -> Result<(), Memory>
+    requires { is_below (length store.old.variables) (tm_of next.now) ≡ true }
+    ensures unseen { OnOk result (terms_of unseen.new.items ≡ terms_of unseen.old.items ++ items (args_of (tm_of next.now))) }
+    ensures lowered { OnOk result (Lowers store.old.variables store.new.variables (is_itself (tm_of next.now)) depth) }
+    ensures goes_on { GoesOn store.old store.new }
+{
+    match next {
+        Term::Var(x) => lower_existential(store, *x, depth),
+        Term::Num(_) => Ok(()),
+        Term::App(_, args) => push_all(unseen, args),
+    }
 }

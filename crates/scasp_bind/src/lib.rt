@@ -4,6 +4,7 @@
 mod binding;
 mod bindings;
 mod depths;
+mod occurrences;
 mod resolving;
 mod trailed;
 mod variable;

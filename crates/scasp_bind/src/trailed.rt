@@ -73,9 +73,9 @@ impl Trailed {
         ensures changed { OnOk result (TakesBack self.new self.old) }
         ensures unchanged { OnErr result (self.new ≡ self.old) }
     {
-        make_room(&mut self.changes)?;
+        self.changes.make_room()?;
         let x = push(&mut self.variables, sort, depth)?;
-        note(&mut self.changes, Change::Made);
+        self.changes.push_reserved(Change::Made);
         Ok(x)
     }
 
@@ -86,9 +86,9 @@ impl Trailed {
         ensures changed { OnOk result (TakesBack self.new self.old) }
         ensures unchanged { OnErr result (self.new ≡ self.old) }
     {
-        make_room(&mut self.changes)?;
+        self.changes.make_room()?;
         let before = put_term(&mut self.variables, x, term);
-        note(&mut self.changes, Change::Term(x, before));
+        self.changes.push_reserved(Change::Term(x, before));
         Ok(())
     }
 
@@ -99,9 +99,9 @@ impl Trailed {
         ensures changed { OnOk result (TakesBack self.new self.old) }
         ensures unchanged { OnErr result (self.new ≡ self.old) }
     {
-        make_room(&mut self.changes)?;
+        self.changes.make_room()?;
         let before = put_depth(&mut self.variables, x, depth);
-        note(&mut self.changes, Change::Depth(x, before));
+        self.changes.push_reserved(Change::Depth(x, before));
         Ok(())
     }
 
@@ -128,43 +128,20 @@ impl Trailed {
     }
 }
 
-/// Room for one more change.
-fn make_room(changes: &mut Cells<Change>) -> Result<(), Memory>
-    ensures items { changes.new.items ≡ changes.old.items }
-    ensures room { OnOk result (0 < changes.new.spare) }
-    ensures small { OnOk result (length changes.new.items < 2 ^ 63 - 1) }
-{
-    if changes.len() >= MOST || changes.reserve(1).is_err() {
-        return Err(Memory);
-    }
-    Ok(())
-}
-
-/// Notes the change, for which there is room.
-fn note(changes: &mut Cells<Change>, change: Change)
-    requires { (0 < changes.old.spare) × (length changes.old.items < 2 ^ 63 - 1) }
-    ensures { changes.new.items ≡ changes.old.items ++ change ∷ [] }
-{
-    let _place = changes.push(change);
-}
-
 /// Puts an unbound variable at the end.
 fn push(variables: &mut Cells<Variable>, sort: Sort, depth: u64) -> Result<u64, Memory>
     ensures number { IfOk result (λ x. x ≡ length variables.old.items) }
     ensures variables { OnOk result (variables.new.items ≡ variables.old.items ++ record { sort = sort; depth = depth; term = None } ∷ []) }
     ensures unchanged { OnErr result (variables.new.items ≡ variables.old.items) }
 {
-    if variables.len() >= MOST {
-        return Err(Memory);
-    }
-    match variables.push(Variable {
+    variables.make_room()?;
+    let x = variables.len();
+    variables.push_reserved(Variable {
         sort,
         depth,
         term: None,
-    }) {
-        Ok(x) => Ok(x),
-        Err(_) => Err(Memory),
-    }
+    });
+    Ok(x)
 }
 
 /// Puts the term in the place of what the variable is bound to, which is returned.
@@ -219,6 +196,3 @@ fn restore(variables: &mut Cells<Variable>, change: Change)
         }
     }
 }
-
-/// The most items of a stack.
-const MOST: u64 = (1 << 63) - 1;

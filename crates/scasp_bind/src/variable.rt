@@ -1,5 +1,8 @@
 //! Variables, and the changes of them.
+ghost use Rattle.std.specs.Prelude.{◌≡◌};
+
 use scasp_syntax::Term;
+use std::marker::Model;
 
 /// The kind of a variable.
 #[derive(Clone, Copy, Debug, PartialEq, Eq)]
@@ -28,8 +31,35 @@ pub enum Change {
     Term(u64, Option<Term>),
 }
 
-/// A time to go back to: how many changes there were.
+/// A time to go back to, of the store that gave it: how many changes there were. To another store it is the time of as
+/// many changes of its own; where there were not so many, as there are not after an undo to an earlier mark, it is now.
 #[derive(Clone, Copy, Debug, PartialEq, Eq)]
 pub struct BindMark {
-    pub changes: u64,
+    changes: u64,
+}
+
+impl Model for BindMark {
+    ghost use Rattle.std.specs.Prelude.{ℕ};
+
+    ghost Value = { ℕ };
+
+    ghost view = { λ m. m.changes };
+
+    ghost inverse = { λ n. record { changes = n } };
+}
+
+impl BindMark {
+    /// The time after so many changes.
+    pub(crate) fn after(changes: u64) -> BindMark
+        ensures { result ≡ changes }
+    {
+        BindMark { changes }
+    }
+
+    /// How many changes there were.
+    pub(crate) fn change_count(self) -> u64
+        ensures { result ≡ self }
+    {
+        self.changes
+    }
 }

@@ -2,9 +2,9 @@ ghost use Rattle.std.specs.Prelude.{◌≡◌, ℕ, ◌+◌, ◌-◌, ◌^◌, �
 ghost use Rattle.std.specs.Bool.{OnTrue, OnFalse};
 ghost use Rattle.scasp_cells.specs.Filled.{joined, IsFilled};
 
-use crate::Memory;
 use crate::place::{locate, room, size};
 use crate::segment::Segment;
+use scasp_list::Memory;
 use std::alloc::Global;
 use std::marker::Model;
 use std_alloc::room::may_hold;
@@ -91,6 +91,19 @@ impl<T> Cells<T> {
         Ok(())
     }
 
+    /// Makes room for one more item. Want of memory is also told where there are as many items as there can be. After an
+    /// error the stack is unchanged.
+    pub fn make_room(&mut self) -> Result<(), Memory>
+        ensures items { self.new.items ≡ self.old.items }
+        ensures ok { OnOk result (0 < self.new.spare) }
+        ensures unchanged { OnErr result (self.new ≡ self.old) }
+    {
+        if self.len() >= MOST {
+            return Err(Memory);
+        }
+        self.reserve(1)
+    }
+
     // Adds a segment, if there is memory for it.
     fn grow(&mut self) -> bool
         requires { length self.old.items + self.old.spare < 2 ^ 63 - 1 }
@@ -153,6 +166,18 @@ impl<T> Cells<T> {
         segment.push(item);
         self.len = at + 1;
         Ok(at)
+    }
+
+    /// Puts `item` on top, for which there is room already. No memory is taken.
+    pub fn push_reserved(&mut self, item: T)
+    where
+        T: Drop,
+        requires { 0 < self.old.spare }
+        ensures items { self.new.items ≡ self.old.items ++ item ∷ [] }
+        ensures spare { self.new.spare + 1 ≡ self.old.spare }
+    {
+        let _spare = self.spare();
+        let _place = self.push(item);
     }
 
     /// The item at the place `at`.
@@ -237,3 +262,6 @@ fn add_segment<T>(segments: &mut Vec<Segment<T, Global>>) -> bool
         Err(_) => false,
     }
 }
+
+// The most items of a stack.
+const MOST: u64 = (1 << 63) - 1;

@@ -13,27 +13,8 @@
 //! `as_slice`, `replace` and `free`. Each is proved by hand. What stands above them is plain code.
 #![tactic(auto)]
 
-ghost use Rattle.std.specs.Prelude.{Some, codes};
-
-use std::error::Error;
-use std::fmt;
-
 mod cells;
 mod place;
 mod segment;
 
 pub use cells::Cells;
-
-/// Want of memory.
-#[derive(Clone, Copy, Debug, PartialEq, Eq, Hash)]
-pub struct Memory;
-
-impl fmt::Display for Memory {
-    ghost output = { λ _. Some (codes "out of memory") };
-
-    fn fmt<W: fmt::Write>(&self, f: &mut fmt::Formatter<W>) -> fmt::Result {
-        f.write_str("out of memory")
-    }
-}
-
-impl Error for Memory {}

@@ -1,3 +1,4 @@
+-- What private functions alone speak of.
 pub mod Chains
 pub mod Indexed
 pub mod Noting

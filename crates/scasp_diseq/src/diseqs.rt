@@ -7,7 +7,6 @@ use crate::finding::{is_excluded, woken};
 use crate::mentions::Mentions;
 use crate::noting::note_sides;
 use crate::posted::Posted;
-use crate::room::{make_room, put};
 use scasp_cells::Cells;
 use scasp_list::Memory;
 use scasp_name::NameId;
@@ -15,10 +14,22 @@ use scasp_syntax::{Con, Cons, Term, copy};
 use std::alloc::Global;
 use std::marker::Model;
 
-/// A time to go back to: how many shapes and disequations there were.
+/// A time to go back to, of the store that gave it: how many shapes and disequations there were. To another store it is
+/// the time of as many of its own; where there are not so many, as there are not after an undo to an earlier mark, it is
+/// now.
 #[derive(Clone, Copy, Debug, PartialEq, Eq)]
 pub struct DiseqMark {
-    pub posted: u64,
+    posted: u64,
+}
+
+impl Model for DiseqMark {
+    ghost use Rattle.std.specs.Prelude.{ℕ};
+
+    ghost Value = { ℕ };
+
+    ghost view = { λ m. m.posted };
+
+    ghost inverse = { λ n. record { posted = n } };
 }
 
 /// Excluded shapes and pending disequations in the order posted, found by variable, which can be undone.
@@ -62,12 +73,12 @@ impl Diseqs {
         ensures ok { OnOk result (self.new ≡ self.old ++ Con.NotShape x name arity ∷ []) }
         ensures err { OnErr result (self.new ≡ self.old) }
     {
-        make_room(&mut self.posted)?;
+        self.posted.make_room()?;
         let before = self.mentions.len();
         let place = self.posted.len();
         self.mentions.note(x, place)?;
         let con = Con::NotShape(x, name, arity);
-        put(&mut self.posted, Posted { con, before });
+        self.posted.push_reserved(Posted { con, before });
         Ok(())
     }
 
@@ -86,7 +97,7 @@ impl Diseqs {
     {
         let first = copy(self.alloc, left)?;
         let second = copy(self.alloc, right)?;
-        make_room(&mut self.posted)?;
+        self.posted.make_room()?;
         let before = self.mentions.len();
         let place = self.posted.len();
         if note_sides(self.alloc, &mut self.mentions, place, left, right).is_err() {
@@ -94,7 +105,7 @@ impl Diseqs {
             return Err(Memory);
         }
         let con = Con::Neq(first, second);
-        put(&mut self.posted, Posted { con, before });
+        self.posted.push_reserved(Posted { con, before });
         Ok(())
     }
 
@@ -108,8 +119,8 @@ impl Diseqs {
 
     /// The present time. Whatever is posted after it, `undo` gives back just what there is now.
     pub fn mark(&self) -> DiseqMark
-        ensures posted { result.posted ≡ length self.now }
-        ensures given_back { (after : List ThisCon) → take result.posted (self.now ++ after) ≡ self.now }
+        ensures posted { result ≡ length self.now }
+        ensures given_back { (after : List ThisCon) → take result (self.now ++ after) ≡ self.now }
     {
         DiseqMark {
             posted: self.posted.len(),
@@ -119,7 +130,7 @@ impl Diseqs {
     /// Undoes what was posted since the mark, which can be undone to again. No memory is taken. Where there is no more than
     /// at the mark, nothing changes.
     pub fn undo(&mut self, mark: DiseqMark)
-        ensures { self.new ≡ take mark.posted self.old }
+        ensures { self.new ≡ take mark self.old }
     {
         if mark.posted < self.posted.len() {
             let before = self.posted.get(mark.posted).before;

@@ -6,6 +6,5 @@ mod finding;
 mod mentions;
 mod noting;
 mod posted;
-mod room;
 
 pub use diseqs::{DiseqMark, Diseqs};

@@ -4,7 +4,6 @@ ghost use Rattle.std.specs.HashMap.{get};
 ghost use Rattle.scasp_diseq.specs.Inside.Chains.{latest_of, places_of};
 ghost use Rattle.scasp_diseq.specs.Inside.Noting.{Notes, ends_with};
 
-use crate::room::{make_room, put};
 use scasp_cells::Cells;
 use scasp_list::Memory;
 use std::alloc::Global;
@@ -109,10 +108,10 @@ impl Mentions {
         ensures ok { OnOk result (self.new ≡ self.old ++ mention ∷ []) }
         ensures err { OnErr result (self.new ≡ self.old) }
     {
-        make_room(&mut self.trail)?;
+        self.trail.make_room()?;
         let at = self.trail.len();
         self.latest.insert(mention.variable, at)?;
-        put(&mut self.trail, mention);
+        self.trail.push_reserved(mention);
         Ok(())
     }
 

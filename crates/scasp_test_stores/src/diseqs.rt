@@ -1,19 +1,14 @@
 //! Disequations: tables of steps, and a thousand marks that are undone to.
+use crate::terms::{Shape, is_shape, term};
 use scasp_diseq::{DiseqMark, Diseqs};
 use scasp_name::{Memory, NameId};
-use scasp_syntax::{Con, Term, Terms, same};
+use scasp_syntax::{Con, Term};
 use std::alloc::Global;
 use std::process::Abort;
 use std::test::Fail;
 
-/// A variable, or a name with its arguments.
-enum Side {
-    V(u64),
-    F(u64, &'static [Side]),
-}
-
 /// A disequation.
-type Pair = (Side, Side);
+type Pair = (Shape, Shape);
 
 /// A call, or what a call answers.
 enum Step {
@@ -33,27 +28,27 @@ const A: u64 = 5;
 const B: u64 = 6;
 
 /// x and y differ, and so on.
-const X_Y: Pair = (Side::V(0), Side::V(1));
+const X_Y: Pair = (Shape::V(0), Shape::V(1));
 
-const X_Z: Pair = (Side::V(0), Side::V(2));
+const X_Z: Pair = (Shape::V(0), Shape::V(2));
 
-const Y_Z: Pair = (Side::V(1), Side::V(2));
+const Y_Z: Pair = (Shape::V(1), Shape::V(2));
 
-const X_A: Pair = (Side::V(0), Side::F(A, &[]));
+const X_A: Pair = (Shape::V(0), Shape::F(A, &[]));
 
 /// f(g(V3),V4) and f(a,V5) differ.
 const DEEP: Pair = (
-    Side::F(7, &[Side::F(8, &[Side::V(3)]), Side::V(4)]),
-    Side::F(7, &[Side::F(A, &[]), Side::V(5)]),
+    Shape::F(7, &[Shape::F(8, &[Shape::V(3)]), Shape::V(4)]),
+    Shape::F(7, &[Shape::F(A, &[]), Shape::V(5)]),
 );
 
 /// x and f(x,f(x,x)) differ.
 const X_TWICE: Pair = (
-    Side::V(0),
-    Side::F(7, &[Side::V(0), Side::F(7, &[Side::V(0), Side::V(0)])]),
+    Shape::V(0),
+    Shape::F(7, &[Shape::V(0), Shape::F(7, &[Shape::V(0), Shape::V(0)])]),
 );
 
-const FAR: Pair = (Side::V(u64::MAX), Side::V(1));
+const FAR: Pair = (Shape::V(u64::MAX), Shape::V(1));
 
 const ROWS: [&[Step]; 10] = [
     &[
@@ -154,7 +149,7 @@ const ROWS: [&[Step]; 10] = [
     ],
     // a disequation without variables, and one that is posted twice
     &[
-        Step::Post((Side::F(A, &[]), Side::F(B, &[]))),
+        Step::Post((Shape::F(A, &[]), Shape::F(B, &[]))),
         Step::Wakes(A, &[]),
         Step::Post(X_A),
         Step::Mark,
@@ -172,19 +167,6 @@ const ROWS: [&[Step]; 10] = [
     ],
 ];
 
-fn term(alloc: Global, side: &Side) -> Result<Term, Memory> {
-    match side {
-        Side::V(x) => Ok(Term::Var(*x)),
-        Side::F(name, sides) => {
-            let mut args = Terms::new(alloc);
-            for side in *sides {
-                args.push(term(alloc, side)?)?;
-            }
-            Ok(Term::App(NameId::new(*name), args))
-        }
-    }
-}
-
 fn post(alloc: Global, diseqs: &mut Diseqs, pair: &Pair) -> Result<(), Memory> {
     let left = term(alloc, &pair.0)?;
     diseqs.post(&left, &term(alloc, &pair.1)?)
@@ -192,16 +174,19 @@ fn post(alloc: Global, diseqs: &mut Diseqs, pair: &Pair) -> Result<(), Memory> {
 
 fn is_pair(alloc: Global, con: &Con, pair: &Pair) -> Result<bool, Memory> {
     match con {
-        Con::Neq(left, right) => {
-            let first = same(alloc, left, &term(alloc, &pair.0)?)?;
-            Ok(first && same(alloc, right, &term(alloc, &pair.1)?)?)
-        }
+        Con::Neq(left, right) => are_pair(alloc, left, right, pair),
         Con::NotShape(_, _, _) => Ok(false),
         Con::Eq(_, _) => Ok(false),
         Con::Num(_) => Ok(false),
         Con::NotNum(_) => Ok(false),
         Con::Row(_) => Ok(false),
     }
+}
+
+fn are_pair(alloc: Global, left: &Term, right: &Term, pair: &Pair) -> Result<bool, Memory> {
+    let first = is_shape(alloc, left, &pair.0)?;
+    let second = is_shape(alloc, right, &pair.1)?;
+    Ok(first && second)
 }
 
 /// The variable wakes these disequations, in this order.

@@ -5,3 +5,5 @@
 mod bindings;
 #[cfg(test)]
 mod diseqs;
+#[cfg(test)]
+mod terms;

@@ -10,6 +10,11 @@ use Rattle.scasp_bind.specs.declared.resolving.Head.TheVariants as head
 abbrev pub terms_of : List (Bor Term) → List Tm
 terms_of ts = map (λ t. tm_of t.now) ts
 
+abbrev pub head_of : Tm → Head
+head_of (var x) = head.Var x
+head_of (num q) = head.Num q
+head_of (app f ts) = head.Name f (length (items ts))
+
 -- each head before those of its arguments
 abbrev mutual
   pub heads_of : Tm → List Head

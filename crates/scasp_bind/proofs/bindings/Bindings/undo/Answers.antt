@@ -6,11 +6,11 @@ use Rattle.scasp_bind.proofs.bindings.Bindings.undo.Goals as goal
 pub invariant_of-self : goal.invariant_of-self
 invariant_of-self c =
     let s = c.self.inside.store in
-    let back = undo_continues s c.take_back.new.self c.args.mark.changes (omega (arith, c.requires, ap (λ k. length k.changes) c.self.view_is)) c.take_back.ensures.changes c.take_back.ensures.variables in
+    let back = undo_continues s c.take_back.new.self c.change_count-count.result (omega (arith, c.change_count.ensures, c.if-count-change_count.true)) c.take_back.ensures.changes c.take_back.ensures.variables in
     sound_earlier c.take_back.new.self s back c.self.invariant
 
-pub returns-clause-continues : goal.returns-clause-continues
-returns-clause-continues c =
+pub returns-then-count-change_count-clause-continues : goal.returns-then-count-change_count-clause-continues
+returns-then-count-change_count-clause-continues c =
     let s = c.self.inside.store in
     subst (λ s. Continues c.take_back.new.self s) c.self.view_is
-    (undo_continues s c.take_back.new.self c.args.mark.changes (omega (arith, c.requires, ap (λ k. length k.changes) c.self.view_is)) c.take_back.ensures.changes c.take_back.ensures.variables)
+    (undo_continues s c.take_back.new.self c.change_count-count.result (omega (arith, c.change_count.ensures, c.if-count-change_count.true)) c.take_back.ensures.changes c.take_back.ensures.variables)

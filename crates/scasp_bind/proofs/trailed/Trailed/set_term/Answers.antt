@@ -8,8 +8,8 @@ pub invariant_of-self-2 : goal.invariant_of-self-2
 invariant_of-self-2 c =
     let inside = c.self.inside in
     let within : c.args.x < length inside.variables.items = omega (arith, c.requires, ap (λ k. length k.variables) c.self.view_is) in
-    term_more inside.changes.items c.note.new.changes.items inside.variables.items c.put_term-before.new.variables.items c.args.x c.args.term c.put_term-before.result
-    c.self.invariant within c.put_term-before.ensures.before c.put_term-before.ensures.variables (c.note.ensures ∙ ap (λ cs. cs ++ change.Term c.args.x c.put_term-before.result ∷ []) c.make_room.ensures.items)
+    term_more inside.changes.items c.push_reserved.new.self.items inside.variables.items c.put_term-before.new.variables.items c.args.x c.args.term c.put_term-before.result
+    c.self.invariant within c.put_term-before.ensures.before c.put_term-before.ensures.variables (c.push_reserved.ensures.items ∙ ap (λ cs. cs ++ change.Term c.args.x c.put_term-before.result ∷ []) c.make_room.ensures.items)
 
 pub returns-clause-changed : goal.returns-clause-changed
 returns-clause-changed c =
@@ -18,4 +18,4 @@ returns-clause-changed c =
     term_changed c.args.self.now _ c.args.x c.args.term c.put_term-before.result within
     (ap (λ k. option_map (λ v. v.term) (slice_get k.variables c.args.x)) (sym c.self.view_is) ∙ c.put_term-before.ensures.before)
     (c.put_term-before.ensures.variables ∙ ap (λ k. updated c.args.x (with_term c.args.term) k.variables) c.self.view_is)
-    (c.note.ensures ∙ ap (λ cs. cs ++ one ∷ []) c.make_room.ensures.items ∙ ap (λ k. k.changes ++ one ∷ []) c.self.view_is)
+    (c.push_reserved.ensures.items ∙ ap (λ cs. cs ++ one ∷ []) c.make_room.ensures.items ∙ ap (λ k. k.changes ++ one ∷ []) c.self.view_is)

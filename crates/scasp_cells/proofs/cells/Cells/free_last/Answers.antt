@@ -1,4 +1,4 @@
-use Rattle.std.proofs.Common.{◌≡◌, ◌+◌, sym, ap, subst, length, ℕ, List, arith}
+use Rattle.std.proofs.Common.{arith}
 use Rattle.scasp_cells.proofs.Filling.{freed, none_spare}
 use Rattle.scasp_cells.proofs.cells.Cells.free_last.Goals as goal
 use Rattle.scasp_cells.proofs.cells.Cells.free_last.Goals.{in-Some, in_default}

@@ -1,4 +1,4 @@
-use Rattle.std.proofs.Common.{◌≡◌, ℕ, ◌+◌, ◌-◌, ◌^◌, ◌≤◌, length}
+use Rattle.std.proofs.Common.{◌≡◌, ◌-◌, ◌≤◌}
 use Rattle.scasp_cells.proofs.cells.Cells.reserve.Given as goal
 
 abbrev pub invariant-loop-self : goal.invariant-loop-self

@@ -13,7 +13,7 @@ invariant_of-self-2 c =
     let ls = c.note.new.self in
     let p : Posted = record { con = NotShape c.args.x c.args.name c.args.arity; before = c.len-before.result } in
     let place : c.len-place.result ≡ length ps = c.len-place.ensures.len ∙ ap length c.make_room.ensures.items in
-    let items : c.put.new.cells.items ≡ ps ++ p ∷ [] = c.put.ensures ∙ ap (λ l. l ++ p ∷ []) c.make_room.ensures.items in
+    let items : c.push_reserved.new.self.items ≡ ps ++ p ∷ [] = c.push_reserved.ensures.items ∙ ap (λ l. l ++ p ∷ []) c.make_room.ensures.items in
     subst (λ l. IsIndexed l ls) (sym items)
     (indexed-more ps ms ls p c.self.invariant c.in_ok-note.ensures.begins c.len-before.ensures
     (subst (λ k. Notes k (λ y. nat_eq y c.args.x) ms ls) place c.in_ok-note.ensures.noted))

@@ -16,7 +16,7 @@ invariant_of-self-2 c =
     let ls = c.note_sides.new.mentions in
     let p : Posted = record { con = Neq c.in_ok-first.first c.in_ok-second.second; before = c.len-before.result } in
     let place : c.len-place.result ≡ length ps = c.len-place.ensures.len ∙ ap length c.make_room.ensures.items in
-    let items : c.put.new.cells.items ≡ ps ++ p ∷ [] = c.put.ensures ∙ ap (λ l. l ++ p ∷ []) c.make_room.ensures.items in
+    let items : c.push_reserved.new.self.items ≡ ps ++ p ∷ [] = c.push_reserved.ensures.items ∙ ap (λ l. l ++ p ∷ []) c.make_room.ensures.items in
     let noted = if_not_err c.note_sides.result (sym c.is_err.ensures.value ∙ c.if-is_err.false) c.note_sides.ensures.noted in
     subst (λ l. IsIndexed l ls) (sym items)
     (indexed-more ps ms ls p c.self.invariant c.note_sides.ensures.begins c.len-before.ensures

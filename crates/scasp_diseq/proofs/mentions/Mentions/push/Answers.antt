@@ -10,7 +10,7 @@ invariant_of-self-2 c =
     let m = c.args.mention in
     let before = get nat_eq c.self.inside.latest in
     let now = get nat_eq c.insert.new.self in
-    let same : c.put.new.cells.items ≡ ms ++ m ∷ [] = c.put.ensures ∙ ap (λ l. l ++ m ∷ []) c.make_room.ensures.items in
+    let same : c.push_reserved.new.self.items ≡ ms ++ m ∷ [] = c.push_reserved.ensures.items ∙ ap (λ l. l ++ m ∷ []) c.make_room.ensures.items in
     let at : c.len-at.result ≡ length ms = c.len-at.ensures.len ∙ ap length c.make_room.ensures.items in (
       subst IsChained (sym same) (chained-more ms m c.self.invariant.0 (c.requires ∙ ap (latest_of m.variable) (sym c.self.view_is))),
       subst (Leads now) (sym same) (leads-more before now ms m c.self.invariant.1 (λ x. c.in_ok-insert.ensures.updates.0 x ∙ ap (λ k. if nat_eq m.variable x then Some k else before x) at)),

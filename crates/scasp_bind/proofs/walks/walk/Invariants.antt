@@ -5,7 +5,7 @@ use Rattle.scasp_syntax.specs.WellFormed.{is_below}
 use Rattle.scasp_bind.specs.Resolving.{binding}
 use Rattle.scasp_bind.specs.Inside.Soundness.{most, resolver}
 use Rattle.scasp_bind.proofs.ResolvingLemmas.{hops}
-use Rattle.scasp_bind.proofs.walks.look.Given as goal
+use Rattle.scasp_bind.proofs.walks.walk.Given as goal
 
 abbrev pub invariant-loop-next : goal.invariant-loop-next
 invariant-loop-next l = record {

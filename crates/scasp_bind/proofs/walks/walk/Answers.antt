@@ -3,7 +3,7 @@ use Rattle.scasp_syntax.specs.View.{tm_of}
 use Rattle.scasp_bind.specs.Resolving.{applied, binding}
 use Rattle.scasp_bind.specs.Inside.Soundness.{bound_to, most}
 use Rattle.scasp_bind.proofs.ResolvingLemmas.{all_free, bound_below, hops_fall, same_further}
-use Rattle.scasp_bind.proofs.walks.look.Goals as goal
+use Rattle.scasp_bind.proofs.walks.walk.Goals as goal
 
 pub loop-next-smaller : goal.loop-next-smaller
 loop-next-smaller c =
