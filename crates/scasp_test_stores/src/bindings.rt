@@ -1,7 +1,7 @@
 //! Bindings: a table of steps, with long chains, terms that share others, terms of great depth, and nested marks.
 ghost use Rattle.std.specs.Prelude.{◌<◌};
 
-use crate::terms::{Shape, is_shape, term};
+use crate::terms::{Shape, is_shape, nested, term};
 use scasp_bind::{BindMark, Bindings, Sort};
 use scasp_name::{Memory, NameId};
 use scasp_syntax::{Term, Terms, same};
@@ -282,17 +282,6 @@ fn bind(rt: &impl Abort, bindings: &mut Bindings, x: u64, term: &Term) -> Result
     assert!(rt; bindings.knows(term)?);
     assert!(rt; !bindings.occurs(x, term)?);
     bindings.bind(x, term)
-}
-
-/// A name with a term so many times around the variable.
-fn nested(alloc: Global, x: u64, count: u64) -> Result<Term, Memory> {
-    let mut made = Term::Var(x);
-    for _level in 0..count {
-        let mut args = Terms::new(alloc);
-        args.push(made)?;
-        made = Term::App(NameId::new(6), args);
-    }
-    Ok(made)
 }
 
 /// A name with the variable twice.

@@ -1,5 +1,5 @@
-//! Disequations: tables of steps, and a thousand marks that are undone to.
-use crate::terms::{Shape, is_shape, term};
+//! Disequations: a table of steps, with nested marks and terms of great depth.
+use crate::terms::{Shape, is_shape, nested, term};
 use scasp_diseq::{DiseqMark, Diseqs};
 use scasp_name::{Memory, NameId};
 use scasp_syntax::{Con, Term};
@@ -15,12 +15,20 @@ enum Step {
     /// The variable is not this name with so many arguments.
     Exclude(u64, u64, u64),
     Post(Pair),
+    /// The first variable differs from a name around a name and so on, so many of them, around the second one.
+    PostNested(u64, u64, u64),
+    /// So many times a mark, a shape and a disequation, of ten variables in turn.
+    Nest(u64),
     /// The marks are numbered from 0.
     Mark,
     Undo(usize),
+    /// Undoes to each mark, the latest first.
+    UndoEach,
     Excludes(u64, u64, u64, bool),
     /// The disequations that are woken, in order.
     Wakes(u64, &'static [Pair]),
+    /// How many disequations are woken.
+    WakesMany(u64, usize),
 }
 
 const A: u64 = 5;
@@ -50,7 +58,7 @@ const X_TWICE: Pair = (
 
 const FAR: Pair = (Shape::V(u64::MAX), Shape::V(1));
 
-const ROWS: [&[Step]; 10] = [
+const ROWS: [&[Step]; 12] = [
     &[
         Step::Exclude(0, A, 0),
         Step::Post(X_Y),
@@ -165,6 +173,34 @@ const ROWS: [&[Step]; 10] = [
         Step::Excludes(u64::MAX, u64::MAX, u64::MAX, true),
         Step::Excludes(u64::MAX, u64::MAX, 0, false),
     ],
+    // a deep term
+    &[
+        Step::Mark,
+        Step::PostNested(0, 1, 50_000),
+        Step::WakesMany(1, 1),
+        Step::WakesMany(0, 1),
+        Step::WakesMany(2, 0),
+        Step::Undo(0),
+        Step::WakesMany(1, 0),
+    ],
+    // nested marks, undone in steps and at once
+    &[
+        Step::Mark,
+        Step::Nest(1_000),
+        Step::WakesMany(3, 100),
+        Step::Excludes(3, A, 993, true),
+        Step::UndoEach,
+        Step::WakesMany(3, 0),
+        Step::Excludes(3, A, 3, false),
+        Step::Nest(1_000),
+        Step::WakesMany(999, 1),
+        Step::Undo(500),
+        Step::WakesMany(3, 50),
+        Step::Excludes(8, A, 498, true),
+        Step::Excludes(9, A, 499, false),
+        Step::Undo(0),
+        Step::WakesMany(9, 0),
+    ],
 ];
 
 fn post(alloc: Global, diseqs: &mut Diseqs, pair: &Pair) -> Result<(), Memory> {
@@ -205,34 +241,102 @@ fn test_woken(
     Ok(())
 }
 
-fn take(
-    rt: &impl Abort,
+fn post_nested(
     alloc: Global,
     diseqs: &mut Diseqs,
-    marks: &mut Vec<DiseqMark>,
-    step: &Step,
+    x: u64,
+    y: u64,
+    count: u64,
 ) -> Result<(), Memory> {
+    let right = nested(alloc, y, count)?;
+    diseqs.post(&Term::Var(x), &right)
+}
+
+fn nest(trial: &mut Trial, count: u64) -> Result<(), Memory> {
+    for number in 0..count {
+        trial.marks.push(trial.diseqs.mark())?;
+        trial.diseqs.exclude(number % 10, NameId::new(A), number)?;
+        trial
+            .diseqs
+            .post(&Term::Var(number % 10), &Term::Var(number))?;
+    }
+    Ok(())
+}
+
+fn mark(trial: &mut Trial) -> Result<(), Memory> {
+    trial.marks.push(trial.diseqs.mark())?;
+    Ok(())
+}
+
+fn undo(rt: &impl Abort, trial: &mut Trial, number: usize) {
+    assert!(rt; number < trial.marks.len());
+    trial.diseqs.undo(trial.marks[number]);
+}
+
+fn undo_each(rt: &impl Abort, trial: &mut Trial) {
+    let count = trial.marks.len();
+    for place in 0..count {
+        let number = count - 1 - place;
+        undo(rt, trial, number);
+        assert!(rt; number < trial.marks.len());
+        assert!(rt; trial.diseqs.mark() == trial.marks[number]);
+    }
+}
+
+fn test_excluded(rt: &impl Abort, diseqs: &Diseqs, x: u64, name: u64, arity: u64, want: bool) {
+    assert!(rt; diseqs.excludes(x, NameId::new(name), arity) == want);
+}
+
+fn test_many(rt: &impl Abort, diseqs: &Diseqs, x: u64, want: usize) -> Result<(), Memory> {
+    let woken = diseqs.wake(x)?;
+    assert_eq!(rt; woken.len(), want);
+    Ok(())
+}
+
+/// Disequations, and marks of them.
+struct Trial {
+    diseqs: Diseqs,
+    marks: Vec<DiseqMark>,
+    alloc: Global,
+}
+
+fn take(rt: &impl Abort, trial: &mut Trial, step: &Step) -> Result<(), Memory> {
     match step {
-        Step::Exclude(x, name, arity) => diseqs.exclude(*x, NameId::new(*name), *arity)?,
-        Step::Post(pair) => post(alloc, diseqs, pair)?,
-        Step::Mark => marks.push(diseqs.mark())?,
-        Step::Undo(number) => {
-            assert!(rt; *number < marks.len());
-            diseqs.undo(marks[*number]);
-        }
-        Step::Excludes(x, name, arity, want) => {
-            assert_eq!(rt; diseqs.excludes(*x, NameId::new(*name), *arity), *want);
-        }
-        Step::Wakes(x, pairs) => test_woken(rt, alloc, diseqs, *x, pairs)?,
+        Step::Exclude(x, name, arity) => trial.diseqs.exclude(*x, NameId::new(*name), *arity)?,
+        Step::Post(pair) => post(trial.alloc, &mut trial.diseqs, pair)?,
+        Step::PostNested(x, y, count) => post_nested(
+            trial.alloc,
+            &mut trial.diseqs,
+            *x,
+            *y,
+            *count,
+        )?,
+        Step::Nest(count) => nest(trial, *count)?,
+        Step::Mark => mark(trial)?,
+        Step::Undo(number) => undo(rt, trial, *number),
+        Step::UndoEach => undo_each(rt, trial),
+        Step::Excludes(x, name, arity, want) => test_excluded(
+            rt,
+            &trial.diseqs,
+            *x,
+            *name,
+            *arity,
+            *want,
+        ),
+        Step::Wakes(x, pairs) => test_woken(rt, trial.alloc, &trial.diseqs, *x, pairs)?,
+        Step::WakesMany(x, want) => test_many(rt, &trial.diseqs, *x, *want)?,
     }
     Ok(())
 }
 
 fn test_row(rt: &impl Abort, alloc: Global, steps: &[Step]) -> Result<(), Memory> {
-    let mut diseqs = Diseqs::new(alloc);
-    let mut marks = Vec::new(alloc);
+    let mut trial = Trial {
+        diseqs: Diseqs::new(alloc),
+        marks: Vec::new(alloc),
+        alloc,
+    };
     for step in steps {
-        take(rt, alloc, &mut diseqs, &mut marks, step)?;
+        take(rt, &mut trial, step)?;
     }
     Ok(())
 }
@@ -242,52 +346,5 @@ fn rows(rt: HostRuntime) -> Result<(), Fail> {
     for steps in &ROWS {
         test_row(&rt, rt.alloc(), steps)?;
     }
-    Ok(())
-}
-
-/// A mark, a shape and a disequation, so many times, over ten variables.
-fn nested(alloc: Global, diseqs: &mut Diseqs, count: u64) -> Result<Vec<DiseqMark>, Memory> {
-    let mut marks = Vec::new(alloc);
-    for number in 0..count {
-        marks.push(diseqs.mark())?;
-        diseqs.exclude(number % 10, NameId::new(A), number)?;
-        diseqs.post(&Term::Var(number % 10), &Term::Var(number))?;
-    }
-    Ok(marks)
-}
-
-/// The shape of this number is excluded or not.
-fn test_excluded(rt: &impl Abort, diseqs: &Diseqs, number: u64, want: bool) {
-    assert_eq!(rt; diseqs.excludes(number % 10, NameId::new(A), number), want);
-}
-
-fn undo_in_steps(rt: &impl Abort, diseqs: &mut Diseqs, marks: &[DiseqMark]) {
-    for place in 0..marks.len() {
-        let number = marks.len() - 1 - place;
-        test_excluded(rt, diseqs, number as u64, true);
-        diseqs.undo(marks[number]);
-        assert!(rt; diseqs.mark() == marks[number]);
-        test_excluded(rt, diseqs, number as u64, false);
-    }
-}
-
-fn test_nested(rt: &impl Abort, alloc: Global) -> Result<(), Memory> {
-    let mut diseqs = Diseqs::new(alloc);
-    let start = diseqs.mark();
-    let marks = nested(alloc, &mut diseqs, 1_000)?;
-    assert_eq!(rt; diseqs.wake(3)?.len(), 100);
-    undo_in_steps(rt, &mut diseqs, marks.as_slice());
-    assert!(rt; diseqs.wake(3)?.is_empty());
-    let _marks = nested(alloc, &mut diseqs, 1_000)?;
-    assert_eq!(rt; diseqs.wake(999)?.len(), 1);
-    diseqs.undo(start);
-    assert!(rt; diseqs.mark() == start);
-    assert!(rt; diseqs.wake(9)?.is_empty());
-    Ok(())
-}
-
-#[test]
-fn nested_marks_are_undone_in_steps_and_at_once(rt: HostRuntime) -> Result<(), Fail> {
-    test_nested(&rt, rt.alloc())?;
     Ok(())
 }

@@ -28,3 +28,14 @@ pub fn is_shape(alloc: Global, found: &Term, shape: &Shape) -> Result<bool, Memo
     let want = term(alloc, shape)?;
     same(alloc, found, &want)
 }
+
+/// A name with a term so many times around the variable.
+pub fn nested(alloc: Global, x: u64, count: u64) -> Result<Term, Memory> {
+    let mut made = Term::Var(x);
+    for _level in 0..count {
+        let mut args = Terms::new(alloc);
+        args.push(made)?;
+        made = Term::App(NameId::new(6), args);
+    }
+    Ok(made)
+}

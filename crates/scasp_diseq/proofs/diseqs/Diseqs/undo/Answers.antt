@@ -7,5 +7,5 @@ use Rattle.scasp_diseq.proofs.diseqs.Diseqs.undo.Goals as goal
 pub returns-then-mark-len : goal.returns-then-mark-len
 returns-then-mark-len c =
     ap cons_of c.rewind.ensures.items
-    ∙ sym (take-map (λ (p : Posted). p.con) c.args.mark c.self.inside.posted.items)
-    ∙ ap (take c.args.mark) c.self.view_is
+    ∙ sym (take-map (λ (p : Posted). p.con) c.mark.inside.posted c.self.inside.posted.items)
+    ∙ ap (take c.mark.inside.posted) c.self.view_is ∙ ap (λ n. take n c.args.self.now) c.mark.view_is
