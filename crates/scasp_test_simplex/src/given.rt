@@ -1,0 +1,117 @@
+//! Rows as they are written, and a tableau beside the plain list of its rows.
+use scasp_num::{Op, Rat, RatPair, RatPairs, Row, Rows, Step, Steps};
+use scasp_rows::{LinErr, Verdict, is_false, step};
+use scasp_simplex::{TabMark, Tableau};
+use std::alloc::Global;
+use std::test::Fail;
+
+/// A row as it is written: its terms, its constant and how it compares.
+pub type Given = (&'static [(u64, i128)], i128, Op);
+
+/// What is answered.
+#[derive(Clone, Copy, PartialEq, Eq)]
+pub enum Wanted {
+    Sat,
+    Unsat,
+    Overflow,
+}
+
+/// A tableau, and the rows that it is to hold.
+#[derive(Drop)]
+pub struct Trial {
+    pub tableau: Tableau,
+    pub rows: Vec<Row>,
+    pub marks: Vec<TabMark>,
+}
+
+/// The row of terms that may repeat.
+pub fn row_of(alloc: Global, terms: &[(u64, i128)], constant: i128, op: Op) -> Result<Row, Fail> {
+    let mut pairs = RatPairs::new(alloc);
+    for (x, c) in terms {
+        let value = Rat::new(*c, 1)?;
+        pairs.push(RatPair { x: *x, value })?;
+    }
+    let constant = Rat::new(constant, 1)?;
+    Ok(Row::normal(alloc, &pairs, &constant, op)?)
+}
+
+impl Trial {
+    pub fn new(alloc: Global) -> Trial {
+        Trial {
+            tableau: Tableau::new(alloc),
+            rows: Vec::new(alloc),
+            marks: Vec::new(alloc),
+        }
+    }
+
+    /// Pushes the row onto both.
+    pub fn push(&mut self, row: Row) -> Result<(), Fail> {
+        if row.op().is_disequation() {
+            return Err(Fail::from("a disequation"));
+        }
+        self.tableau.push_row(&row)?;
+        self.rows.push(row)?;
+        Ok(())
+    }
+
+    pub fn mark(&mut self) -> Result<(), Fail> {
+        self.marks.push(self.tableau.mark())?;
+        Ok(())
+    }
+
+    /// Undoes both to the mark.
+    pub fn undo(&mut self, mark: TabMark) {
+        self.tableau.undo(mark);
+        self.rows.truncate(mark.rows as usize);
+    }
+
+    /// What the tableau answers; none where its steps are refused.
+    pub fn decided(&mut self, alloc: Global) -> Result<Option<Wanted>, Fail> {
+        match self.tableau.decide() {
+            Ok(Verdict::Sat) => Ok(Some(Wanted::Sat)),
+            Ok(Verdict::Unsat(steps)) => {
+                let is_shown = is_shown(alloc, self.rows.as_slice(), &steps)?;
+                Ok(is_shown.then_some(Wanted::Unsat))
+            }
+            Err(LinErr::Overflow) => Ok(Some(Wanted::Overflow)),
+            Err(LinErr::Memory) => Ok(None),
+        }
+    }
+}
+
+/// The row with this number, counted from 1.
+fn numbered(rows: &[Row], number: u64) -> Option<&Row> {
+    rows.get(number.checked_sub(1)? as usize)
+}
+
+/// The row that a step makes.
+fn made(alloc: Global, rows: &[Row], next: &Step) -> Option<Row> {
+    let first = numbered(rows, next.p)?;
+    let second = numbered(rows, next.q)?;
+    step(alloc, next.a, first, next.b, second).ok()
+}
+
+/// Whether all steps make rows, and one of these is a false constant row, as a hint of the rows has to.
+fn is_shown(alloc: Global, rows: &[Row], steps: &Steps) -> Result<bool, Fail> {
+    let mut all = copies(alloc, rows)?;
+    let mut is_reached = false;
+    for next in steps.as_slice() {
+        match made(alloc, all.as_slice(), next) {
+            Some(row) => {
+                is_reached = is_reached || is_false(&row);
+                all.push(row)?;
+            }
+            None => return Ok(false),
+        }
+    }
+    Ok(is_reached)
+}
+
+/// The rows as `eliminate` takes them.
+pub fn copies(alloc: Global, rows: &[Row]) -> Result<Rows, Fail> {
+    let mut all = Rows::new(alloc);
+    for row in rows {
+        all.push(row.clone()?)?;
+    }
+    Ok(all)
+}
