@@ -1,0 +1,8 @@
+use Rattle.std.proofs.Common.{◌≡◌, ◌++◌, ◌∷◌, ◌+◌, ◌≤◌, [], Some, drop, map, filter}
+use Rattle.std.specs.List.{list_any, sum_by}
+use Rattle.scasp_project.specs.Choices.{part_count}
+use Rattle.scasp_project.specs.Inside.CodeReading.{numbers_of, reading}
+use Rattle.scasp_project.proofs.choices.has_many_parts.Given as goal
+
+abbrev pub invariant-loop-constraint : goal.invariant-loop-constraint
+invariant-loop-constraint l = (l.count ≤ 6) × (l.count + sum_by (part_count (reading l.resolver l.keep)) (drop l.constraint-index l.constraints) ≡ sum_by (part_count (reading l.resolver l.keep)) l.constraints)

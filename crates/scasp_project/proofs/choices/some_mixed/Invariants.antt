@@ -1,0 +1,9 @@
+use Rattle.std.proofs.Common.{◌≡◌, ◌++◌, ◌∷◌, ◌+◌, ◌≤◌, [], Some, drop, map, filter}
+use Rattle.std.specs.List.{list_any, sum_by}
+use Rattle.scasp_unify.specs.Solving.{part_of}
+use Rattle.scasp_project.specs.Choices.{is_mixed}
+use Rattle.scasp_project.specs.Inside.CodeReading.{numbers_of, reading}
+use Rattle.scasp_project.proofs.choices.some_mixed.Given as goal
+
+abbrev pub invariant-loop-part : goal.invariant-loop-part
+invariant-loop-part l = list_any (is_mixed (reading l.resolver l.keep)) (map part_of (drop l.part-index l.parts)) ≡ list_any (is_mixed (reading l.resolver l.keep)) (map part_of l.parts)

@@ -1,0 +1,8 @@
+use Rattle.std.proofs.Common.{◌≡◌, ◌++◌, ◌∷◌, ◌+◌, ◌≤◌, [], Some, drop, map, filter}
+use Rattle.std.specs.List.{list_any, sum_by}
+use Rattle.scasp_project.specs.Dropped.{is_dropped_number}
+use Rattle.scasp_project.specs.Inside.CodeReading.{numbers_of, reading}
+use Rattle.scasp_project.proofs.dropped.has_dropped_number.Given as goal
+
+abbrev pub invariant-loop-x : goal.invariant-loop-x
+invariant-loop-x l = list_any (is_dropped_number (reading l.resolver l.keep)) (drop l.x-index l.variables) ≡ list_any (is_dropped_number (reading l.resolver l.keep)) l.variables

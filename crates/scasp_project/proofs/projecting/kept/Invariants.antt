@@ -1,0 +1,7 @@
+use Rattle.std.proofs.Common.{◌≡◌, ◌++◌, ◌∷◌, ◌+◌, ◌≤◌, [], Some, drop, map, filter}
+use Rattle.scasp_project.specs.Projection.{kept}
+use Rattle.scasp_project.specs.Inside.CodeReading.{numbers_of, reading}
+use Rattle.scasp_project.proofs.projecting.kept.Given as goal
+
+abbrev pub invariant-loop-constraint : goal.invariant-loop-constraint
+invariant-loop-constraint l = l.left ++ kept (reading l.resolver l.keep) (drop l.constraint-index l.constraints) ≡ kept (reading l.resolver l.keep) l.constraints

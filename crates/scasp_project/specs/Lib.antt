@@ -1,0 +1,6 @@
+pub mod Choices
+pub mod Dropped
+pub mod Inside
+pub mod LeftRows
+pub mod Meaning
+pub mod Projection
