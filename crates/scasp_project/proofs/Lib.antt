@@ -1,7 +1,10 @@
+pub mod BackLaw
 pub mod ExtendLemmas
 pub mod ForwardLemmas
 pub mod KeptLemmas
 pub mod MetLaw
+pub mod OpenParts
 pub mod PlainLemmas
 pub mod RowLaw
+pub mod SourceLemmas
 pub mod VariableWalk

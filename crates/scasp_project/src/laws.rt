@@ -10,6 +10,7 @@ ghost use Rattle.scasp_project.specs.declared.projecting.Projected.TheVariants a
 ghost use Rattle.scasp_project.specs.Meaning.{Extends, IsNoEquation, MeetsOne};
 ghost use Rattle.scasp_project.specs.Projection.{projection};
 ghost use Rattle.scasp_syntax.specs.Values.{Valuation};
+ghost use Rattle.scasp_unify.specs.Sorted.{Sorted};
 ghost use Rattle.scasp_syntax.specs.declared.con.Con.{Con as ThisCon};
 ghost use Rattle.scasp_rows.specs.Points.{MeetsAll, NoDisequation, RationalPoint};
 
@@ -22,7 +23,8 @@ pub fn rows_are_projected()
     ensures denied { (keep : List ℕ) (rows : List Linear) (v : RationalPoint) → NoDisequation rows → rows_left (elimination_of keep rows) ≡ Err ends.Unsat → ¬ MeetsAll v rows }
 {}
 
-/// A valuation of the kept variables that can be extended to one which meets the list meets one of the alternatives.
-pub fn projections_are_met()
-    ensures { (cs : List ThisCon) (keep : List ℕ) (lists : List (List ThisCon)) → RowsNormal cs → Each IsNoEquation cs → projection cs keep ≡ Some (answers.Alternatives lists) → (v : Valuation) → Extends keep v cs → MeetsOne v.of lists }
+/// Of a sorted list without equations: a valuation of the kept variables can be extended to one that meets the list
+/// exactly where it meets one of the alternatives.
+pub fn projections_mean()
+    ensures { (cs : List ThisCon) (keep : List ℕ) (lists : List (List ThisCon)) → RowsNormal cs → Each IsNoEquation cs → Sorted cs → projection cs keep ≡ Some (answers.Alternatives lists) → (v : Valuation) → Extends keep v cs ↔ MeetsOne v.of lists }
 {}

@@ -1,14 +1,15 @@
 //! The projection of a list of constraints.
-ghost use Rattle.std.specs.Prelude.{◌≡◌, ◌++◌, [], ◌∷◌, IfOk, filter, option_copied, option_to_list};
+ghost use Rattle.std.specs.Prelude.{◌≡◌, ◌↔◌, ◌++◌, [], ◌∷◌, IfOk, filter, option_copied, option_to_list};
 ghost use Rattle.std.specs.List.{list_any};
 ghost use Rattle.scasp_hint.specs.AskedRows.{RowsNormal, given_rows, inequalities};
 ghost use Rattle.scasp_hint.specs.Finding.{found};
 ghost use Rattle.scasp_list.specs.Each.{Each};
 ghost use Rattle.scasp_num.specs.Linear.{Gives};
 ghost use Rattle.scasp_num.specs.SameRow.{same_row};
-ghost use Rattle.scasp_syntax.specs.Constraints.{Sat};
 ghost use Rattle.scasp_syntax.specs.Values.{Valuation};
 ghost use Rattle.scasp_syntax.specs.declared.con.Con.TheVariants as con;
+ghost use Rattle.scasp_unify.specs.Sorted.{Sorted};
+ghost use Rattle.scasp_project.specs.Meaning.{Extends, IfAlternatives, IsNoEquation, MeetsOne};
 ghost use Rattle.scasp_unify.specs.ResolvedLists.{ResolvesList};
 ghost use Rattle.scasp_project.specs.Inside.CodeReading.{reading};
 ghost use Rattle.scasp_project.specs.Projection.{Projects, all_kept, alternatives, asked_kept, choice_kept, is_new, kept, projected_by, projection, remaining, stays};
@@ -42,6 +43,17 @@ fn given_row(constraint: &Con) -> Option<&Row>
         Con::Row(row) => Some(row),
         Con::Eq(_, _) | Con::Neq(_, _) | Con::NotShape(_, _, _) | Con::Num(_) | Con::NotNum(_) => {
             None
+        }
+    }
+}
+
+/// Reads each row of the list: what is read of a row tells that it is in normal form.
+fn read_rows(constraints: &[Con])
+    ensures { RowsNormal constraints.now }
+{
+    for constraint in constraints {
+        if let Some(row) = given_row(constraint) {
+            let _op = row.op();
         }
     }
 }
@@ -236,9 +248,12 @@ fn projection(
 /// is asked for a valuation.
 pub fn project(constraints: &Cons, keep: &VarList) -> Result<Projected, LinErr>
     ensures exact { Projects result (projection constraints.now keep.now) }
+    ensures extends { IfOk result (λ answer. IfAlternatives answer (λ lists. Each IsNoEquation constraints.now → Sorted constraints.now
+        → (v : Valuation) → Extends keep.now v constraints.now ↔ MeetsOne v.of lists)) }
 {
     let alloc = constraints.allocator();
     let list = constraints.as_slice();
+    read_rows(list);
     let resolver = match resolver_of(alloc, list) {
         Ok(resolver) => resolver,
         Err(_) => return Err(LinErr::Memory),
