@@ -53,7 +53,7 @@ const E: Sort = Sort::Existential;
 
 const U: Sort = Sort::Universal;
 
-const ROWS: [&[Step]; 16] = [
+const ROWS: [&[Step]; 14] = [
     // bound inside a term, and undone
     &[
         Step::Fresh(2, E, 2),
@@ -184,18 +184,6 @@ const ROWS: [&[Step]; 16] = [
         Step::Ask(Question::Occurs(3, 0, true)),
         Step::Ask(Question::Occurs(1, 0, false)),
     ],
-    // a long chain; from all its parts together it is passed once
-    &[
-        Step::Fresh(100_001, E, 2),
-        Step::Mark,
-        Step::Chain(100_000),
-        Step::Ask(Question::Gives(0, Shape::V(100_000))),
-        Step::Ask(Question::GivesEach(100_000)),
-        Step::Ask(Question::Occurs(100_000, 0, true)),
-        Step::Ask(Question::Occurs(50_000, 0, false)),
-        Step::Undo(0),
-        Step::Ask(Question::Gives(0, Shape::V(0))),
-    ],
     // a chain to a name, from its end on
     &[
         Step::Fresh(502, E, 2),
@@ -229,22 +217,6 @@ const ROWS: [&[Step]; 16] = [
             ),
         )),
     ],
-    // a deep term: bound, with depths lowered through it, resolved, searched, undone
-    &[
-        Step::Fresh(1, E, 1),
-        Step::Fresh(2, E, 3),
-        Step::Mark,
-        Step::BindNested(0, 1, 50_000),
-        Step::Ask(Question::Depth(1, 1)),
-        Step::Ask(Question::Depth(2, 3)),
-        Step::Bind(1, Shape::V(2)),
-        Step::Ask(Question::GivesNested(0, 2, 50_000)),
-        Step::Ask(Question::Occurs(2, 0, true)),
-        Step::Ask(Question::Occurs(1, 0, false)),
-        Step::Undo(0),
-        Step::Ask(Question::Gives(0, Shape::V(0))),
-        Step::Ask(Question::Depth(1, 3)),
-    ],
     // nested marks, undone in steps and at once
     &[
         Step::Fresh(1_001, E, 2),
@@ -261,7 +233,38 @@ const ROWS: [&[Step]; 16] = [
     ],
 ];
 
+/// A long chain; from all its parts together it is passed once.
+const LONG_CHAIN: &[Step] = &[
+    Step::Fresh(100_001, E, 2),
+    Step::Mark,
+    Step::Chain(100_000),
+    Step::Ask(Question::Gives(0, Shape::V(100_000))),
+    Step::Ask(Question::GivesEach(100_000)),
+    Step::Ask(Question::Occurs(100_000, 0, true)),
+    Step::Ask(Question::Occurs(50_000, 0, false)),
+    Step::Undo(0),
+    Step::Ask(Question::Gives(0, Shape::V(0))),
+];
+
+/// A deep term: bound, with depths lowered through it, resolved, searched, undone.
+const DEEP_TERM: &[Step] = &[
+    Step::Fresh(1, E, 1),
+    Step::Fresh(2, E, 3),
+    Step::Mark,
+    Step::BindNested(0, 1, 50_000),
+    Step::Ask(Question::Depth(1, 1)),
+    Step::Ask(Question::Depth(2, 3)),
+    Step::Bind(1, Shape::V(2)),
+    Step::Ask(Question::GivesNested(0, 2, 50_000)),
+    Step::Ask(Question::Occurs(2, 0, true)),
+    Step::Ask(Question::Occurs(1, 0, false)),
+    Step::Undo(0),
+    Step::Ask(Question::Gives(0, Shape::V(0))),
+    Step::Ask(Question::Depth(1, 3)),
+];
+
 /// Bindings, and marks of them.
+#[derive(Drop)]
 struct Trial {
     bindings: Bindings,
     marks: Vec<BindMark>,
@@ -498,5 +501,17 @@ fn rows(rt: HostRuntime) -> Result<(), Fail> {
     for steps in &ROWS {
         test_row(&rt, rt.alloc(), steps)?;
     }
+    Ok(())
+}
+
+#[test]
+fn long_chain(rt: HostRuntime) -> Result<(), Fail> {
+    test_row(&rt, rt.alloc(), LONG_CHAIN)?;
+    Ok(())
+}
+
+#[test]
+fn deep_term(rt: HostRuntime) -> Result<(), Fail> {
+    test_row(&rt, rt.alloc(), DEEP_TERM)?;
     Ok(())
 }

@@ -294,6 +294,7 @@ fn test_many(rt: &impl Abort, diseqs: &Diseqs, x: u64, want: usize) -> Result<()
 }
 
 /// Disequations, and marks of them.
+#[derive(Drop)]
 struct Trial {
     diseqs: Diseqs,
     marks: Vec<DiseqMark>,
