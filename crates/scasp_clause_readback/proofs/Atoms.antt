@@ -1,12 +1,11 @@
 -- Atoms and literals are read back.
-use Rattle.std.proofs.Common.{◌≡◌, ℕ, ◌+◌, ◌<◌, Bool, true, false, not, ◌&&◌, nat_lt, List, [], ◌∷◌, ◌++◌, length, codes, Option, None, Some, Result, Ok, Err, refl, sym, ap, subst, ◌∙◌, arith, append_assoc, length-append}
-use Rattle.std.specs.Prelude.{if◌then◌else◌, is_some}
+use Rattle.std.proofs.Common.{◌≡◌, ℕ, ◌+◌, Bool, true, false, not, ◌&&◌, nat_lt, List, [], ◌∷◌, ◌++◌, length, codes, Option, None, Some, Ok, refl, sym, ap, subst, ◌∙◌, arith, length-append}
+use Rattle.std.specs.Prelude.{if◌then◌else◌}
 use Rattle.std.proofs.lemmas.Bool.{and_parts, false≢true}
 use Rattle.scasp_name.specs.Texts.{with_text}
-use Rattle.scasp_syntax.specs.Tm.{Tm, Tms, items, listed}
+use Rattle.scasp_syntax.specs.Tm.{Tm, items, listed}
 use Rattle.scasp_syntax.specs.declared.atom.Atom.{Atom}
 use Rattle.scasp_syntax.specs.declared.atom.Lit.{Lit}
-use Rattle.scasp_syntax.specs.declared.clause.Item.{Item}
 use Rattle.scasp_syntax.specs.declared.clause.Item.TheVariants as form
 use Rattle.scasp_syntax.proofs.TermLemmas.{listed-items}
 use Rattle.scasp_lexis.specs.declared.sign.Sign.TheVariants as sign
@@ -16,12 +15,12 @@ use Rattle.scasp_lexis.specs.declared.token.Token.TheVariants as token
 use Rattle.scasp_lexis.specs.Tokens.{placed, tokens_behind}
 use Rattle.scasp_cert.specs.Text.Names.{text_at, name_text}
 use Rattle.scasp_cert.specs.Text.Terms.{minus_text}
-use Rattle.scasp_phrase.specs.Steps.{State, Read, token_of, is_sign}
+use Rattle.scasp_phrase.specs.Steps.{State, token_of}
 use Rattle.scasp_phrase.specs.Names.{place_in}
 use Rattle.scasp_phrase.specs.Terms.{term, below, arguments}
 use Rattle.scasp_body.specs.declared.atoms.TheConstants.{DEPTH_LIMIT}
 use Rattle.scasp_body.specs.Atoms.{reserved, is_reserved, atom_of, named_atom, atom}
-use Rattle.scasp_body.specs.Items.{call_of, equation_sign, relation, named_item, literal, negative_item, item}
+use Rattle.scasp_body.specs.Items.{call_of, equation_sign, relation, named_item, literal, item}
 use Rattle.scasp_listing.specs.Terms.{Style, atom_text, lit_text}
 use Rattle.scasp_readback.proofs.SignReading.{not_read, blank_read}
 use Rattle.scasp_term_readback.specs.Reading.{before, behind_term, EndsTerm}

@@ -1,17 +1,15 @@
 -- Bodies are read back, up to their stop.
-use Rattle.std.proofs.Common.{◌≡◌, ℕ, suc, ◌+◌, ◌-◌, ◌<◌, ◌≤◌, Bool, true, false, ◌&&◌, nat_lt, List, [], ◌∷◌, ◌++◌, map, length, codes, None, Some, Ok, refl, sym, ap, subst, ◌∙◌, arith, append_assoc, length-append}
+use Rattle.std.proofs.Common.{◌≡◌, ℕ, suc, ◌+◌, ◌-◌, ◌<◌, ◌≤◌, true, false, nat_lt, List, [], ◌∷◌, ◌++◌, map, length, Some, Ok, refl, ap, ◌∙◌, arith, append_assoc, length-append}
 use Rattle.std.specs.Prelude.{nat_le}
 use Rattle.std.specs.List.{list_all}
 use Rattle.std.proofs.lemmas.Bool.{and_parts, false≢true}
 use Rattle.std.proofs.lemmas.Bool.Decides.{nat_tests}
-use Rattle.scasp_num.specs.Arithmetic.{◌>>=◌}
 use Rattle.scasp_syntax.specs.Flat.{flat_after, flat_body, number_test, unseen}
 use Rattle.scasp_syntax.specs.declared.clause.Item.{Item}
 use Rattle.scasp_syntax.specs.declared.clause.Item.TheVariants as form
 use Rattle.scasp_syntax.specs.declared.clause.FlatItem.TheVariants as flat
 use Rattle.scasp_syntax.specs.declared.con.Con.TheVariants as con
 use Rattle.scasp_lexis.specs.declared.sign.Sign.TheVariants as sign
-use Rattle.scasp_lexis.specs.declared.token.Placed.{Placed}
 use Rattle.scasp_lexis.specs.declared.token.Token.TheVariants as token
 use Rattle.scasp_lexis.specs.Tokens.{placed, tokens_behind}
 use Rattle.scasp_phrase.specs.Steps.{State, series, token_of, is_sign}

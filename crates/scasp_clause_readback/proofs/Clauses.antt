@@ -1,11 +1,10 @@
 -- Facts, rules and denials are read back.
-use Rattle.std.proofs.Common.{◌≡◌, ℕ, suc, ◌+◌, ◌≤◌, Bool, true, false, ◌&&◌, ◌==◌, List, [], ◌∷◌, ◌++◌, length, take, codes, Option, None, Some, Ok, refl, sym, ap, subst, ◌∙◌, arith, append_assoc, append-nil, length-append}
+use Rattle.std.proofs.Common.{◌≡◌, ℕ, ◌+◌, ◌≤◌, true, false, ◌&&◌, List, [], ◌∷◌, ◌++◌, length, take, codes, Option, None, Some, Ok, refl, sym, ap, subst, ◌∙◌, arith, append_assoc, append-nil, length-append}
 use Rattle.std.specs.Prelude.{nat_le}
 use Rattle.std.proofs.lemmas.Bool.{and_parts, false≢true}
 use Rattle.std.proofs.lemmas.Bool.Decides.{nat_tests}
 use Rattle.std.proofs.lemmas.List.{take_all}
 use borrow.Author.Tests.{eqb-true}
-use Rattle.scasp_num.specs.Arithmetic.{◌>>=◌}
 use Rattle.scasp_syntax.specs.declared.atom.Atom.{Atom}
 use Rattle.scasp_syntax.specs.declared.clause.Clause.{Clause}
 use Rattle.scasp_syntax.specs.declared.clause.Item.{Item}
@@ -32,7 +31,7 @@ use Rattle.scasp_compound_readback.specs.Reading.{had}
 use Rattle.scasp_compound_readback.proofs.Terms.{bind-parts}
 use Rattle.scasp_clause_readback.specs.Fitting.{atom_fits, body_fits}
 use Rattle.scasp_clause_readback.specs.Counting.{count_body}
-use Rattle.scasp_clause_readback.specs.Parts.{is_count, rule_style, parts_fit, count_head, count_parts, clause_fits, in_table, behind_part, ReadsPart}
+use Rattle.scasp_clause_readback.specs.Parts.{is_count, rule_style, parts_fit, count_parts, clause_fits, in_table, behind_part, ReadsPart}
 use Rattle.scasp_clause_readback.proofs.Atoms.{atom-read, atom-front}
 use Rattle.scasp_clause_readback.proofs.Bodies.{body-read}
 use Rattle.scasp_clause_readback.proofs.RuleVariables.{length-rule, rule-style}

@@ -1,8 +1,7 @@
 -- Equations and disequations are read back.
-use Rattle.std.proofs.Common.{◌≡◌, ℕ, ◌+◌, ◌-◌, Bool, true, false, ◌&&◌, ◌==◌, nat_lt, List, [], ◌∷◌, ◌++◌, length, codes, Option, None, Some, Ok, refl, sym, ap, subst, ◌∙◌, arith, append_assoc, length-append}
-use Rattle.std.specs.Prelude.{if◌then◌else◌, is_some}
+use Rattle.std.proofs.Common.{◌≡◌, ℕ, ◌+◌, ◌-◌, Bool, true, false, ◌&&◌, ◌==◌, nat_lt, List, [], ◌∷◌, ◌++◌, length, codes, Option, Some, Ok, refl, sym, ap, subst, ◌∙◌, arith, append_assoc, length-append}
+use Rattle.std.specs.Prelude.{if◌then◌else◌}
 use Rattle.std.proofs.lemmas.Bool.{and_parts}
-use Rattle.scasp_num.specs.Arithmetic.{◌>>=◌}
 use Rattle.scasp_num.specs.Number.{Number}
 use Rattle.scasp_name.specs.Texts.{with_text}
 use Rattle.scasp_syntax.specs.Tm.{Tm, Tms, var, num, app, nil, cons, items, listed}
@@ -13,8 +12,8 @@ use Rattle.scasp_lexis.specs.declared.token.Placed.{Placed}
 use Rattle.scasp_lexis.specs.declared.token.Token.TheVariants as token
 use Rattle.scasp_lexis.specs.Tokens.{placed, tokens_behind}
 use Rattle.scasp_cert.specs.Text.Names.{text_at, name_text}
-use Rattle.scasp_cert.specs.Text.Terms.{number_text, is_pair}
-use Rattle.scasp_phrase.specs.Steps.{State, token_of, is_operand_sign}
+use Rattle.scasp_cert.specs.Text.Terms.{is_pair}
+use Rattle.scasp_phrase.specs.Steps.{State, is_operand_sign}
 use Rattle.scasp_phrase.specs.Names.{place_in}
 use Rattle.scasp_phrase.specs.Terms.{term, below, arguments}
 use Rattle.scasp_body.specs.declared.atoms.TheConstants.{DEPTH_LIMIT}
@@ -25,11 +24,11 @@ use Rattle.scasp_readback.proofs.VariableReading.{variable-read}
 use Rattle.scasp_term_readback.specs.Reading.{before, behind_term, EndsTerm}
 use Rattle.scasp_term_readback.proofs.Ends.{equal_ends, differ_ends}
 use Rattle.scasp_compound_readback.specs.Styles.{IsStyle}
-use Rattle.scasp_compound_readback.specs.Fitting.{number_fits, fits, all_fit, pair_fits, call_fits}
-use Rattle.scasp_compound_readback.specs.Counting.{count, count_all}
+use Rattle.scasp_compound_readback.specs.Fitting.{fits, pair_fits}
+use Rattle.scasp_compound_readback.specs.Counting.{count}
 use Rattle.scasp_compound_readback.specs.Reading.{had, Reads}
 use Rattle.scasp_compound_readback.proofs.Tables.{name-place, name-there, variable-is}
-use Rattle.scasp_compound_readback.proofs.Tokens.{digits_token, Forms, by-number}
+use Rattle.scasp_compound_readback.proofs.Tokens.{digits_token, by-number}
 use Rattle.scasp_compound_readback.proofs.Terms.{bind-parts, term-read}
 use Rattle.scasp_clause_readback.specs.Fitting.{arguments_fit}
 use Rattle.scasp_clause_readback.specs.Counting.{count_both}

@@ -1,5 +1,5 @@
 -- How many tokens an item has at least, and what ends the items of a body.
-use Rattle.std.proofs.Common.{◌≡◌, ℕ, ◌+◌, ◌-◌, Bool, true, false, not, ◌&&◌, nat_lt, List, [], ◌∷◌, ◌++◌, length, codes, None, Some, refl, sym, ap, subst, ◌∙◌, arith, append_assoc}
+use Rattle.std.proofs.Common.{◌≡◌, ℕ, ◌+◌, Bool, true, false, not, ◌&&◌, nat_lt, List, [], ◌∷◌, ◌++◌, length, codes, ap, ◌∙◌, arith}
 use Rattle.std.specs.Prelude.{if◌then◌else◌}
 use Rattle.std.proofs.lemmas.Bool.{and_parts, false≢true}
 use Rattle.scasp_syntax.specs.Tm.{Tm, Tms, nil, cons, items}
@@ -26,7 +26,7 @@ use Rattle.scasp_term_readback.proofs.Ends.{comma_ends, stop_ends}
 use Rattle.scasp_compound_readback.specs.Styles.{IsStyle}
 use Rattle.scasp_compound_readback.specs.Fitting.{fits}
 use Rattle.scasp_compound_readback.proofs.Tables.{name-utf8}
-use Rattle.scasp_compound_readback.proofs.Tokens.{Has, has-append, has-fewer, has-none, has-token, name-has}
+use Rattle.scasp_compound_readback.proofs.Tokens.{Has, has-append, has-fewer, has-token, name-has}
 use Rattle.scasp_compound_readback.proofs.TermTokens.{call-parts, term-has, called-has}
 use Rattle.scasp_clause_readback.specs.Fitting.{arguments_fit, atom_fits, item_fits}
 use Rattle.scasp_clause_readback.specs.Reading.{EndsItem}

@@ -8,4 +8,5 @@ pub mod RuleVariables
 pub mod Clauses
 pub mod Queries
 pub mod PartTokens
+pub mod Denials
 pub mod Texts

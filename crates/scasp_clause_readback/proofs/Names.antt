@@ -1,9 +1,8 @@
 -- A name with its arguments, from its tokens on.
-use Rattle.std.proofs.Common.{◌≡◌, ℕ, ◌+◌, ◌-◌, ◌<◌, ◌≤◌, Bool, true, false, not, ◌&&◌, ◌==◌, nat_lt, List, [], ◌∷◌, ◌++◌, length, codes, Option, None, Some, Result, Ok, Err, refl, sym, ap, ◌∙◌, arith, append_assoc, length-append, flat_map}
+use Rattle.std.proofs.Common.{◌≡◌, ℕ, ◌+◌, ◌-◌, ◌<◌, ◌≤◌, Bool, true, false, ◌&&◌, ◌==◌, nat_lt, List, [], ◌∷◌, ◌++◌, length, codes, Option, Some, Ok, refl, sym, ap, ◌∙◌, arith, append_assoc, length-append, flat_map}
 use Rattle.std.specs.Prelude.{if◌then◌else◌, nat_le}
 use Rattle.std.specs.Char.{is_ascii_lowercase}
 use Rattle.std.specs.List.{list_all}
-use Rattle.std.specs.Str.{IsUtf8}
 use Rattle.std.proofs.lemmas.Bool.{and_parts, false≢true}
 use Rattle.std.proofs.lemmas.Bool.Decides.{nat_tests}
 use Rattle.scasp_syntax.specs.Tm.{Tm, Tms, nil, cons, items}
@@ -17,11 +16,11 @@ use Rattle.scasp_phrase.specs.Steps.{State, Read, token_of, is_sign}
 use Rattle.scasp_phrase.specs.Terms.{term, below, arguments}
 use Rattle.scasp_phrase.proofs.TermLemmas.{below_some}
 use Rattle.scasp_body.specs.declared.atoms.TheConstants.{DEPTH_LIMIT}
-use Rattle.scasp_listing.specs.Terms.{Style, term_text, terms_text}
+use Rattle.scasp_listing.specs.Terms.{Style, terms_text}
 use Rattle.scasp_readback.specs.Endings.{ends_name}
 use Rattle.scasp_readback.proofs.NameReading.{name-read}
 use Rattle.scasp_readback.proofs.SignReading.{minus_read}
-use Rattle.scasp_term_readback.specs.Reading.{before, behind_term, EndsTerm}
+use Rattle.scasp_term_readback.specs.Reading.{behind_term, EndsTerm}
 use Rattle.scasp_compound_readback.specs.Styles.{IsStyle}
 use Rattle.scasp_compound_readback.specs.Fitting.{fits, all_fit}
 use Rattle.scasp_compound_readback.specs.Counting.{count_all}

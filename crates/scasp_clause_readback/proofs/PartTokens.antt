@@ -1,9 +1,8 @@
 -- With what a clause or a query begins, and how many tokens it has at least.
-use Rattle.std.proofs.Common.{◌≡◌, ℕ, ◌+◌, Bool, true, false, ◌&&◌, List, [], ◌∷◌, ◌++◌, length, codes, Option, None, Some, refl, sym, ap, subst, ◌∙◌, arith, append_assoc, append-nil}
+use Rattle.std.proofs.Common.{◌≡◌, ℕ, ◌+◌, true, false, List, [], ◌∷◌, ◌++◌, length, codes, Option, None, Some, sym, ap, subst, ◌∙◌, arith, append_assoc, append-nil}
 use Rattle.std.specs.Prelude.{nat_le}
 use Rattle.std.specs.List.{list_all}
 use Rattle.std.proofs.lemmas.Bool.{and_parts, false≢true}
-use Rattle.scasp_num.specs.Arithmetic.{◌>>=◌}
 use Rattle.scasp_syntax.specs.Flat.{flat_body}
 use Rattle.scasp_syntax.specs.declared.atom.Atom.{Atom}
 use Rattle.scasp_syntax.specs.declared.clause.Item.{Item}
@@ -15,9 +14,7 @@ use Rattle.scasp_phrase.specs.Steps.{token_of}
 use Rattle.scasp_body.specs.declared.bodies.TheConstants.{ITEM_LIMIT}
 use Rattle.scasp_listing.specs.Terms.{Style, atom_text}
 use Rattle.scasp_listing.specs.Items.{item_text, items_text}
-use Rattle.scasp_listing.specs.Programs.{head_text, body_text, sign_text}
 use Rattle.scasp_readback.proofs.SignReading.{comma_read, blank_read}
-use Rattle.scasp_term_readback.specs.Reading.{EndsTerm}
 use Rattle.scasp_term_readback.proofs.Ends.{stop_ends}
 use Rattle.scasp_compound_readback.specs.Styles.{IsStyle}
 use Rattle.scasp_compound_readback.specs.Counting.{count_all}

@@ -1,5 +1,5 @@
 -- Queries are read back.
-use Rattle.std.proofs.Common.{◌≡◌, ℕ, ◌+◌, ◌≤◌, Bool, true, false, not, ◌&&◌, nat_lt, List, [], ◌∷◌, ◌++◌, map, length, take, codes, Option, None, Some, Ok, refl, sym, ap, subst, ◌∙◌, arith, append_assoc, append-nil, length-append}
+use Rattle.std.proofs.Common.{◌≡◌, ℕ, ◌+◌, Bool, true, false, not, ◌&&◌, nat_lt, List, [], ◌∷◌, ◌++◌, map, length, take, codes, Option, None, Some, Ok, refl, sym, ap, subst, ◌∙◌, arith, append_assoc, append-nil, length-append}
 use Rattle.std.specs.List.{list_all}
 use Rattle.std.proofs.lemmas.Bool.{and_parts, false≢true}
 use Rattle.std.proofs.lemmas.List.{take_all, length-map}
@@ -11,11 +11,11 @@ use Rattle.scasp_lexis.specs.declared.token.Placed.{Placed}
 use Rattle.scasp_lexis.specs.declared.token.Token.TheVariants as token
 use Rattle.scasp_lexis.specs.Tokens.{placed, tokens_behind}
 use Rattle.scasp_cert.specs.Text.Names.{text_at}
-use Rattle.scasp_phrase.specs.Steps.{State, token_of}
+use Rattle.scasp_phrase.specs.Steps.{State}
 use Rattle.scasp_phrase.specs.Names.{place_in}
 use Rattle.scasp_body.specs.Bodies.{body}
 use Rattle.scasp_text.specs.declared.clauses.Part.TheVariants as part
-use Rattle.scasp_text.specs.Clauses.{named, query, clause_at, clause}
+use Rattle.scasp_text.specs.Clauses.{named, clause}
 use Rattle.scasp_listing.specs.Terms.{Style}
 use Rattle.scasp_listing.specs.Items.{items_text}
 use Rattle.scasp_listing.specs.Programs.{query_variable, query_text}

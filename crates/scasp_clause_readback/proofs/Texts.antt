@@ -1,14 +1,12 @@
 -- Whole texts are read back.
-use Rattle.std.proofs.Common.{◌≡◌, ℕ, zero, suc, ◌+◌, ◌-◌, ◌<◌, ◌≤◌, Bool, true, false, ◌&&◌, nat_lt, List, [], ◌∷◌, ◌++◌, map, length, codes, Option, None, Some, Ok, refl, sym, ap, subst, ◌∙◌, arith, append_assoc, append-nil, length-append}
+use Rattle.std.proofs.Common.{◌≡◌, ℕ, ◌+◌, ◌-◌, ◌<◌, ◌≤◌, true, false, ◌&&◌, nat_lt, List, [], ◌∷◌, ◌++◌, length, codes, None, Ok, refl, sym, ap, subst, ◌∙◌, arith, append_assoc, append-nil, length-append}
 use Rattle.std.specs.Prelude.{nat_le}
 use Rattle.std.specs.List.{list_all, flat_map}
 use Rattle.std.proofs.lemmas.Bool.{and_parts}
 use Rattle.std.proofs.lemmas.Bool.Decides.{nat_tests}
+use Rattle.scasp_syntax.specs.Denials.{with_denials}
 use Rattle.scasp_syntax.specs.declared.clause.Clause.{Clause}
 use Rattle.scasp_syntax.specs.declared.clause.Query.{Query}
-use Rattle.scasp_lexis.specs.declared.sign.Sign.TheVariants as sign
-use Rattle.scasp_lexis.specs.declared.token.Token.{Token}
-use Rattle.scasp_lexis.specs.declared.token.Token.TheVariants as token
 use Rattle.scasp_lexis.specs.Tokens.{tokens_behind, tokens_of}
 use Rattle.scasp_phrase.specs.Steps.{State, token_of, place_of}
 use Rattle.scasp_text.specs.declared.clauses.Part.{Part}
@@ -20,16 +18,15 @@ use Rattle.scasp_text.specs.Texts.{limited_clause, next_part, part_at, no_parts,
 use Rattle.scasp_text.proofs.PartLemmas.{parts_last, parts_more, parts-is}
 use Rattle.scasp_listing.specs.Terms.{Style}
 use Rattle.scasp_listing.specs.Items.{items_text}
-use Rattle.scasp_listing.specs.Programs.{clause_text, query_text}
-use Rattle.scasp_term_readback.specs.Reading.{before}
-use Rattle.scasp_compound_readback.specs.Styles.{are_variables, IsTable}
+use Rattle.scasp_program.specs.Programs.{completed, program_in}
+use Rattle.scasp_listing.specs.Programs.{clause_text, query_text, program_text}
+use Rattle.scasp_compound_readback.specs.Styles.{IsTable}
 use Rattle.scasp_compound_readback.proofs.Tokens.{Has}
-use Rattle.scasp_clause_readback.specs.Fitting.{body_fits}
-use Rattle.scasp_clause_readback.specs.Counting.{count_body}
-use Rattle.scasp_clause_readback.specs.Parts.{is_count, rule_style, query_style, name_fits, clause_fits, query_fits, behind_part, ReadsPart}
+use Rattle.scasp_clause_readback.specs.Parts.{rule_style, query_style, clause_fits, query_fits, ReadsPart}
 use Rattle.scasp_clause_readback.specs.Texts.{text_fits, reading}
 use Rattle.scasp_clause_readback.proofs.Clauses.{text_of, clause_text-is, clause-fit, clause-read}
 use Rattle.scasp_clause_readback.proofs.Queries.{query-tokens, query_text-is, query-fit, query-read}
+use Rattle.scasp_clause_readback.proofs.Denials.{written-is}
 use Rattle.scasp_clause_readback.proofs.PartTokens.{query-has, parts-have, parts-front}
 
 -- the reader between two parts of a text, in which no fault was noted
@@ -212,3 +209,14 @@ text-read names table cs qs g small =
   where
     fewer : (n : ℕ) → nat_le n CLAUSE_LIMIT ≡ true → n ≤ CLAUSE_LIMIT
     fewer n h = grind (arith, nat_tests)
+
+-- ---- programs
+
+pub program-read : (names : List (List ℕ)) (table : IsTable names) (cs : List Clause) (qs : List Query) → text_fits names cs qs ≡ true → length (program_text names (with_denials cs qs) qs) ≤ BYTE_LIMIT
+    → program_in names (program_text names (with_denials cs qs) qs) ≡ Ok (reading (with_denials cs qs) qs names)
+unfolding program_text
+program-read names table cs qs g small =
+    let text = λ (ws : List Clause). flat_map (clause_text names) ws ++ flat_map (query_text names) qs in
+    let same = written-is cs qs in
+    let fewer = subst (λ ws. length (text ws) ≤ BYTE_LIMIT) same small in
+    ap (λ ws. program_in names (text ws)) same ∙ ap completed (text-read names table cs qs g fewer)

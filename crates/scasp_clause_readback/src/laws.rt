@@ -1,5 +1,6 @@
 //! What is written of a clause is read back.
 ghost use Rattle.std.specs.Prelude.{◌≡◌, ℕ, true, List, ◌++◌, map, flat_map, length, ◌≤◌, codes, Some, Ok};
+ghost use Rattle.scasp_syntax.specs.Denials.{with_denials};
 ghost use Rattle.scasp_syntax.specs.declared.clause.Clause.{Clause};
 ghost use Rattle.scasp_syntax.specs.declared.clause.Item.{Item};
 ghost use Rattle.scasp_syntax.specs.declared.clause.Query.{Query};
@@ -10,9 +11,10 @@ ghost use Rattle.scasp_text.specs.declared.clauses.Part.TheVariants as part;
 ghost use Rattle.scasp_text.specs.declared.texts.TheConstants.{BYTE_LIMIT};
 ghost use Rattle.scasp_text.specs.Clauses.{clause};
 ghost use Rattle.scasp_text.specs.Texts.{read};
+ghost use Rattle.scasp_program.specs.Programs.{program_in};
 ghost use Rattle.scasp_listing.specs.Terms.{Style};
 ghost use Rattle.scasp_listing.specs.Items.{item_text, items_text};
-ghost use Rattle.scasp_listing.specs.Programs.{rule_variables, query_variable, clause_text, query_text};
+ghost use Rattle.scasp_listing.specs.Programs.{rule_variables, query_variable, clause_text, query_text, written, program_text};
 ghost use Rattle.scasp_compound_readback.specs.Styles.{IsTable, IsStyle};
 ghost use Rattle.scasp_compound_readback.specs.Reading.{Reads};
 ghost use Rattle.scasp_clause_readback.specs.Fitting.{item_fits, body_fits};
@@ -50,4 +52,12 @@ pub fn texts_are_read_back()
     ensures { (names : List (List ℕ)) (clauses : List Clause) (queries : List Query) → IsTable names → text_fits names clauses queries ≡ true
         → length (flat_map (clause_text names) clauses ++ flat_map (query_text names) queries) ≤ BYTE_LIMIT
         → read names (flat_map (clause_text names) clauses ++ flat_map (query_text names) queries) ≡ Ok (reading clauses queries names) }
+{}
+
+/// The text of a program with its generated denials, which leaves these out, is read as this program, where it is within the limit of bytes.
+pub fn programs_are_read_back()
+    ensures written { (clauses : List Clause) (queries : List Query) → written (with_denials clauses queries) queries ≡ clauses }
+    ensures read { (names : List (List ℕ)) (clauses : List Clause) (queries : List Query) → IsTable names → text_fits names clauses queries ≡ true
+        → length (program_text names (with_denials clauses queries) queries) ≤ BYTE_LIMIT
+        → program_in names (program_text names (with_denials clauses queries) queries) ≡ Ok (reading (with_denials clauses queries) queries names) }
 {}

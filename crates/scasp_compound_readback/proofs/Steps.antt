@@ -1,10 +1,9 @@
 -- Steps of the reader over brackets, arguments and elements.
-use Rattle.std.proofs.Common.{◌≡◌, ℕ, zero, suc, ◌+◌, ◌-◌, ◌<◌, Bool, true, false, ◌&&◌, List, [], ◌∷◌, ◌++◌, length, Option, None, Some, Result, Ok, Err, refl, sym, ap, ◌∙◌, arith}
+use Rattle.std.proofs.Common.{◌≡◌, ℕ, zero, suc, ◌-◌, ◌<◌, Bool, true, false, List, [], ◌∷◌, ◌++◌, length, Option, Some, Result, Ok, Err, refl, sym, ap, ◌∙◌, arith}
 use Rattle.std.specs.Prelude.{if◌then◌else◌, nat_le}
 use Rattle.std.proofs.lemmas.Bool.{false≢true}
 use Rattle.scasp_name.specs.Texts.{with_text}
 use Rattle.scasp_syntax.specs.Tm.{Tm, app, nil, listed}
-use Rattle.scasp_lexis.specs.declared.sign.Sign.{Sign}
 use Rattle.scasp_lexis.specs.declared.sign.Sign.TheVariants as sign
 use Rattle.scasp_lexis.specs.declared.token.Token.{Token}
 use Rattle.scasp_lexis.specs.declared.token.Token.TheVariants as token
@@ -12,9 +11,9 @@ use Rattle.scasp_lexis.specs.declared.token.Placed.{Placed}
 use Rattle.scasp_lexis.specs.Tokens.{placed}
 use Rattle.scasp_phrase.specs.declared.fault.Fault.{Fault}
 use Rattle.scasp_phrase.specs.declared.terms.TheConstants.{ARITY_LIMIT}
-use Rattle.scasp_phrase.specs.Steps.{State, Read, ◌>>=◌, then_read, give, token_of, is_sign, taken, between, series, unexpected_fault}
+use Rattle.scasp_phrase.specs.Steps.{State, Read, ◌>>=◌, give, token_of, is_sign, taken, between, series, unexpected_fault}
 use Rattle.scasp_phrase.specs.Names.{place_in}
-use Rattle.scasp_phrase.specs.Terms.{term, one_more, arguments, arguments_in, compound, elements, elements_if, list_in, list_of, term_at_sign}
+use Rattle.scasp_phrase.specs.Terms.{term, one_more, arguments, arguments_in, compound, elements_if, list_in, list_of, term_at_sign}
 use Rattle.scasp_phrase.proofs.TermLemmas.{term_sign}
 
 -- ---- the next token
