@@ -1,16 +1,15 @@
 -- The clauses that are written of a program with its generated denials are those in front of them.
-use Rattle.std.proofs.Common.{◌≡◌, ℕ, zero, suc, ◌+◌, ◌-◌, ◌≤◌, Bool, true, false, not, ◌&&◌, ◌||◌, ◌==◌, List, [], ◌∷◌, ◌++◌, map, filter, length, take, drop, refl, sym, ap, subst, ◌∙◌, arith, append_assoc, append-nil, length-append}
+use Rattle.std.proofs.Common.{◌≡◌, ℕ, zero, suc, ◌+◌, ◌-◌, ◌≤◌, Bool, true, false, not, ◌&&◌, ◌||◌, ◌==◌, List, [], ◌∷◌, ◌++◌, map, filter, length, take, drop, refl, sym, ap, ◌∙◌, arith, append_assoc, append-nil, length-append}
 use Rattle.std.specs.Prelude.{if◌then◌else◌}
 use Rattle.std.specs.List.{flat_map, list_any}
-use Rattle.std.proofs.lemmas.Bool.{and_parts, and_from, false≢true}
+use Rattle.std.proofs.lemmas.Bool.{and_from, false≢true}
 use Rattle.std.proofs.lemmas.Bool.Decides.{nat_tests}
 use Rattle.std.proofs.lemmas.Grind.{flat_map-append}
 use Rattle.std.proofs.lemmas.List.{length-map}
 use Rattle.std.proofs.lemmas.List.Elements.{filter-append}
-use Rattle.std.proofs.lemmas.List.{take_at, take-append-le}
 use Rattle.std.proofs.Math.Seq.{drop-append_seam, take-append_seam}
-use Rattle.scasp_syntax.specs.Denials.{variables_from, denial_of, generated_denials, with_denials}
-use Rattle.scasp_syntax.specs.Programs.{pred_of, clause_preds, body_preds, first_occurrences, predicates_in}
+use Rattle.scasp_syntax.specs.Denials.{variables_from, denial_of, with_denials}
+use Rattle.scasp_syntax.specs.Programs.{clause_preds, body_preds, first_occurrences}
 use Rattle.scasp_syntax.specs.Same.{same_pred, same_lit}
 use Rattle.scasp_syntax.specs.Tm.{items}
 use Rattle.scasp_syntax.specs.declared.atom.Lit.{Lit}

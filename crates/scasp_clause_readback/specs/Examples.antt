@@ -67,4 +67,3 @@ an_empty_denial = refl
 -- both variables have the name X
 one_name_twice : query_fits names (record query { names = Some 4 ∷ Some 4 ∷ [] }) ≡ false
 one_name_twice = refl
-
