@@ -1,10 +1,12 @@
 //! What is written of a clause is read back.
 ghost use Rattle.std.specs.Prelude.{◌≡◌, ℕ, true, List, ◌++◌, map, flat_map, length, ◌≤◌, codes, Some, Ok};
 ghost use Rattle.scasp_syntax.specs.Denials.{with_denials};
+ghost use Rattle.scasp_syntax.specs.declared.atom.Atom.{Atom};
 ghost use Rattle.scasp_syntax.specs.declared.clause.Clause.{Clause};
 ghost use Rattle.scasp_syntax.specs.declared.clause.Item.{Item};
 ghost use Rattle.scasp_syntax.specs.declared.clause.Query.{Query};
 ghost use Rattle.scasp_phrase.specs.Steps.{State};
+ghost use Rattle.scasp_body.specs.Atoms.{atom};
 ghost use Rattle.scasp_body.specs.Items.{item};
 ghost use Rattle.scasp_body.specs.Bodies.{body};
 ghost use Rattle.scasp_text.specs.declared.clauses.Part.TheVariants as part;
@@ -12,16 +14,30 @@ ghost use Rattle.scasp_text.specs.declared.texts.TheConstants.{BYTE_LIMIT};
 ghost use Rattle.scasp_text.specs.Clauses.{clause};
 ghost use Rattle.scasp_text.specs.Texts.{read};
 ghost use Rattle.scasp_program.specs.Programs.{program_in};
-ghost use Rattle.scasp_listing.specs.Terms.{Style};
+ghost use Rattle.scasp_listing.specs.Terms.{Style, atom_text};
 ghost use Rattle.scasp_listing.specs.Items.{item_text, items_text};
 ghost use Rattle.scasp_listing.specs.Programs.{rule_variables, query_variable, clause_text, query_text, written, program_text};
+ghost use Rattle.scasp_term_readback.specs.Reading.{EndsTerm};
 ghost use Rattle.scasp_compound_readback.specs.Styles.{IsTable, IsStyle};
+ghost use Rattle.scasp_compound_readback.specs.Counting.{count_all};
 ghost use Rattle.scasp_compound_readback.specs.Reading.{Reads};
-ghost use Rattle.scasp_clause_readback.specs.Fitting.{item_fits, body_fits};
+ghost use Rattle.scasp_clause_readback.specs.Fitting.{atom_fits, item_fits, body_fits};
 ghost use Rattle.scasp_clause_readback.specs.Counting.{count_item, count_body};
 ghost use Rattle.scasp_clause_readback.specs.Reading.{EndsItem};
 ghost use Rattle.scasp_clause_readback.specs.Parts.{clause_fits, query_fits, ReadsPart};
 ghost use Rattle.scasp_clause_readback.specs.Texts.{text_fits, reading};
+
+/// The text of an atom is read as this atom, with its sign and its arguments.
+pub fn atoms_are_read_back()
+    ensures { (w : Style) (a : Atom) (n m : ℕ) (s : State) (rest : List ℕ) → IsStyle w → atom_fits w a ≡ true → count_all w n a.args ≡ Some m → EndsTerm rest
+        → Reads w n m atom (atom_text w a) a s rest }
+{}
+
+/// What is written behind an item may stand there: a comma, or a stop at a line's end.
+pub fn ends_of_items_are_written()
+    ensures comma { (rest : List ℕ) → EndsItem (codes ", " ++ rest) }
+    ensures stop { (rest : List ℕ) → EndsItem (codes ".\n" ++ rest) }
+{}
 
 /// The text of an item is read as this item: a literal, an equation or a disequation.
 pub fn items_are_read_back()
