@@ -1,9 +1,9 @@
 //! Contexts of lines, pairs of lines and what shows them apart, by the numbers of the lines; what stands beside lines.
 use crate::made::{con, program};
-use crate::number_samples::{ABOVE, DENIAL};
-use crate::samples::{BOTH, CLOSED_ONLY, DEFAULT, FACT, FORALL, SHAPE_OR_VALUE, THROUGH_NEGATION};
+use crate::number_samples::DENIAL;
+use crate::samples::{BOTH, CLOSED_ONLY, FACT, FORALL, SHAPE_OR_VALUE, THROUGH_NEGATION};
 use crate::trees::certificate;
-use crate::written::Told::{Compares, Equal, HasNotShape, IsNot, Number};
+use crate::written::Told::{Equal, HasNotShape, IsNot};
 use crate::written::Written::{A, B, F, V};
 use crate::written::{Change, Sample, Told};
 use scasp_cert::{flat, lines, skeleton};
@@ -27,11 +27,6 @@ const CONTEXTS: &[(Sample, u64, Option<&[Told]>)] = &[
         4,
         Some(&[HasNotShape(0), Equal(V(0), F(1)), Equal(V(1), A)]),
     ),
-    (DEFAULT, 4, Some(&[IsNot(0, A), Equal(V(0), A)])),
-    (FORALL, 8, Some(&[IsNot(0, A), IsNot(0, B), Equal(V(0), A)])),
-    (FORALL, 12, Some(&[IsNot(0, A), Equal(V(0), B)])),
-    (FORALL, 15, Some(&[Equal(V(0), A)])),
-    (DENIAL, 13, Some(&[Number(V(0)), Compares(ABOVE)])),
 ];
 
 /// A sample, the numbers of two lines, and the list of their literals, if they are a pair.
@@ -98,7 +93,11 @@ fn same_cons(alloc: Global, made: &Cons, expected: &[Told]) -> Result<bool, Memo
     Ok(true)
 }
 
-fn same_list(alloc: Global, made: Option<Cons>, expected: Option<&[Told]>) -> Result<bool, Memory> {
+pub fn same_list(
+    alloc: Global,
+    made: Option<Cons>,
+    expected: Option<&[Told]>,
+) -> Result<bool, Memory> {
     match (made, expected) {
         (Some(list), Some(told)) => same_cons(alloc, &list, told),
         (None, None) => Ok(true),

@@ -13,6 +13,8 @@ mod ranges;
 #[cfg(test)]
 mod samples;
 #[cfg(test)]
+mod standing;
+#[cfg(test)]
 mod trees;
 #[cfg(test)]
 mod worked;

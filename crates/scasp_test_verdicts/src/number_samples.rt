@@ -12,7 +12,7 @@ use scasp_samples::{P, P_OF_C, Q, Q_OF_C, R};
 pub const ABOVE: Sum = Sum(&[(0, -2)], 3, Op::Lt);
 
 /// 2*V0-3 =< 0
-const AT_MOST: Sum = Sum(&[(0, 2)], -3, Op::Le);
+pub const AT_MOST: Sum = Sum(&[(0, 2)], -3, Op::Le);
 
 /// -2*V0+3 =< 0
 pub const AT_LEAST: Sum = Sum(&[(0, -2)], 3, Op::Le);
