@@ -45,13 +45,11 @@ fn shape(alloc: Global, variable: u128, cursor: &mut Cursor<'_>, names: &Names) 
 fn not_shape(alloc: Global, cursor: &mut Cursor<'_>, names: &Names) -> Result<Con, Stop>
     ensures { Reads (λ c. c) (spec.not_shape_at (place_in names.now) cursor.old) result cursor.new }
 {
-    match cursor.next() {
-        Some(Token::Variable(variable)) => {
-            cursor.take();
-            shape(alloc, variable, cursor, names)
-        }
-        _ => Err(Stop::NoForm),
-    }
+    let Some(Token::Variable(variable)) = cursor.next() else {
+        return Err(Stop::NoForm);
+    };
+    cursor.take();
+    shape(alloc, variable, cursor, names)
 }
 
 /// The shape that a variable has not which differs from a constant.

@@ -133,12 +133,10 @@ impl<'a> Cursor<'a> {
         ensures reads { Reads (λ n. n) (number_at self.old) result self.new }
         ensures shorter { IfOk result (λ n. length self.new < length self.old) }
     {
-        match self.next() {
-            Some(Token::Digits(number)) => {
-                self.take();
-                Ok(number)
-            }
-            _ => Err(Stop::NoForm),
-        }
+        let Some(Token::Digits(number)) = self.next() else {
+            return Err(Stop::NoForm);
+        };
+        self.take();
+        Ok(number)
     }
 }

@@ -29,26 +29,17 @@ pub fn is_same(first: Token<'_>, second: Token<'_>) -> bool
 fn is_word(text: &str, token: Token<'_>) -> bool
     ensures { result ≡ same_token (spec.word text.now) (token_of token.entry) }
 {
-    match token {
-        Token::Word(other) => text == other,
-        _ => false,
-    }
+    matches!(token, Token::Word(other) if text == other)
 }
 
 fn is_digits(number: u128, token: Token<'_>) -> bool
     ensures { result ≡ same_token (spec.digits number) (token_of token.entry) }
 {
-    match token {
-        Token::Digits(other) => number == other,
-        _ => false,
-    }
+    matches!(token, Token::Digits(other) if number == other)
 }
 
 fn is_sign(byte: u8, token: Token<'_>) -> bool
     ensures { result ≡ same_token (spec.sign byte) (token_of token.entry) }
 {
-    match token {
-        Token::Sign(other) => byte == other,
-        _ => false,
-    }
+    matches!(token, Token::Sign(other) if byte == other)
 }

@@ -18,13 +18,14 @@ fn negative(cursor: &mut Cursor<'_>) -> Result<i128, Stop>
     ensures value { Reads (λ z. z) (spec.integer_at (minus ∷ cursor.old)) result cursor.new }
     ensures shorter { IfOk result (λ z. length cursor.new < length cursor.old) }
 {
-    match cursor.next() {
-        Some(Token::Digits(size)) if size != 0 => {
-            cursor.take();
-            Ok(bounded_integer(true, size))
-        }
-        _ => Err(Stop::NoForm),
+    let Some(Token::Digits(size)) = cursor.next() else {
+        return Err(Stop::NoForm);
+    };
+    if size == 0 {
+        return Err(Stop::NoForm);
     }
+    cursor.take();
+    Ok(bounded_integer(true, size))
 }
 
 /// Takes an integer.
@@ -32,17 +33,12 @@ fn integer(cursor: &mut Cursor<'_>) -> Result<i128, Stop>
     ensures value { Reads (λ z. z) (spec.integer_at cursor.old) result cursor.new }
     ensures shorter { IfOk result (λ z. length cursor.new < length cursor.old) }
 {
-    match cursor.next() {
-        Some(Token::Digits(size)) => {
-            cursor.take();
-            Ok(bounded_integer(false, size))
-        }
-        Some(Token::Minus) => {
-            cursor.take();
-            negative(cursor)
-        }
-        _ => Err(Stop::NoForm),
+    if let Some(Token::Minus) = cursor.next() {
+        cursor.take();
+        return negative(cursor);
     }
+    let size = cursor.number()?;
+    Ok(bounded_integer(false, size))
 }
 
 /// Takes a multiple of a row.

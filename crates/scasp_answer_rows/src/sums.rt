@@ -32,17 +32,15 @@ fn sign(cursor: &mut Cursor<'_>) -> Then
     ensures goes { spec.more_at cursor.old ≡ goes result cursor.new }
     ensures left { left result cursor.new ≤ length cursor.old + 1 }
 {
-    match cursor.next() {
-        Some(Token::Plus) => {
-            cursor.take();
-            Then::More(false)
-        }
-        Some(Token::Minus) => {
-            cursor.take();
-            Then::More(true)
-        }
-        _ => Then::Ended(0),
+    if let Some(Token::Plus) = cursor.next() {
+        cursor.take();
+        return Then::More(false);
     }
+    if let Some(Token::Minus) = cursor.next() {
+        cursor.take();
+        return Then::More(true);
+    }
+    Then::Ended(0)
 }
 
 /// Puts the variable with its coefficient behind the others, and takes the sign behind it.
@@ -72,12 +70,14 @@ fn multiple(
     ensures goes { Goes coeffs.old.items (spec.more_signed negative (digits size ∷ star ∷ cursor.old)) result coeffs.new.items cursor.new }
     ensures left { IfOk result (λ then. left then cursor.new ≤ length cursor.old + 1) }
 {
-    match cursor.next() {
-        Some(Token::Variable(number)) if size > 1 => {
-            cursor.take();
-            summand(coeffs, negative, size, number, cursor)
-        }
-        _ => Err(Stop::NoForm),
+    let Some(Token::Variable(number)) = cursor.next() else {
+        return Err(Stop::NoForm);
+    };
+    if size > 1 {
+        cursor.take();
+        summand(coeffs, negative, size, number, cursor)
+    } else {
+        Err(Stop::NoForm)
     }
 }
 
@@ -106,17 +106,12 @@ fn part(coeffs: &mut Vec<Coeff>, negative: bool, cursor: &mut Cursor<'_>) -> Res
     ensures goes { Goes coeffs.old.items (spec.more_signed negative cursor.old) result coeffs.new.items cursor.new }
     ensures left { IfOk result (λ then. left then cursor.new ≤ length cursor.old) }
 {
-    match cursor.next() {
-        Some(Token::Variable(x)) => {
-            cursor.take();
-            summand(coeffs, negative, 1, x, cursor)
-        }
-        Some(Token::Digits(size)) => {
-            cursor.take();
-            number(coeffs, negative, size, cursor)
-        }
-        _ => Err(Stop::NoForm),
+    if let Some(Token::Variable(x)) = cursor.next() {
+        cursor.take();
+        return summand(coeffs, negative, 1, x, cursor);
     }
+    let size = cursor.number()?;
+    number(coeffs, negative, size, cursor)
 }
 
 /// Takes the parts of a sum, behind the first sign.
@@ -137,19 +132,17 @@ fn parts(alloc: Global, negative: bool, cursor: &mut Cursor<'_>) -> Result<Sum, 
 pub fn any_sum(alloc: Global, cursor: &mut Cursor<'_>) -> Result<Sum, Stop>
     ensures { Reads sum_of (spec.sum_at cursor.old) result cursor.new }
 {
-    match cursor.next() {
-        Some(Token::Minus) => {
-            cursor.take();
-            parts(alloc, true, cursor)
-        }
-        Some(Token::Digits(0)) => {
-            cursor.take();
-            let coeffs = Vec::new(alloc);
-            Ok(Sum {
-                coeffs,
-                constant: 0,
-            })
-        }
-        _ => parts(alloc, false, cursor),
+    if let Some(Token::Minus) = cursor.next() {
+        cursor.take();
+        return parts(alloc, true, cursor);
     }
+    if let Some(Token::Digits(0)) = cursor.next() {
+        cursor.take();
+        let coeffs = Vec::new(alloc);
+        return Ok(Sum {
+            coeffs,
+            constant: 0,
+        });
+    }
+    parts(alloc, false, cursor)
 }

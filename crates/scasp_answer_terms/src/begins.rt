@@ -91,17 +91,18 @@ impl Levels {
         ensures goes { (place : List ℕ → ℕ) → Goes place (wants place (opens_of self.old) (before_of self.old) (minus ∷ cursor.old)) result self.new cursor.new }
         ensures left { IfOk result (λ next. left next cursor.new ≤ length cursor.old + 1) }
     {
-        match cursor.next() {
-            Some(Token::Digits(size)) if size != 0 => {
-                cursor.take();
-                ended(whole(true, size))
-            }
-            Some(Token::Fraction(size, parts)) => {
-                cursor.take();
-                ended(quotient(true, size, parts))
-            }
-            _ => Err(Stop::NoForm),
+        if let Some(Token::Fraction(size, parts)) = cursor.next() {
+            cursor.take();
+            return ended(quotient(true, size, parts));
         }
+        let Some(Token::Digits(size)) = cursor.next() else {
+            return Err(Stop::NoForm);
+        };
+        if size == 0 {
+            return Err(Stop::NoForm);
+        }
+        cursor.take();
+        ended(whole(true, size))
     }
 
     /// Begins a list, behind its bracket.

@@ -71,20 +71,18 @@ impl Levels {
         ensures left { IfOk result (λ next. left next cursor.new ≤ length cursor.old) }
     {
         self.put(term)?;
-        match cursor.next() {
-            Some(Token::Comma) => {
-                cursor.take();
-                self.open(Bracket::Call(name, around))?;
-                Ok(Next::Wanted)
-            }
-            Some(Token::Close) => {
-                cursor.take();
-                let arguments = self.replaced(around);
-                let term = called(alloc, name, arguments)?;
-                ended(term)
-            }
-            _ => Err(Stop::NoForm),
+        if let Some(Token::Comma) = cursor.next() {
+            cursor.take();
+            self.open(Bracket::Call(name, around))?;
+            return Ok(Next::Wanted);
         }
+        let Some(Token::Close) = cursor.next() else {
+            return Err(Stop::NoForm);
+        };
+        cursor.take();
+        let arguments = self.replaced(around);
+        let term = called(alloc, name, arguments)?;
+        ended(term)
     }
 
     /// Ends an element of a list, whose bracket has been taken away.
@@ -99,26 +97,24 @@ impl Levels {
         ensures left { IfOk result (λ next. left next cursor.new ≤ length cursor.old) }
     {
         self.put(term)?;
-        match cursor.next() {
-            Some(Token::Comma) => {
-                cursor.take();
-                self.open(Bracket::Elements(around))?;
-                Ok(Next::Wanted)
-            }
-            Some(Token::Bar) => {
-                cursor.take();
-                let elements = self.replaced(Vec::new(alloc));
-                self.open(Bracket::Tail(elements, around))?;
-                Ok(Next::Wanted)
-            }
-            Some(Token::Unbracket) => {
-                cursor.take();
-                let elements = self.replaced(around);
-                let nil = Term::App(NIL, Terms::new(alloc));
-                Ok(Next::Ended(list_of(alloc, elements, nil)?))
-            }
-            _ => Err(Stop::NoForm),
+        if let Some(Token::Comma) = cursor.next() {
+            cursor.take();
+            self.open(Bracket::Elements(around))?;
+            return Ok(Next::Wanted);
         }
+        if let Some(Token::Bar) = cursor.next() {
+            cursor.take();
+            let elements = self.replaced(Vec::new(alloc));
+            self.open(Bracket::Tail(elements, around))?;
+            return Ok(Next::Wanted);
+        }
+        let Some(Token::Unbracket) = cursor.next() else {
+            return Err(Stop::NoForm);
+        };
+        cursor.take();
+        let elements = self.replaced(around);
+        let nil = Term::App(NIL, Terms::new(alloc));
+        Ok(Next::Ended(list_of(alloc, elements, nil)?))
     }
 
     /// Ends the rest of a list, whose bracket has been taken away.
@@ -133,13 +129,14 @@ impl Levels {
         ensures goes { (place : List ℕ → ℕ) → Goes place (ends place (tail (map tm_of elements.items) (map tm_of around.items) ∷ opens_of self.old) (before_of self.old) (Some (tm_of term)) cursor.old) result self.new cursor.new }
         ensures left { IfOk result (λ next. left next cursor.new ≤ length cursor.old) }
     {
-        match cursor.next() {
-            Some(Token::Unbracket) if !is_list(&term) => {
-                cursor.take();
-                let _ = self.replaced(around);
-                Ok(Next::Ended(list_of(alloc, elements, term)?))
-            }
-            _ => Err(Stop::NoForm),
+        let Some(Token::Unbracket) = cursor.next() else {
+            return Err(Stop::NoForm);
+        };
+        if is_list(&term) {
+            return Err(Stop::NoForm);
         }
+        cursor.take();
+        let _ = self.replaced(around);
+        Ok(Next::Ended(list_of(alloc, elements, term)?))
     }
 }

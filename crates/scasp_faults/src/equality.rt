@@ -26,13 +26,34 @@ fn same_sides(
 pub fn same_con(alloc: Global, first: &Con, second: &Con) -> Result<bool, Memory>
     ensures { IfOk result (λ answer. answer ≡ same_con first.now second.now) }
 {
-    match (first, second) {
-        (Con::Eq(t, u), Con::Eq(a, b)) => same_sides(alloc, t, u, a, b),
-        (Con::Neq(t, u), Con::Neq(a, b)) => same_sides(alloc, t, u, a, b),
-        (Con::NotShape(x, f, n), Con::NotShape(y, g, m)) => Ok(x == y && f == g && n == m),
-        (Con::Num(t), Con::Num(a)) => same(alloc, t, a),
-        (Con::NotNum(t), Con::NotNum(a)) => same(alloc, t, a),
-        (Con::Row(r), Con::Row(q)) => Ok(r.is_same(q)),
-        _ => Ok(false),
+    match first {
+        Con::Eq(t, u) => {
+            let Con::Eq(a, b) = second else {
+                return Ok(false);
+            };
+            same_sides(alloc, t, u, a, b)
+        }
+        Con::Neq(t, u) => {
+            let Con::Neq(a, b) = second else {
+                return Ok(false);
+            };
+            same_sides(alloc, t, u, a, b)
+        }
+        Con::NotShape(x, f, n) => Ok(
+            matches!(second, Con::NotShape(y, g, m) if x == y && f == g && n == m),
+        ),
+        Con::Num(t) => {
+            let Con::Num(a) = second else {
+                return Ok(false);
+            };
+            same(alloc, t, a)
+        }
+        Con::NotNum(t) => {
+            let Con::NotNum(a) = second else {
+                return Ok(false);
+            };
+            same(alloc, t, a)
+        }
+        Con::Row(row) => Ok(matches!(second, Con::Row(other) if row.is_same(other))),
     }
 }

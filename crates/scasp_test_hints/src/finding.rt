@@ -324,13 +324,13 @@ static CASES: [Case; 36] = [
 
 /// Whether the hint is the wanted one.
 fn is_hint(hint: &Hint, wanted: &Wanted) -> bool {
-    match (hint, wanted) {
-        (Hint::Terms, Wanted::ByTerms) => true,
-        (Hint::Rows(steps), Wanted::ByRows(count)) => steps.len() == *count,
-        (Hint::Same(number, lists), Wanted::BySame(place, count)) => {
-            number == place && lists.len() == *count
-        }
-        _ => false,
+    match hint {
+        Hint::Terms => matches!(wanted, Wanted::ByTerms),
+        Hint::Rows(steps) => matches!(wanted, Wanted::ByRows(count) if steps.len() == *count),
+        Hint::Same(number, lists) => matches!(
+            wanted,
+            Wanted::BySame(place, count) if number == place && lists.len() == *count
+        ),
     }
 }
 

@@ -586,10 +586,10 @@ fn has_terms(row: &Row, terms: &[(u64, i128)]) -> bool {
 
 /// Whether the answer is the row, or Overflow where none is wanted.
 fn is_wanted(answer: &Result<Row, RowErr>, op: Op, want: &Option<(Terms, i128)>) -> bool {
-    match (answer, want) {
-        (Ok(row), Some((terms, constant))) => is_row(row, terms, *constant, op),
-        (Err(RowErr::Overflow), None) => true,
-        _ => false,
+    match answer {
+        Ok(row) => matches!(want, Some((terms, constant)) if is_row(row, terms, *constant, op)),
+        Err(RowErr::Overflow) => want.is_none(),
+        Err(RowErr::Memory) => false,
     }
 }
 

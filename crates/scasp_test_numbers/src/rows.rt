@@ -656,11 +656,11 @@ fn is_row(row: &Row, want: &Given) -> bool {
 }
 
 fn is_wanted(answer: &Result<Row, StepErr>, want: &Want) -> bool {
-    match (answer, want) {
-        (Ok(row), Want::Row(given)) => is_row(row, given),
-        (Err(StepErr::Sign), Want::Sign) => true,
-        (Err(StepErr::Overflow), Want::Overflow) => true,
-        _ => false,
+    match answer {
+        Ok(row) => matches!(want, Want::Row(given) if is_row(row, given)),
+        Err(StepErr::Sign) => matches!(want, Want::Sign),
+        Err(StepErr::Overflow) => matches!(want, Want::Overflow),
+        Err(StepErr::Memory) => false,
     }
 }
 
@@ -697,11 +697,13 @@ fn are_steps(steps: &Steps, want: &[(i128, u64, i128, u64)]) -> bool {
 }
 
 fn is_decided(answer: &Result<Verdict, LinErr>, want: &Decided) -> bool {
-    match (answer, want) {
-        (Ok(Verdict::Sat), Decided::Sat) => true,
-        (Ok(Verdict::Unsat(steps)), Decided::Unsat(given)) => are_steps(steps, given),
-        (Err(LinErr::Overflow), Decided::Overflow) => true,
-        _ => false,
+    match answer {
+        Ok(Verdict::Sat) => matches!(want, Decided::Sat),
+        Ok(Verdict::Unsat(steps)) => {
+            matches!(want, Decided::Unsat(given) if are_steps(steps, given))
+        }
+        Err(LinErr::Overflow) => matches!(want, Decided::Overflow),
+        Err(LinErr::Memory) => false,
     }
 }
 
@@ -761,11 +763,11 @@ fn is_point(point: &Point, want: &[(u64, (i128, i128))]) -> bool {
 }
 
 fn is_sampled(answer: &Result<Option<Point>, LinErr>, want: &Sampled) -> bool {
-    match (answer, want) {
-        (Ok(None), Sampled::None) => true,
-        (Ok(Some(point)), Sampled::Point(given)) => is_point(point, given),
-        (Err(LinErr::Overflow), Sampled::Overflow) => true,
-        _ => false,
+    match answer {
+        Ok(None) => matches!(want, Sampled::None),
+        Ok(Some(point)) => matches!(want, Sampled::Point(given) if is_point(point, given)),
+        Err(LinErr::Overflow) => matches!(want, Sampled::Overflow),
+        Err(LinErr::Memory) => false,
     }
 }
 

@@ -12,12 +12,11 @@ use std::test::Fail;
 
 /// Whether a node is due for the disequation of two variables.
 fn differs(due: Option<&Due>, x: u64, y: u64) -> bool {
-    match due {
-        Some(Due::Fact(Some(Con::Neq(Term::Var(left), Term::Var(right))))) => {
-            *left == x && *right == y
-        }
-        _ => false,
-    }
+    matches!(
+        due,
+        Some(Due::Fact(Some(Con::Neq(Term::Var(left), Term::Var(right)))))
+            if *left == x && *right == y
+    )
 }
 
 fn dues_of_rule(alloc: Global) -> Result<Dues, Memory> {

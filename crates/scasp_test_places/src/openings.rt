@@ -21,10 +21,7 @@ fn opened(alloc: Global, inside: &Inside) -> Result<Cons, Memory> {
 
 /// Whether the constraint is the equation of two variables.
 fn is_equation(constraint: Option<&Con>, x: u64, y: u64) -> bool {
-    match constraint {
-        Some(Con::Eq(Term::Var(left), Term::Var(right))) => *left == x && *right == y,
-        _ => false,
-    }
+    matches!(constraint, Some(Con::Eq(Term::Var(left), Term::Var(right))) if *left == x && *right == y)
 }
 
 /// f(f(Y, Y), Z).

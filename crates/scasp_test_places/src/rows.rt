@@ -26,10 +26,10 @@ fn row(alloc: Global) -> Result<Con, Fail> {
 
 /// The variable of the last coefficient, and the coefficient.
 fn last(constraint: &Con) -> Option<(u64, i128)> {
-    match constraint {
-        Con::Row(row) => row.coeffs().as_slice().last().map(|k| (k.x, k.c)),
-        _ => None,
-    }
+    let Con::Row(row) = constraint else {
+        return None;
+    };
+    row.coeffs().as_slice().last().map(|k| (k.x, k.c))
 }
 
 /// Of a raised row the variables that are not free are others, and nothing else changes.

@@ -26,7 +26,9 @@ fn show_items(shown: &mut String, names: &Names, items: &Items) -> Result<(), Fa
             Item::Call(literal) if literal.positive && !literal.atom.minus => {
                 show_name(shown, names, literal.atom.name)?;
             }
-            _ => shown.push('!')?,
+            Item::Call(_) | Item::Equal(_, _) | Item::Differ(_, _) | Item::Linear(_) => {
+                shown.push('!')?;
+            }
         }
     }
     shown.push('.')?;
