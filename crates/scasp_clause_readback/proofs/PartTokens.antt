@@ -94,12 +94,12 @@ module _ (w : Style) (style : IsStyle w) where
       (stop-has rest))
 
   -- a clause begins with a name, with `-` or with `:-`
-  module _ (P : Option Token → Type 0) (name : (text : List ℕ) → P (Some (token.Name text))) (minus : P (Some (token.Sign sign.Minus))) (if : P (Some (token.Sign sign.If))) (rest : List ℕ) (at : ℕ) where
+  module _ (P : Option Token → Type 0) (name : (text : List ℕ) → P (Some (token.Name text))) (minus : P (Some (token.Sign sign.Minus))) (rule : P (Some (token.Sign sign.If))) (rest : List ℕ) (at : ℕ) where
     pub parts-front : (head : Option Atom) (is : List Item) (m : ℕ) → parts_fit w head is ≡ true → count_parts w head is ≡ Some m → P (token_of (tokens_behind 0 at (text_of w head is ++ rest)))
     parts-front None [] m g c = absurd (false≢true g)
     parts-front None (i ∷ is) m g c =
         let text = items_text w true (i ∷ is) in
-        subst (λ ts. P (token_of ts)) (sym (denial-tokens ((text ++ codes ".\n") ++ rest) at)) if
+        subst (λ ts. P (token_of ts)) (sym (denial-tokens ((text ++ codes ".\n") ++ rest) at)) rule
     parts-front (Some a) [] m g c =
         let parts = bind-parts (count_all w 0 a.args) (λ n. Some n) m c in
         let bare : ((atom_text w a ++ []) ++ codes ".\n") ++ rest ≡ atom_text w a ++ (46 ∷ 10 ∷ rest) =
