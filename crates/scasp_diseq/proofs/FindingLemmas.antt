@@ -1,6 +1,6 @@
 -- What is found by the mentions of a variable.
-use Rattle.std.proofs.Common.{◌≡◌, ℕ, ◌<◌, Bool, true, false, ◌&&◌, ◌||◌, cond, nat_eq, List, [], ◌∷◌, ◌++◌, append_assoc, length, filter, reverse, Option, Some, option_map, slice_get, ◌↔◌, refl, sym, ap, ◌∙◌, subst}
-use Rattle.std.specs.Prelude.{Any, Contains}
+use Rattle.std.proofs.Common.{◌≡◌, ℕ, ◌<◌, Bool, true, false, ◌&&◌, ◌||◌, cond, nat_eq, List, [], ◌∷◌, ◌++◌, append_assoc, length, filter, reverse, Some, option_map, slice_get, ◌↔◌, refl, sym, ap, ◌∙◌, subst}
+use Rattle.std.specs.Prelude.{Contains}
 use Rattle.std.specs.List.{cons_option, filter_map, list_any}
 use Rattle.std.proofs.Math.Bool.{and-true, and-false}
 use Rattle.std.proofs.lemmas.Bool.{and_from, and_parts, eq-eqb, eqb-true}
@@ -13,7 +13,7 @@ use Rattle.scasp_syntax.specs.declared.con.Con.{Con}
 use Rattle.scasp_syntax.specs.declared.con.Con.TheVariants as con
 use Rattle.scasp_unify.specs.Parts.{occurs}
 use Rattle.scasp_diseq.specs.Inside.Chains.{places_of}
-use Rattle.scasp_diseq.specs.Inside.Indexed.{AreBelow, Tells, cons_of, is_disequation, is_shape, places_where, stands_in}
+use Rattle.scasp_diseq.specs.Inside.Indexed.{AreBelow, Tells, cons_of, is_disequation, is_shape, stands_in}
 use Rattle.scasp_diseq.specs.Pending.{is_pending_on}
 use Rattle.scasp_diseq.specs.declared.mentions.Mention.{Mention}
 use Rattle.scasp_diseq.specs.declared.posted.Posted.{Posted}

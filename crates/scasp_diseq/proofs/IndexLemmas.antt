@@ -1,9 +1,8 @@
 -- Mentions that tell in which constraints each variable stands.
-use Rattle.std.proofs.Common.{◌≡◌, ℕ, ◌+◌, ◌<◌, ◌≤◌, Bool, true, false, if◌then◌else◌, List, [], ◌∷◌, ◌++◌, length, map, min, take, Option, Some, slice_get, ◌⊎◌, inl, inr, refl, sym, ap, ◌∙◌, subst, arith}
+use Rattle.std.proofs.Common.{◌≡◌, ℕ, ◌<◌, ◌≤◌, Bool, true, false, if◌then◌else◌, List, [], ◌∷◌, ◌++◌, length, take, Some, slice_get, ◌⊎◌, inl, inr, refl, sym, ap, ◌∙◌, subst, arith}
 use Rattle.std.proofs.Math.Seq.{take-append_seam}
 use Rattle.std.proofs.lemmas.List.{append-nil, length-map, length-take, map-append, take-append-le}
 use Rattle.scasp_syntax.specs.declared.con.Con.{Con}
-use Rattle.scasp_diseq.specs.Inside.Chains.{places_of}
 use Rattle.scasp_diseq.specs.Inside.Indexed.{Began, IsIndexed, Tells, cons_of, places_where, stands_in}
 use Rattle.scasp_diseq.specs.Inside.Noting.{Notes, ends_with, with_place}
 use Rattle.scasp_diseq.specs.declared.mentions.Mention.{Mention}

@@ -1,5 +1,5 @@
 -- Places of items, and the items at places.
-use Rattle.std.proofs.Common.{◌≡◌, ℕ, suc, ◌<◌, Bool, true, false, ◌&&◌, ◌||◌, cond, if◌then◌else◌, nat_eq, List, [], ◌∷◌, ◌++◌, length, map, filter, Option, None, Some, slice_get, refl, sym, ap, ◌∙◌, arith}
+use Rattle.std.proofs.Common.{◌≡◌, ℕ, suc, ◌<◌, Bool, true, false, ◌&&◌, ◌||◌, cond, if◌then◌else◌, List, [], ◌∷◌, ◌++◌, length, map, filter, Option, None, Some, slice_get, refl, sym, ap, ◌∙◌, arith}
 use Rattle.std.specs.List.{cons_option, filter_map, last_or, list_any}
 use Rattle.std.proofs.lemmas.Bool.{false_from_ne_true, false≢true, ne_eqb}
 use Rattle.std.proofs.lemmas.List.{map-append}

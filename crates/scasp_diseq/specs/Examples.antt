@@ -1,9 +1,9 @@
 -- Small lists, computed.
-use Rattle.std.specs.Prelude.{◌≡◌, List, [], ◌∷◌, filter, take}
+use Rattle.std.specs.Prelude.{◌≡◌, List, [], ◌∷◌, filter}
 use Rattle.std.proofs.Common.{refl}
 use Rattle.scasp_syntax.specs.Tm.{var, nil, cons}
 use Rattle.scasp_syntax.specs.declared.con.Con.{Con}
-use Rattle.scasp_syntax.specs.declared.con.Con.TheVariants.{Eq, Neq, NotShape}
+use Rattle.scasp_syntax.specs.declared.con.Con.TheVariants.{Neq, NotShape}
 use Rattle.scasp_syntax.specs.declared.term.Term.TheVariants.{App, Var}
 use Rattle.scasp_diseq.specs.Pending.{is_pending_on}
 

@@ -1,4 +1,4 @@
-use Rattle.std.proofs.Common.{◌≡◌, length, sym, ap, ◌∙◌, subst, take, arith}
+use Rattle.std.proofs.Common.{length, sym, ap, ◌∙◌, subst, take, arith}
 use Rattle.std.specs.List.{list_any}
 use Rattle.std.proofs.Math.Seq.{take-length}
 use Rattle.scasp_diseq.specs.Inside.Chains.{places_of, up_to}

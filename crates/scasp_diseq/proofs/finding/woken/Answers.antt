@@ -1,4 +1,4 @@
-use Rattle.std.proofs.Common.{◌≡◌, ◌++◌, ◌∷◌, [], length, filter, reverse, sym, ap, ◌∙◌, subst}
+use Rattle.std.proofs.Common.{◌++◌, ◌∷◌, [], length, filter, reverse, sym, ap, ◌∙◌, subst}
 use Rattle.scasp_diseq.specs.Inside.Indexed.{AreBelow, cons_of, is_disequation}
 use Rattle.scasp_diseq.specs.Pending.{is_pending_on}
 use Rattle.scasp_diseq.proofs.FindingLemmas.{below-told, con-at, next-below, next-passed, next-woken, pending-start, picked}

@@ -1,4 +1,4 @@
-use Rattle.std.proofs.Common.{◌≡◌, ℕ, ◌+◌, ◌||◌, ◌++◌, ◌∷◌, [], drop, length, nat_eq, take, refl, sym, ap, ◌∙◌, subst, arith}
+use Rattle.std.proofs.Common.{◌≡◌, ℕ, ◌+◌, ◌||◌, ◌++◌, ◌∷◌, [], drop, length, nat_eq, take, sym, ap, ◌∙◌, subst, arith}
 use Rattle.scasp_syntax.specs.Tm.{weight_s}
 use Rattle.scasp_syntax.specs.View.{tms_of}
 use Rattle.scasp_syntax.specs.declared.term.Term.TheVariants.{App, Num, Var}

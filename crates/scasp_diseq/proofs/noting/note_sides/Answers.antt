@@ -1,4 +1,3 @@
-use Rattle.std.proofs.Common.{◌||◌}
 use Rattle.scasp_syntax.specs.View.{tm_of}
 use Rattle.scasp_unify.specs.Parts.{occurs}
 use Rattle.scasp_diseq.proofs.UnseenLemmas.{noted-twice, on_ok}

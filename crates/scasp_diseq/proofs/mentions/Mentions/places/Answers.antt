@@ -1,4 +1,4 @@
-use Rattle.std.proofs.Common.{◌≡◌, ◌∷◌, ◌++◌, [], append_assoc, reverse, refl, sym, ap, ◌∙◌, arith, take, length}
+use Rattle.std.proofs.Common.{◌∷◌, ◌++◌, [], append_assoc, reverse, sym, ap, ◌∙◌, arith, take, length}
 use Rattle.std.proofs.lemmas.List.{append-nil, reverse-append}
 use Rattle.std.proofs.Math.Seq.{take-length}
 use Rattle.scasp_diseq.specs.Inside.Chains.{places_of, up_to}
