@@ -1,12 +1,11 @@
 -- Depths that fall, and what a binding does.
-use Rattle.std.proofs.Common.{◌≡◌, ℕ, zero, suc, ◌<◌, ◌≤◌, min, Bool, true, false, ◌&&◌, ◌||◌, nat_eq, if◌then◌else◌, List, [], ◌∷◌, ◌++◌, length, get_or, set, slice_get, Option, None, Some, option_map, ◌⊎◌, inl, inr, eqb-true, eq-eqb, subst, refl, sym, ap, ◌∙◌, arith}
+use Rattle.std.proofs.Common.{◌≡◌, ℕ, suc, ◌<◌, ◌≤◌, min, Bool, true, false, ◌&&◌, ◌||◌, nat_eq, if◌then◌else◌, List, [], ◌∷◌, ◌++◌, length, set, slice_get, Option, None, Some, option_map, ◌⊎◌, inl, inr, eqb-true, eq-eqb, subst, refl, sym, ap, ◌∙◌, arith}
 use Rattle.std.specs.Prelude.{Result, Ok, Err, OnOk, OnErr, IfOk}
 use Rattle.std.proofs.lemmas.List.{length-append}
-use Rattle.std.proofs.lemmas.Bool.{and_parts}
 use Rattle.scasp_syntax.specs.Tm.{Tm, Tms, var, num, app, nil, cons}
 use Rattle.scasp_syntax.specs.Values.{Sub, under, all_under}
-use Rattle.scasp_syntax.specs.View.{tm_of, tms_of}
-use Rattle.scasp_syntax.specs.WellFormed.{is_below, are_below}
+use Rattle.scasp_syntax.specs.View.{tm_of}
+use Rattle.scasp_syntax.specs.WellFormed.{is_below}
 use Rattle.scasp_syntax.specs.declared.term.Term.{Term}
 use Rattle.scasp_unify.specs.Parts.{occurs, occurs_among}
 use Rattle.scasp_bind.specs.Binds.{CanBind, Binds, bound_one}

@@ -1,6 +1,6 @@
 -- The search of a variable in a term as bindings resolve it, with a list of what is still to be done.
 use Rattle.std.proofs.Common.{◌≡◌, ℕ, ◌+◌, ◌*◌, ◌<◌, Bool, true, false, ◌&&◌, ◌||◌, List, [], ◌∷◌, ◌++◌, map, subst, refl, sym, ap, ◌∙◌, arith}
-use Rattle.std.specs.List.{list_any, list_all, sum_by}
+use Rattle.std.specs.List.{list_any, list_all}
 use Rattle.std.proofs.lemmas.Bool.{and_parts}
 use Rattle.std.proofs.lemmas.List.{append-nil, map-append}
 use Rattle.std.proofs.lemmas.List.Folds.{list_all-append, list_any-append}

@@ -1,5 +1,5 @@
 -- What is still to be done for the search of a variable in a term as bindings resolve it.
-use Rattle.std.specs.Prelude.{◌≡◌, ℕ, ◌+◌, ◌*◌, ◌<◌, Bool, true, false, List, [], ◌∷◌, ◌++◌, map, ⊤}
+use Rattle.std.specs.Prelude.{◌≡◌, ℕ, ◌*◌, ◌<◌, Bool, true, false, List, [], ◌∷◌, ◌++◌, map, ⊤}
 use Rattle.std.specs.List.{list_all, list_any, sum_by}
 use Rattle.scasp_syntax.specs.Tm.{Tm, weight}
 use Rattle.scasp_syntax.specs.Values.{Sub, under}

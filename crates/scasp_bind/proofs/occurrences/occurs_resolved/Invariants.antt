@@ -1,4 +1,4 @@
-use Rattle.std.proofs.Common.{◌≡◌, length, nat_eq}
+use Rattle.std.proofs.Common.{length, nat_eq}
 use Rattle.std.specs.HashMap.{get}
 use Rattle.scasp_syntax.specs.Values.{under}
 use Rattle.scasp_syntax.specs.View.{tm_of}

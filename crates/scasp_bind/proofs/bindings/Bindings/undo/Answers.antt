@@ -1,4 +1,4 @@
-use Rattle.std.proofs.Common.{length, ap, subst, arith}
+use Rattle.std.proofs.Common.{subst, arith}
 use Rattle.scasp_bind.specs.Kept.{Continues}
 use Rattle.scasp_bind.proofs.SoundLemmas.{sound_earlier, undo_continues}
 use Rattle.scasp_bind.proofs.bindings.Bindings.undo.Goals as goal
