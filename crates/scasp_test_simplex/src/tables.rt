@@ -1,6 +1,6 @@
 //! Rows that come and go, by hand and from the literature.
 use crate::given::{Given, Trial, Wanted, copies, row_of};
-use scasp_num::Op;
+use scasp_num::{Op, Row};
 use scasp_rows::{LinErr, eliminate, is_free_of_disequations};
 use std::alloc::Global;
 use std::test::Fail;
@@ -260,24 +260,43 @@ fn rows_come_and_go(rt: HostRuntime) -> Result<(), Fail> {
     Ok(())
 }
 
-/// Pushes V0 =< Vi for 65 variables and V0 >= Vj+1 for 65 others.
-fn push_many(alloc: Global, trial: &mut Trial) -> Result<(), Fail> {
+/// Pushes that V0 compares so with Vi for 65 variables, and Vj+1 with V0 for 65 others.
+fn push_many(alloc: Global, trial: &mut Trial, op: Op) -> Result<(), Fail> {
     for i in 1..66 {
-        trial.push(row_of(alloc, &[(0, 1), (i, -1)], 0, Op::Le)?)?;
+        trial.push(row_of(alloc, &[(0, 1), (i, -1)], 0, op)?)?;
     }
     for j in 66..131 {
-        trial.push(row_of(alloc, &[(0, -1), (j, 1)], 1, Op::Le)?)?;
+        trial.push(row_of(alloc, &[(0, -1), (j, 1)], 1, op)?)?;
     }
     Ok(())
+}
+
+/// Whether the elimination of the rows overflows.
+fn overflows(alloc: Global, rows: &[Row]) -> Result<bool, Fail> {
+    let rows = copies(alloc, rows)?;
+    Ok(is_free_of_disequations(&rows) && matches!(eliminate(alloc, &rows), Err(LinErr::Overflow)))
 }
 
 #[test]
 fn elimination_overflows(rt: HostRuntime) -> Result<(), Fail> {
     let mut trial = Trial::new(rt.alloc());
-    push_many(rt.alloc(), &mut trial)?;
+    push_many(rt.alloc(), &mut trial, Op::Le)?;
     assert!(rt; trial.decided(rt.alloc())? == Some(Wanted::Sat));
-    let rows = copies(rt.alloc(), trial.rows.as_slice())?;
-    assert!(rt; is_free_of_disequations(&rows));
-    assert!(rt; matches!(eliminate(rt.alloc(), &rows), Err(LinErr::Overflow)));
+    assert!(rt; overflows(rt.alloc(), trial.rows.as_slice())?);
+    Ok(())
+}
+
+/// What only the tableau decides: strict rows, a row more, and the rows without it.
+#[test]
+fn tableau_alone_decides(rt: HostRuntime) -> Result<(), Fail> {
+    let mut trial = Trial::new(rt.alloc());
+    push_many(rt.alloc(), &mut trial, Op::Lt)?;
+    assert!(rt; trial.decided(rt.alloc())? == Some(Wanted::Sat));
+    let mark = trial.tableau.mark();
+    trial.push(row_of(rt.alloc(), &[(1, 2), (66, -2)], -1, Op::Le)?)?;
+    assert!(rt; trial.decided(rt.alloc())? == Some(Wanted::Unsat));
+    assert!(rt; overflows(rt.alloc(), trial.rows.as_slice())?);
+    trial.undo(mark);
+    assert!(rt; trial.decided(rt.alloc())? == Some(Wanted::Sat));
     Ok(())
 }
