@@ -64,7 +64,15 @@ const FAULTY: &[&[&str]] = &[
         "2",
     ],
     &["check", "p", "a", "--answers", "1"],
+    &["trial"],
+    &["trial", ""],
+    &["trial", "0"],
+    &["trial", "01"],
+    &["trial", "-1"],
     &["trial", "1001"],
+    &["trial", "4294967297"],
+    &["trial", "1", "2"],
+    &["Trial", "1"],
 ];
 
 fn check_words(

@@ -12,5 +12,7 @@ mod rows;
 mod samples;
 #[cfg(test)]
 mod system;
+#[cfg(test)]
+mod trials;
 
 fn main(_rt: HostRuntime) {}

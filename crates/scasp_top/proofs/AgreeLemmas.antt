@@ -14,7 +14,7 @@ use Rattle.scasp_answers.specs.States.{Entry}
 use Rattle.scasp_answers.specs.declared.fault.AnswerFault.{AnswerFault}
 use Rattle.scasp_io.specs.Counts.{Rose}
 use Rattle.scasp_words.specs.declared.command.Command.{Command}
-use Rattle.scasp_words.specs.declared.command.Command.TheVariants.{Run, Check}
+use Rattle.scasp_words.specs.declared.command.Command.TheVariants.{Run, Check, Trial}
 use Rattle.scasp_recheck.specs.Meaning.{IsAccepted}
 use Rattle.scasp_recheck.specs.Texts.{recheck_text, rechecked_of}
 use Rattle.scasp_recheck.specs.declared.checking.Rechecked.{Rechecked}
@@ -22,7 +22,7 @@ use Rattle.scasp_recheck.specs.declared.checking.Rechecked.TheVariants as check
 use Rattle.scasp_recheck.proofs.MeaningLemmas.{means_accepted}
 use Rattle.scasp_top.specs.Agreeing.{ChecksAgree, ChecksMean}
 use Rattle.scasp_top.specs.Ends.{check_status, IsCheck}
-use Rattle.scasp_top.specs.Outputs.{answers_in, program_file, without_faults, AreBytes, Checks, Failed, IsAnswers, IsProgram, Outputs, Outside, Says, unread, refused, unread_answers, refused_answers, nothing, usage, no_program, runs, no_answers, checks}
+use Rattle.scasp_top.specs.Outputs.{answers_in, program_file, without_faults, AreBytes, Checks, Failed, IsAnswers, IsProgram, Outputs, Outside, Says, unread, refused, unread_answers, refused_answers, nothing, usage, no_program, runs, no_answers, checks, tries}
 use Rattle.scasp_top.specs.Texts.{answers_refusal, program_refusal, refusal_line, refusal_status}
 use Rattle.scasp_top.specs.declared.refusals.Input.TheVariants as input
 use Rattle.scasp_top.specs.declared.status.Status.{Status}
@@ -123,9 +123,10 @@ told-bytes (Some x) bytes all e h = let same : x ≡ all = cc in h ∙ same
 calm : (o : Outside) (file : List ℕ) → Failed (without_faults o) file → ⊥
 calm o file rose = absurd (omega (arith, rose))
 
-program-file-is : (program answers : List ℕ) (command : Command) → Some (Check program answers) ≡ Some command → program_file command ≡ program
-program-file-is program answers (Run file budget asked) e = cc
-program-file-is program answers (Check p a) e = cc
+program-file-is : (program answers : List ℕ) (command : Command) (file : List ℕ) → Some (Check program answers) ≡ Some command → program_file command ≡ Some file → file ≡ program
+program-file-is program answers (Run other budget asked) file e named = cc
+program-file-is program answers (Check p a) file e named = cc
+program-file-is program answers (Trial n) file e named = cc
 
 module _ (program answers : List ℕ) (o : Outside) (bytes blocks : List ℕ) (told : o.told program ≡ Some bytes) (told' : o.told answers ≡ Some blocks) where
   these : (file all named : List ℕ) → o.told file ≡ Some all → named ≡ file → (read : List ℕ) → AreBytes (o.told named) read → read ≡ all
@@ -142,11 +143,12 @@ module _ (program answers : List ℕ) (o : Outside) (bytes blocks : List ℕ) (t
   comes : (text : List ℕ) (status : Status) → status ≢ Memory → Outputs (Some (Check program answers)) (without_faults o) text status → Comes bytes blocks text status
   comes text status k (nothing says) = absurd (k says.ending_is)
   comes text status k (usage is says) = cc
-  comes text status k (no_program command is (unread rose says)) = absurd (calm o (program_file command) rose)
-  comes text status k (no_program command is (refused read are r)) =
-      let same : read ≡ bytes = these program bytes (program_file command) told (program-file-is program answers command is) read are in
+  comes text status k (no_program command file is named (unread rose says)) = absurd (calm o file rose)
+  comes text status k (no_program command file is named (refused read are r)) =
+      let same : read ≡ bytes = these program bytes file told (program-file-is program answers command file is named) read are in
       at_program r.fault (ap (program_in list_names) (sym same) ∙ r.is) r.says
   comes text status k (runs file budget asked p names is has r) = cc
+  comes text status k (tries n is t) = cc
   comes text status k (no_answers pf af p names is has (unread_answers rose says)) = absurd (calm o af rose)
   comes text status k (no_answers pf af p names is has (refused_answers read are r)) =
       let named : pf ≡ program = cc in

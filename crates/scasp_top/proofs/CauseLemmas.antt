@@ -2,13 +2,15 @@
 use Rattle.std.proofs.Common.{◌≡◌, ◌⊎◌, inl, inr, ℕ, Bool, true, false, Option, None, Some, List, refl, sym, subst, ◌∙◌, ap}
 use Rattle.scasp_io.specs.Counts.{Rose}
 use Rattle.scasp_words.specs.declared.command.Command.{Command}
-use Rattle.scasp_words.specs.declared.command.Command.TheVariants.{Run, Check}
+use Rattle.scasp_words.specs.declared.command.Command.TheVariants.{Run, Check, Trial}
 use Rattle.scasp_run.specs.declared.ends.RunEnd.{RunEnd}
 use Rattle.scasp_run.specs.declared.ends.RunEnd.TheVariants as run
 use Rattle.scasp_recheck.specs.declared.checking.Rechecked.{Rechecked}
 use Rattle.scasp_recheck.specs.declared.checking.Rechecked.TheVariants as check
-use Rattle.scasp_top.specs.Ends.{run_status, check_status}
-use Rattle.scasp_top.specs.Outputs.{Outside, without_faults, program_file, HasReadFault, unread, refused, unread_answers, refused_answers, Outputs, nothing, usage, no_program, runs, no_answers, checks}
+use Rattle.scasp_trial.specs.declared.first.Trial.{Trial as Trying}
+use Rattle.scasp_trial.specs.declared.first.Trial.TheVariants as trial
+use Rattle.scasp_top.specs.Ends.{run_status, check_status, trial_status}
+use Rattle.scasp_top.specs.Outputs.{Outside, without_faults, program_file, HasReadFault, unread, refused, unread_answers, refused_answers, Outputs, nothing, usage, no_program, runs, no_answers, checks, tries, is_refused, is_tried}
 use Rattle.scasp_io.specs.Taken.{TakesWhole}
 use Rattle.scasp_top.specs.Reports.{Reports, whole, part}
 use Rattle.scasp_top.specs.Texts.{Refusal, refusal_status, program_refusal, answers_refusal}
@@ -47,6 +49,13 @@ check-calm None = refl
 check-calm (Some check.Accepted) = refl
 check-calm (Some check.Refused) = refl
 
+trial-calm : (t : Trying) → is_fault (trial_status t) ≡ false
+unfolding is_fault
+trial-calm (trial.Right calls lines any) = refl
+trial-calm trial.Ended = refl
+trial-calm trial.Spent = refl
+trial-calm trial.Overflow = refl
+
 -- the status of no fault, or that of a failed read
 Cause : Option Command → Outside → Status → Type 0
 Cause asked o status = (is_fault status ≡ false) ⊎ ((status ≡ Read) × HasReadFault asked o)
@@ -56,14 +65,20 @@ unfolding Cause
 calm asked o status s is h = inl (ap is_fault is ∙ h)
 
 -- a failed read of the program's file
-program-fault : (asked : Option Command) (o : Outside) (command : Command) → asked ≡ Some command → Rose (o.before (program_file command)) (o.after (program_file command)) → HasReadFault asked o
-program-fault asked o command is rose =
+program-fault : (asked : Option Command) (o : Outside) (command : Command) (file : List ℕ) → asked ≡ Some command → program_file command ≡ Some file
+    → Rose (o.before file) (o.after file) → HasReadFault asked o
+program-fault asked o command file is named rose =
     let P : Option Command → Type 0 = λ a. HasReadFault a o in
-    subst P (sym is) (named command rose)
+    subst P (sym is) (by command named)
   where
-    named : (command : Command) → Rose (o.before (program_file command)) (o.after (program_file command)) → HasReadFault (Some command) o
-    named (Run file budget answers) rose = rose
-    named (Check program answers) rose = inl rose
+    of : (other : List ℕ) → Some other ≡ Some file → Rose (o.before other) (o.after other)
+    of other e =
+        let same : file ≡ other = cc in
+        subst (λ (x : List ℕ). Rose (o.before x) (o.after x)) same rose
+    by : (command : Command) → program_file command ≡ Some file → HasReadFault (Some command) o
+    by (Run other budget answers) e = of other e
+    by (Check program answers) e = inl (of program e)
+    by (Trial n) e = cc
 
 answers-fault : (asked : Option Command) (o : Outside) (program answers : List ℕ) → asked ≡ Some (Check program answers) → Rose (o.before answers) (o.after answers) → HasReadFault asked o
 answers-fault asked o program answers is rose =
@@ -74,12 +89,14 @@ cause-of : (asked : Option Command) (o : Outside) (text : List ℕ) (status : St
 unfolding is_fault Cause
 cause-of asked o text status (nothing says) = calm asked o status Memory says.ending_is refl
 cause-of asked o text status (usage is says) = calm asked o status Usage says.ending_is refl
-cause-of asked o text status (no_program command is (unread rose says)) = inr (says.ending_is, program-fault asked o command is rose)
-cause-of asked o text status (no_program command is (refused bytes are r)) = calm asked o status _ (r.says).ending_is (refusal-calm (program_refusal (r.fault).kind))
+cause-of asked o text status (no_program command file is named (unread rose says)) = inr (says.ending_is, program-fault asked o command file is named rose)
+cause-of asked o text status (no_program command file is named (refused bytes are r)) = calm asked o status _ (r.says).ending_is (refusal-calm (program_refusal (r.fault).kind))
 cause-of asked o text status (runs file budget answers p names is program r) = calm asked o status _ r.ending (run-calm r.end)
 cause-of asked o text status (no_answers program answers p names is read (unread_answers rose says)) = inr (says.ending_is, answers-fault asked o program answers is rose)
 cause-of asked o text status (no_answers program answers p names is read (refused_answers bytes are r)) = calm asked o status _ (r.says).ending_is (refusal-calm (answers_refusal (r.fault).kind))
 cause-of asked o text status (checks program answers p names entries is read has c) = calm asked o status _ c.ending (check-calm c.end)
+cause-of asked o text status (tries n is (is_refused r)) = calm asked o status _ (r.says).ending_is (refusal-calm (program_refusal (r.fault).kind))
+cause-of asked o text status (tries n is (is_tried p names read t)) = calm asked o status _ (t.says).ending_is (trial-calm t.trial)
 
 -- ---- the clauses
 
@@ -107,12 +124,13 @@ write-cause asked o before after faults faults' status (part is rose w) write = 
 without : (asked : Option Command) (o : Outside) (text : List ℕ) (status : Status) → ¬ HasReadFault asked o → Outputs asked o text status → Outputs asked (without_faults o) text status
 without asked o text status fine (nothing says) = nothing says
 without asked o text status fine (usage is says) = usage is says
-without asked o text status fine (no_program command is (unread rose says)) = absurd (fine (program-fault asked o command is rose))
-without asked o text status fine (no_program command is (refused bytes are r)) = no_program command is (refused bytes are r)
+without asked o text status fine (no_program command file is named (unread rose says)) = absurd (fine (program-fault asked o command file is named rose))
+without asked o text status fine (no_program command file is named (refused bytes are r)) = no_program command file is named (refused bytes are r)
 without asked o text status fine (runs file budget answers p names is program r) = runs file budget answers p names is program r
 without asked o text status fine (no_answers program answers p names is read (unread_answers rose says)) = absurd (fine (answers-fault asked o program answers is rose))
 without asked o text status fine (no_answers program answers p names is read (refused_answers bytes are r)) = no_answers program answers p names is read (refused_answers bytes are r)
 without asked o text status fine (checks program answers p names entries is read has c) = checks program answers p names entries is read has c
+without asked o text status fine (tries n is t) = tries n is t
 
 pub completes : (asked : Option Command) (o : Outside) (before after : Option (List ℕ)) (faults faults' : ℕ) (status : Status)
     → Reports (Outputs asked o) before after faults faults' status → ¬ HasReadFault asked o → ¬ Rose faults faults'
@@ -121,10 +139,16 @@ completes asked o before after faults faults' status (whole w) fine writes =
     inr (record { text = w.text; may = without asked o w.text status fine w.may; taken = w.taken })
 completes asked o before after faults faults' status (part is rose w) fine writes = absurd (writes rose)
 
--- the same where the words are this command
+-- what the sink took of this command, where the words are it
+pub command-reports : (asked : Option Command) (command : Command) (o : Outside) (before after : Option (List ℕ)) (faults faults' : ℕ) (status : Status)
+    → asked ≡ Some command → Reports (Outputs (Some command) o) before after faults faults' status → Reports (Outputs asked o) before after faults faults' status
+command-reports asked command o before after faults faults' status is reports =
+    let P : Option Command → Type 0 = λ a. Reports (Outputs a o) before after faults faults' status in
+    subst P (sym is) reports
+
+-- and where nothing failed
 pub command-completes : (asked : Option Command) (command : Command) (o : Outside) (before after : Option (List ℕ)) (faults faults' : ℕ) (status : Status)
     → asked ≡ Some command → Reports (Outputs (Some command) o) before after faults faults' status → ¬ HasReadFault asked o → ¬ Rose faults faults'
     → (status ≡ Memory) ⊎ TakesWhole (λ text. Outputs asked (without_faults o) text status) before after
-command-completes asked command o before after faults faults' status is reports fine writes =
-    let P : Option Command → Type 0 = λ a. Reports (Outputs a o) before after faults faults' status in
-    completes asked o before after faults faults' status (subst P (sym is) reports) fine writes
+command-completes asked command o before after faults faults' status is reports =
+    completes asked o before after faults faults' status (command-reports asked command o before after faults faults' status is reports)

@@ -3,9 +3,9 @@ use Rattle.std.proofs.Common.{◌≡◌, ◌≤◌, ℕ, Option, Some, List, ref
 use Rattle.scasp_syntax.specs.declared.program.Program.{Program}
 use Rattle.scasp_answers.specs.States.{Entry}
 use Rattle.scasp_words.specs.declared.command.Command.{Command}
-use Rattle.scasp_words.specs.declared.command.Command.TheVariants.{Run, Check}
+use Rattle.scasp_words.specs.declared.command.Command.TheVariants.{Run, Check, Trial}
 use Rattle.scasp_top.specs.Inside.Halts.{IfLine, Tells}
-use Rattle.scasp_top.specs.Outputs.{outside, program_file, Checks, IsAnswers, IsNoAnswers, IsNoProgram, IsProgram, Outputs, Runs, nothing, no_program, runs, no_answers, checks}
+use Rattle.scasp_top.specs.Outputs.{outside, program_file, Checks, IsAnswers, IsNoAnswers, IsNoProgram, IsProgram, Outputs, Outside, Runs, TriesNodes, nothing, no_program, runs, no_answers, checks, tries}
 use Rattle.scasp_top.specs.Reports.{Reports}
 use Rattle.scasp_top.specs.declared.halt.Halt.{Halt}
 use Rattle.scasp_top.specs.declared.status.Status.{Status}
@@ -13,14 +13,14 @@ use Rattle.scasp_top.proofs.InputLemmas.{no_answers-since}
 use Rattle.scasp_top.proofs.ReportLemmas.{reports-widen, tells-widen}
 
 -- the program's file is not read
-pub stops-at-program : (command : Command) (told : List ℕ → Option (List ℕ)) (first after : List ℕ → ℕ) (h : Halt)
+pub stops-at-program : (command : Command) (file : List ℕ) (told : List ℕ → Option (List ℕ)) (first after : List ℕ → ℕ) (h : Halt)
     (taken taken' : Option (List ℕ)) (faults faults' : ℕ) (status : Status)
-    → IfLine h (IsNoProgram (outside told first after) (program_file command)) → Reports (Tells h) taken taken' faults faults' status
+    → program_file command ≡ Some file → IfLine h (IsNoProgram (outside told first after) file) → Reports (Tells h) taken taken' faults faults' status
     → Reports (Outputs (Some command) (outside told first after)) taken taken' faults faults' status
-stops-at-program command told first after h taken taken' faults faults' status line =
+stops-at-program command file told first after h taken taken' faults faults' status named line =
     let o = outside told first after in
     reports-widen (Tells h) (Outputs (Some command) o) taken taken' faults faults' status
-    (tells-widen (IsNoProgram o (program_file command)) (Outputs (Some command) o) h line (λ text s no. no_program command refl no) (λ text s says. nothing says))
+    (tells-widen (IsNoProgram o file) (Outputs (Some command) o) h line (λ text s no. no_program command file refl named no) (λ text s says. nothing says))
 
 -- the program is run
 pub goes-on-run : (file : List ℕ) (budget answers : ℕ) (told : List ℕ → Option (List ℕ)) (first after : List ℕ → ℕ) (p : Program) (names : List (List ℕ))
@@ -53,3 +53,10 @@ pub goes-on-check : (program answers : List ℕ) (told told' : List ℕ → Opti
 goes-on-check program answers told told' first after p names entries taken taken' faults faults' status stays is has =
     reports-widen (Checks p entries) (Outputs (Some (Check program answers)) (outside told first after)) taken taken' faults faults' status
     (λ text s c. checks program answers p names entries refl is (subst (λ (t : Option (List ℕ)). IsAnswers t names entries) stays has) c)
+
+-- the trial program is tried
+pub goes-on-trial : (n : ℕ) (o : Outside) (h : Halt) (taken taken' : Option (List ℕ)) (faults faults' : ℕ) (status : Status)
+    → IfLine h (TriesNodes n) → Reports (Tells h) taken taken' faults faults' status → Reports (Outputs (Some (Trial n)) o) taken taken' faults faults' status
+goes-on-trial n o h taken taken' faults faults' status line =
+    reports-widen (Tells h) (Outputs (Some (Trial n)) o) taken taken' faults faults' status
+    (tells-widen (TriesNodes n) (Outputs (Some (Trial n)) o) h line (λ text s t. tries n refl t) (λ text s says. nothing says))

@@ -1,21 +1,23 @@
 -- Files that are read, and such as are longer than may be.
-use Rattle.std.proofs.Common.{◌≡◌, ℕ, ◌<◌, ◌≤◌, ◌+◌, Option, None, Some, IfSome, List, length, arith, refl, sym, subst, replicate, Result, Ok, Err, IfErr}
+use Rattle.std.proofs.Common.{◌≡◌, ℕ, ◌<◌, ◌≤◌, ◌+◌, Option, None, Some, IfSome, List, length, arith, refl, sym, subst, replicate, Result, Ok, Err, IfOk, IfErr, ap, ◌∙◌}
 use Rattle.std.proofs.lemmas.Bool.{lt-ltb}
 use Rattle.std.proofs.lemmas.List.{length-replicate}
 use Rattle.scasp_io.specs.Counts.{Rose}
+use Rattle.scasp_gen.specs.Trial.{trial_text}
 use Rattle.scasp_name.specs.Texts.{list_names}
+use Rattle.scasp_syntax.specs.declared.program.Program.{Program}
 use Rattle.scasp_phrase.specs.Faults.{fault_at}
 use Rattle.scasp_phrase.specs.declared.fault.Count.TheVariants as count
 use Rattle.scasp_phrase.specs.declared.fault.Fault.{Fault}
 use Rattle.scasp_phrase.specs.declared.fault.Kind.TheVariants as kind
 use Rattle.scasp_text.specs.Texts.{read}
 use Rattle.scasp_text.specs.declared.texts.TheConstants.{BYTE_LIMIT}
-use Rattle.scasp_program.specs.Programs.{program_in}
+use Rattle.scasp_program.specs.Programs.{program_in, reading_of}
 use Rattle.scasp_answers.specs.Files.{byte_limit, fault, file_in}
 use Rattle.scasp_answers.specs.declared.fault.AnswerFault.{AnswerFault}
 use Rattle.scasp_answers.specs.declared.fault.AnswerKind.TheVariants as answer
 use Rattle.scasp_top.specs.Inside.Halts.{IfLine}
-use Rattle.scasp_top.specs.Outputs.{answers_in, outside, AreBytes, IsNoAnswers, IsNoProgram, RefusesAnswers, RefusesProgram, Says, refused, refused_answers, unread_answers}
+use Rattle.scasp_top.specs.Outputs.{answers_in, outside, AreBytes, IsNoAnswers, IsNoProgram, RefusesAnswers, RefusesProgram, Says, Tries, TriesNodes, is_refused, is_tried, refused, refused_answers, unread_answers}
 use Rattle.scasp_top.specs.Texts.{answers_refusal, program_refusal, refusal_line, refusal_status}
 use Rattle.scasp_top.specs.declared.halt.Halt.{Halt}
 use Rattle.scasp_top.specs.declared.halt.Halt.TheVariants as halt
@@ -101,6 +103,19 @@ pub blocks-refused : {X : Type 0} (told : List ℕ → Option (List ℕ)) (befor
 blocks-refused told before after file names items bytes (Ok x) same are h = h
 blocks-refused told before after file names items bytes (Err halt) same are h =
     refused-file_answers told before after file names bytes halt (subst (AreBytes (told file)) (sym same) are) h
+
+-- ---- the trial program
+
+pub line-tried : {E : Type 0} (n : ℕ) (bytes : List ℕ) (p : Program) (names : List (List ℕ)) (r : Result Halt E) → bytes ≡ trial_text n
+    → program_in list_names bytes ≡ Ok (reading_of (p, names)) → IfOk r (λ h. IfLine h (Tries n p names)) → IfOk r (λ h. IfLine h (TriesNodes n))
+line-tried n bytes p names (Ok h) same read line =
+    let is : program_in list_names (trial_text n) ≡ Ok (reading_of (p, names)) = ap (program_in list_names) (sym same) ∙ read in
+    line-widen h (Tries n p names) (TriesNodes n) line (λ text status t. is_tried p names is t)
+line-tried n bytes p names (Err e) same read line = line
+
+pub line-refused : (n : ℕ) (bytes : List ℕ) (h : Halt) → bytes ≡ trial_text n → IfLine h (RefusesProgram bytes) → IfLine h (TriesNodes n)
+line-refused n bytes h same line =
+    line-widen h (RefusesProgram bytes) (TriesNodes n) line (λ text status r. is_refused (subst (λ (b : List ℕ). RefusesProgram b text status) same r))
 
 -- ---- the second file of a command
 

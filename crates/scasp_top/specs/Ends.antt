@@ -1,4 +1,4 @@
--- How runs and checks end, and the status that belongs to it.
+-- How runs, checks and trials end, and the status that belongs to it.
 use Rattle.std.specs.Prelude.{◌≡◌, ℕ, Option, None, Some, List, take}
 use Rattle.std.specs.List.{concat}
 use Rattle.scasp_syntax.specs.declared.program.Program.{Program}
@@ -8,6 +8,8 @@ use Rattle.scasp_run.specs.declared.ends.RunEnd.TheVariants as run
 use Rattle.scasp_recheck.specs.Texts.{block_lines, recheck_text, rechecked_of}
 use Rattle.scasp_recheck.specs.declared.checking.Rechecked.{Rechecked}
 use Rattle.scasp_recheck.specs.declared.checking.Rechecked.TheVariants as check
+use Rattle.scasp_trial.specs.declared.first.Trial.{Trial}
+use Rattle.scasp_trial.specs.declared.first.Trial.TheVariants as trial
 use Rattle.scasp_top.specs.declared.status.Status.{Status}
 use Rattle.scasp_top.specs.declared.status.Status.TheVariants as status
 
@@ -29,3 +31,10 @@ abbrev pub check_status : Option Rechecked → Status
 check_status None = status.Memory
 check_status (Some check.Accepted) = status.Done
 check_status (Some check.Refused) = status.Refused
+
+-- of a trial
+abbrev pub trial_status : Trial → Status
+trial_status (trial.Right calls lines any) = status.Done
+trial_status trial.Ended = status.NoAnswer
+trial_status trial.Spent = status.Spent
+trial_status trial.Overflow = status.Overflow

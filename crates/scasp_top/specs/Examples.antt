@@ -1,6 +1,6 @@
 -- Small cases of the definitions, computed.
 use Rattle.std.proofs.Common.{lit<}
-use Rattle.std.specs.Prelude.{◌≡◌, None, Some, [], ◌∷◌, codes, decimal, refl}
+use Rattle.std.specs.Prelude.{◌≡◌, true, None, Some, [], ◌∷◌, codes, decimal, refl}
 use Rattle.std.proofs.lemmas.Fmt.{decimal_digit}
 use Rattle.scasp_phrase.specs.declared.fault.Count.TheVariants as count
 use Rattle.scasp_phrase.specs.declared.fault.Kind.TheVariants as kind
@@ -8,7 +8,8 @@ use Rattle.scasp_answers.specs.declared.fault.AnswerKind.TheVariants as answer
 use Rattle.scasp_run.specs.declared.ends.RunEnd.TheVariants as run
 use Rattle.scasp_recheck.specs.declared.checking.Rechecked.TheVariants as check
 use Rattle.scasp_top.specs.Codes.{code_of}
-use Rattle.scasp_top.specs.Ends.{run_status, check_status}
+use Rattle.scasp_trial.specs.declared.first.Trial.TheVariants as trial
+use Rattle.scasp_top.specs.Ends.{run_status, check_status, trial_status}
 use Rattle.scasp_top.specs.Outputs.{asked_answers}
 use Rattle.scasp_top.specs.Texts.{read_line, refusal_line, refusal_status, program_refusal, answers_refusal}
 use Rattle.scasp_top.specs.declared.refusals.Input.TheVariants as input
@@ -44,6 +45,10 @@ run_ends = refl
 
 check_ends : check_status (Some check.Accepted) ∷ check_status (Some check.Refused) ∷ check_status None ∷ [] ≡ Done ∷ Refused ∷ Memory ∷ []
 check_ends = refl
+
+trial_ends : trial_status (trial.Right 9 13 true) ∷ trial_status trial.Ended ∷ trial_status trial.Spent ∷ trial_status trial.Overflow ∷ []
+    ≡ Done ∷ NoAnswer ∷ Spent ∷ Overflow ∷ []
+trial_ends = refl
 
 all_answers : asked_answers 0 ≡ None
 all_answers = refl

@@ -1,5 +1,5 @@
 -- What a command prints, and the status with which it ends.
-use Rattle.std.specs.Prelude.{◌≡◌, ◌==◌, ◌⊎◌, ℕ, if◌then◌else◌, Option, None, Some, IfSome, List, [], All, Ok, Err}
+use Rattle.std.specs.Prelude.{◌≡◌, ◌==◌, ◌⊎◌, ℕ, if◌then◌else◌, Option, None, Some, IfSome, List, [], length, All, Ok, Err}
 use Rattle.scasp_name.specs.Texts.{list_names}
 use Rattle.scasp_syntax.specs.declared.program.Program.{Program}
 use Rattle.scasp_phrase.specs.declared.fault.Fault.{Fault}
@@ -10,13 +10,17 @@ use Rattle.scasp_answers.specs.declared.fault.AnswerFault.{AnswerFault}
 use Rattle.scasp_answer_files.specs.Texts.{with_names}
 use Rattle.scasp_io.specs.Counts.{Rose}
 use Rattle.scasp_words.specs.declared.command.Command.{Command}
-use Rattle.scasp_words.specs.declared.command.Command.TheVariants.{Run, Check}
+use Rattle.scasp_words.specs.declared.command.Command.TheVariants.{Run, Check, Trial}
+use Rattle.scasp_gen.specs.Trial.{trial_text}
 use Rattle.scasp_run.specs.Jobs.{job}
 use Rattle.scasp_run.specs.Runs.{IsRun}
 use Rattle.scasp_run.specs.declared.ends.RunEnd.{RunEnd}
 use Rattle.scasp_recheck.specs.Outputs.{KeepsWorth}
 use Rattle.scasp_recheck.specs.declared.checking.Rechecked.{Rechecked}
-use Rattle.scasp_top.specs.Ends.{IsCheck, run_status, check_status}
+use Rattle.scasp_trial.specs.Texts.{trial_line}
+use Rattle.scasp_trial.specs.Trials.{IsTrial}
+use Rattle.scasp_trial.specs.declared.first.Trial.{Trial as Trying}
+use Rattle.scasp_top.specs.Ends.{IsCheck, run_status, check_status, trial_status}
 use Rattle.scasp_top.specs.Texts.{usage_line, read_line, refusal_line, refusal_status, program_refusal, answers_refusal}
 use Rattle.scasp_top.specs.declared.refusals.Input.TheVariants as input
 use Rattle.scasp_top.specs.declared.status.Status.{Status}
@@ -105,23 +109,41 @@ pub record Checks (p : Program) (entries : List Entry) (text : List ℕ) (status
   pub ending : status ≡ check_status end
   pub says : All (KeepsWorth p) entries
 
--- the file of the program
-abbrev pub program_file : Command → List ℕ
-program_file (Run file budget answers) = file
-program_file (Check program answers) = program
+-- how many calls a trial may make
+abbrev pub trial_budget : ℕ
+trial_budget = 50000
+
+-- the line of the trial of this program, with this table of names
+pub record Tries (n : ℕ) (p : Program) (names : List (List ℕ)) (text : List ℕ) (status : Status) : Type 0 where
+  pub trial : Trying
+  pub is : IsTrial p trial_budget (length names) trial
+  pub says : Says (trial_line n trial) (trial_status trial) text status
+
+-- The trial program of so many nodes is read as the program of a file is, and tried. That it is read, and not refused, is not claimed.
+pub data TriesNodes (n : ℕ) (text : List ℕ) (status : Status) : Type 0 where
+  is_refused : RefusesProgram (trial_text n) text status → TriesNodes n text status
+  is_tried : (p : Program) (names : List (List ℕ)) → program_in list_names (trial_text n) ≡ Ok (reading_of (p, names)) → Tries n p names text status → TriesNodes n text status
+
+-- the file of the program, if there is one
+abbrev pub program_file : Command → Option (List ℕ)
+program_file (Run file budget answers) = Some file
+program_file (Check program answers) = Some program
+program_file (Trial n) = None
 
 -- This is printed for what the words ask for, and so the command ends. Want of memory may come before anything is printed, and cuts a run or a
 -- check off.
 pub data Outputs (asked : Option Command) (o : Outside) (text : List ℕ) (status : Status) : Type 0 where
   nothing : Says [] Memory text status → Outputs asked o text status
   usage : asked ≡ None → Says usage_line Usage text status → Outputs asked o text status
-  no_program : (command : Command) → asked ≡ Some command → IsNoProgram o (program_file command) text status → Outputs asked o text status
+  no_program : (command : Command) (file : List ℕ) → asked ≡ Some command → program_file command ≡ Some file → IsNoProgram o file text status
+      → Outputs asked o text status
   runs : (file : List ℕ) (budget answers : ℕ) (p : Program) (names : List (List ℕ)) → asked ≡ Some (Run file budget answers)
       → IsProgram (o.told file) p names → Runs p names budget answers text status → Outputs asked o text status
   no_answers : (program answers : List ℕ) (p : Program) (names : List (List ℕ)) → asked ≡ Some (Check program answers)
       → IsProgram (o.told program) p names → IsNoAnswers o answers names text status → Outputs asked o text status
   checks : (program answers : List ℕ) (p : Program) (names : List (List ℕ)) (entries : List Entry) → asked ≡ Some (Check program answers)
       → IsProgram (o.told program) p names → IsAnswers (o.told answers) names entries → Checks p entries text status → Outputs asked o text status
+  tries : (n : ℕ) → asked ≡ Some (Trial n) → TriesNodes n text status → Outputs asked o text status
 
 -- ---- faults
 
@@ -130,6 +152,7 @@ abbrev pub HasReadFault : Option Command → Outside → Type 0
 HasReadFault None o = ⊥
 HasReadFault (Some (Run file budget answers)) o = Failed o file
 HasReadFault (Some (Check program answers)) o = Failed o program ⊎ Failed o answers
+HasReadFault (Some (Trial n)) o = ⊥
 
 -- the same outside, where no read fails
 abbrev pub without_faults : Outside → Outside

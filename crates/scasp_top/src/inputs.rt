@@ -21,7 +21,7 @@ use scasp_text::BYTE_LIMIT;
 use std::alloc::Global;
 
 /// The program that the bytes spell, and its table of names; or the line of the first fault.
-fn read_text(alloc: Global, bytes: &[u8]) -> Result<(Program, Names), Halt>
+pub(crate) fn read_text(alloc: Global, bytes: &[u8]) -> Result<(Program, Names), Halt>
     ensures ok { IfOk result (λ x. program_in list_names bytes.now ≡ Ok (reading_of x)) }
     ensures err { IfErr result (λ halt. IfLine halt (RefusesProgram bytes.now)) }
 {

@@ -9,6 +9,7 @@ mod refusals;
 mod run_command;
 mod status;
 mod top;
+mod trial_command;
 
 pub use laws::{checks_agree, checks_mean};
 pub use status::Status;

@@ -3,7 +3,8 @@
 /// How a command ended.
 #[derive(Clone, Copy, Debug, PartialEq, Eq)]
 pub enum Status {
-    /// An answer was printed, and each query ended or was stopped; or each block that was checked is accepted.
+    /// An answer was printed, and each query ended or was stopped; or each block that was checked is accepted; or a trial came to an
+    /// answer.
     Done,
     /// The search for answers to each query ended without one.
     NoAnswer,

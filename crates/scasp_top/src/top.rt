@@ -11,6 +11,7 @@ use crate::check_command::check_files;
 use crate::halt::print;
 use crate::run_command::run_file;
 use crate::status::Status;
+use crate::trial_command::try_nodes;
 use scasp_io::{Files, Sink, SureFiles, SureSink};
 use scasp_words::{Command, WordErr, parse_words};
 use std::alloc::Global;
@@ -45,6 +46,7 @@ pub fn scasp<F: Files, K: Sink>(
         Ok(Command::Check { program, answers }) => {
             check_files(alloc, program.as_str(), answers.as_str(), files, out)
         }
+        Ok(Command::Trial { n }) => try_nodes(alloc, n, out),
         Err(WordErr::Usage) => print(USAGE_LINE, Status::Usage, out),
         Err(WordErr::Memory) => Status::Memory,
     }

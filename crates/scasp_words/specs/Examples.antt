@@ -1,7 +1,7 @@
 -- Words that are a command, and words that are none, computed.
 use Rattle.std.specs.Prelude.{◌≡◌, ℕ, None, Some, List, [], ◌∷◌, codes, refl}
 use Rattle.scasp_words.specs.Commands.{command_of}
-use Rattle.scasp_words.specs.declared.command.Command.TheVariants.{Run, Check}
+use Rattle.scasp_words.specs.declared.command.Command.TheVariants.{Run, Check, Trial}
 
 abbrev run_p : List (List ℕ) → List (List ℕ)
 run_p options = codes "run" ∷ codes "p" ∷ options
@@ -17,6 +17,15 @@ other_order = refl
 
 check_two : command_of (codes "check" ∷ codes "p" ∷ codes "a" ∷ []) ≡ Some (Check (codes "p") (codes "a"))
 check_two = refl
+
+abbrev trial_n : List ℕ → List (List ℕ)
+trial_n number = codes "trial" ∷ number ∷ []
+
+one_node : command_of (trial_n (codes "1")) ≡ Some (Trial 1)
+one_node = refl
+
+most_nodes : command_of (trial_n (codes "1000")) ≡ Some (Trial 1000)
+most_nodes = refl
 
 -- a file may have any name
 named_as_an_option : command_of (codes "run" ∷ codes "--budget" ∷ []) ≡ Some (Run (codes "--budget") 50000 1)
@@ -60,6 +69,17 @@ no_digit = refl
 no_number : command_of (run_p (codes "--answers" ∷ [] ∷ [])) ≡ None
 no_number = refl
 
--- not built yet
-a_trial : command_of (codes "trial" ∷ codes "1" ∷ []) ≡ None
-a_trial = refl
+no_node : command_of (trial_n (codes "0")) ≡ None
+no_node = refl
+
+zero_before : command_of (trial_n (codes "01")) ≡ None
+zero_before = refl
+
+too_many_nodes : command_of (trial_n (codes "1001")) ≡ None
+too_many_nodes = refl
+
+no_count : command_of (codes "trial" ∷ []) ≡ None
+no_count = refl
+
+two_counts : command_of (codes "trial" ∷ codes "1" ∷ codes "2" ∷ []) ≡ None
+two_counts = refl

@@ -3,7 +3,6 @@ use Rattle.std.specs.Prelude.{ℕ, Bool, false, not, ◌&&◌, ◌==◌, nat_le,
 use Rattle.std.specs.Char.{is_ascii_digit}
 use Rattle.std.specs.List.{list_all}
 use Rattle.std.specs.Str.Parse.{digits_value}
-use Rattle.scasp_words.specs.declared.number.TheConstants.{MOST}
 
 abbrev pub are_digits : List ℕ → Bool
 are_digits word = list_all is_ascii_digit word
@@ -19,7 +18,7 @@ is_number (first ∷ second ∷ more) =
 abbrev pub value : List ℕ → ℕ
 value word = digits_value 10 word
 
--- the number that a word spells, where it is from `least` to 1,000,000,000
-abbrev pub number_from : ℕ → List ℕ → Option ℕ
-number_from least word =
-    if is_number word && nat_le least (value word) && nat_le (value word) MOST then Some (value word) else None
+-- the number that a word spells, where it is from `least` to `most`
+abbrev pub number_between : ℕ → ℕ → List ℕ → Option ℕ
+number_between least most word =
+    if is_number word && nat_le least (value word) && nat_le (value word) most then Some (value word) else None

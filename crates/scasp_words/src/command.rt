@@ -1,8 +1,9 @@
 //! Commands.
 ghost use Rattle.std.specs.Prelude.{◌≡◌, Some, None, IfOk, IsErrOf, map, string_bytes};
-ghost use Rattle.scasp_words.specs.Commands.{command_of, run_of, check_of};
+ghost use Rattle.scasp_words.specs.Commands.{command_of, run_of, check_of, trial_of};
 
 use crate::error::WordErr;
+use crate::number::number_between;
 use crate::options::{Options, with_options};
 use crate::word::Word;
 use std::alloc::Global;
@@ -12,6 +13,9 @@ pub const DEFAULT_BUDGET: u64 = 50_000;
 
 /// How many answers to a query are asked for where the words do not say.
 pub const DEFAULT_ANSWERS: u64 = 1;
+
+/// How many nodes a trial program may have.
+pub const MOST_NODES: u64 = 1_000;
 
 /// What the words ask for.
 #[derive(Debug, Drop)]
@@ -28,6 +32,10 @@ pub enum Command {
     Check {
         program: Word,
         answers: Word,
+    },
+    /// The first answer of the trial program of so many nodes.
+    Trial {
+        n: u32,
     },
 }
 
@@ -67,7 +75,21 @@ fn check_command(alloc: Global, words: &[String]) -> Result<Command, WordErr>
     }
 }
 
-/// The command that the words are. `trial N` stands in the usage line, and is not built yet.
+/// The command that the words behind `trial` are: how many nodes.
+fn trial_command(words: &[String]) -> Result<Command, WordErr>
+    ensures ok { IfOk result (λ command. trial_of (map string_bytes words.now) ≡ Some command) }
+    ensures usage { IsErrOf result WordErr.Usage → trial_of (map string_bytes words.now) ≡ None }
+{
+    let [number] = words else {
+        return Err(WordErr::Usage);
+    };
+    let Some(n) = number_between(1, MOST_NODES, number.as_str()) else {
+        return Err(WordErr::Usage);
+    };
+    Ok(Command::Trial { n: n as u32 })
+}
+
+/// The command that the words are.
 ///
 /// # Errors
 ///
@@ -79,6 +101,7 @@ pub fn parse_words(alloc: Global, words: &Vec<String>) -> Result<Command, WordEr
     match words.as_slice() {
         [word, behind @ ..] if word.as_str() == "run" => run_command(alloc, behind),
         [word, behind @ ..] if word.as_str() == "check" => check_command(alloc, behind),
+        [word, behind @ ..] if word.as_str() == "trial" => trial_command(behind),
         _ => Err(WordErr::Usage),
     }
 }

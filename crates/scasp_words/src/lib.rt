@@ -7,6 +7,6 @@ mod number;
 mod options;
 mod word;
 
-pub use command::{Command, DEFAULT_ANSWERS, DEFAULT_BUDGET, parse_words};
+pub use command::{Command, DEFAULT_ANSWERS, DEFAULT_BUDGET, MOST_NODES, parse_words};
 pub use error::WordErr;
 pub use word::Word;

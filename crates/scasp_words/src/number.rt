@@ -1,9 +1,6 @@
 //! Numbers as words.
-ghost use Rattle.std.specs.Prelude.{◌≡◌, IsTrue};
+ghost use Rattle.std.specs.Prelude.{◌≡◌, ◌≤◌, IfSome, IsTrue};
 ghost use Rattle.scasp_words.specs.Numbers as spec;
-
-/// The largest number that a command takes.
-pub const MOST: u64 = 1_000_000_000;
 
 /// The most digits of a number.
 const DIGITS: usize = 10;
@@ -25,15 +22,16 @@ fn is_number(word: &[u8]) -> bool
     }
 }
 
-/// The number that the word spells, where it is from `least` to `MOST`.
-pub(crate) fn number_from(least: u64, word: &str) -> Option<u64>
-    ensures { result ≡ spec.number_from least word.now }
+/// The number that the word spells, where it is from `least` to `most`.
+pub(crate) fn number_between(least: u64, most: u64, word: &str) -> Option<u64>
+    ensures value { result ≡ spec.number_between least most word.now }
+    ensures within { IfSome result (λ number. number ≤ most) }
 {
     if !is_number(word.as_bytes()) {
         return None;
     }
     let number = value(word);
-    if least <= number && number <= MOST {
+    if least <= number && number <= most {
         Some(number)
     } else {
         None

@@ -2,7 +2,10 @@
 ghost use Rattle.std.specs.Prelude.{◌≡◌, map, string_bytes};
 ghost use Rattle.scasp_words.specs.Options as spec;
 
-use crate::number::number_from;
+use crate::number::number_between;
+
+/// The largest budget, and the most answers that are asked for by their number.
+const MOST: u64 = 1_000_000_000;
 
 /// The options of a run that have been given.
 #[derive(Clone, Copy)]
@@ -16,11 +19,11 @@ fn with_option(given: Options, name: &str, number: &str) -> Option<Options>
     ensures { result ≡ spec.with_option given name.now number.now }
 {
     if name == "--budget" && given.budget.is_none() {
-        let budget = Some(number_from(1, number)?);
+        let budget = Some(number_between(1, MOST, number)?);
         return Some(Options { budget, ..given });
     }
     if name == "--answers" && given.answers.is_none() {
-        let answers = Some(number_from(0, number)?);
+        let answers = Some(number_between(0, MOST, number)?);
         return Some(Options { answers, ..given });
     }
     None

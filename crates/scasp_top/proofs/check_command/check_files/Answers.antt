@@ -1,4 +1,4 @@
-use Rattle.std.proofs.Common.{map}
+use Rattle.std.proofs.Common.{map, refl}
 use Rattle.scasp_answer_files.specs.View.{entry_of}
 use Rattle.scasp_words.specs.declared.command.Command.TheVariants.{Check}
 use Rattle.scasp_top.proofs.CommandLemmas.{goes-on-check, stops-at-answers, stops-at-program}
@@ -6,8 +6,8 @@ use Rattle.scasp_top.proofs.check_command.check_files.Goals as goal
 
 pub returns-in-Err : goal.returns-in-Err
 returns-in-Err g c =
-    stops-at-program (Check c.args.program.now c.args.answers.now) (g.F.Files.told c.args.files.now) (g.F.Files.faults c.args.files.now) (g.F.Files.faults c.program_in_file.new.files)
-    c.in-Err.halt _ _ _ _ _ c.in-Err.ensures.err c.tell.ensures
+    stops-at-program (Check c.args.program.now c.args.answers.now) c.args.program.now (g.F.Files.told c.args.files.now) (g.F.Files.faults c.args.files.now) (g.F.Files.faults c.program_in_file.new.files)
+    c.in-Err.halt _ _ _ _ _ refl c.in-Err.ensures.err c.tell.ensures
 
 pub returns-in-Ok-answers_in_file : goal.returns-in-Ok-answers_in_file
 returns-in-Ok-answers_in_file g c =

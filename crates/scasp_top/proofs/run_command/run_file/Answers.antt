@@ -1,3 +1,4 @@
+use Rattle.std.proofs.Common.{refl}
 use Rattle.scasp_words.specs.declared.command.Command.TheVariants.{Run}
 use Rattle.scasp_top.proofs.CommandLemmas.{goes-on-run, stops-at-program}
 use Rattle.scasp_top.proofs.run_command.run_file.Goals as goal
@@ -9,5 +10,5 @@ returns-in-Ok g c =
 
 pub returns-in-Err : goal.returns-in-Err
 returns-in-Err g c =
-    stops-at-program (Run c.args.file.now c.args.budget c.args.answers) (g.F.Files.told c.args.files.now) (g.F.Files.faults c.args.files.now) (g.F.Files.faults c.program_in_file.new.files)
-    c.in-Err.halt _ _ _ _ _ c.in-Err.ensures.err c.tell.ensures
+    stops-at-program (Run c.args.file.now c.args.budget c.args.answers) c.args.file.now (g.F.Files.told c.args.files.now) (g.F.Files.faults c.args.files.now) (g.F.Files.faults c.program_in_file.new.files)
+    c.in-Err.halt _ _ _ _ _ refl c.in-Err.ensures.err c.tell.ensures

@@ -1,0 +1,4 @@
+pub mod Examples
+pub mod Inside
+pub mod Texts
+pub mod Trials
