@@ -10,18 +10,9 @@ use std::test::Fail;
 
 /// The words of trials, and their lines.
 const TRIALS: &[(&[&str], &str)] = &[
-    (
-        &["trial", "1"],
-        "trial 1 calls 9 lines 13 right any\n",
-    ),
-    (
-        &["trial", "2"],
-        "trial 2 calls 17 lines 25 right any\n",
-    ),
-    (
-        &["trial", "10"],
-        "trial 10 calls 81 lines 121 right any\n",
-    ),
+    (&["trial", "1"], "trial 1 calls 9 lines 13 right any\n"),
+    (&["trial", "2"], "trial 2 calls 17 lines 25 right any\n"),
+    (&["trial", "10"], "trial 10 calls 81 lines 121 right any\n"),
 ];
 
 /// The trial of one node.
@@ -137,6 +128,15 @@ const CLASH: Tried = Tried {
 #[test]
 fn clash_lines_are_not_counted(rt: HostRuntime) -> Result<(), Fail> {
     let trial = trial_of(rt.alloc(), &CLASH)?;
-    assert!(rt; matches!(trial, Trial::Right { lines: 32, any: true, .. }));
+    assert!(rt;
+        matches!(
+            trial,
+            Trial::Right {
+                lines: 32,
+                any: true,
+                ..
+            }
+        )
+    );
     Ok(())
 }

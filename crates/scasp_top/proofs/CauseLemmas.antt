@@ -75,6 +75,7 @@ program-fault asked o command file is named rose =
     of other e =
         let same : file ≡ other = cc in
         subst (λ (x : List ℕ). Rose (o.before x) (o.after x)) same rose
+
     by : (command : Command) → program_file command ≡ Some file → HasReadFault (Some command) o
     by (Run other budget answers) e = of other e
     by (Check program answers) e = inl (of program e)

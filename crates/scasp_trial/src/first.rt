@@ -59,7 +59,12 @@ fn right(cert: &Cert, calls: u64) -> Result<Trial, Memory>
 }
 
 /// What the tree of an answer of the search comes to after so many calls; none where no hints make it accepted.
-fn tree_of(alloc: Global, program: &Program, tree: &Cert, calls: u64) -> Result<Option<Trial>, Memory>
+fn tree_of(
+    alloc: Global,
+    program: &Program,
+    tree: &Cert,
+    calls: u64,
+) -> Result<Option<Trial>, Memory>
     ensures { IfOk result (λ trial. (old new : Rest) → IsAbout program.now old → Meets old (answered (certificate_of tree.now)) new → calls ≡ new.calls
         → Leads program.now old new trial) }
 {
@@ -99,12 +104,7 @@ fn try_search(alloc: Global, program: &Program, search: &mut Written) -> Result<
 }
 
 /// The trial of the first query of a program that has one.
-fn try_query(
-    alloc: Global,
-    program: &Program,
-    budget: u64,
-    fresh: u64,
-) -> Result<Trial, Memory>
+fn try_query(alloc: Global, program: &Program, budget: u64, fresh: u64) -> Result<Trial, Memory>
     requires { IsSome (numbered program.now.queries 1) }
     ensures { IfOk result (λ trial. IsTrial program.now budget fresh trial) }
 {
@@ -118,12 +118,7 @@ fn try_query(
 /// # Errors
 ///
 /// Want of memory.
-pub fn try_first(
-    alloc: Global,
-    program: &Program,
-    budget: u64,
-    fresh: u64,
-) -> Result<Trial, Memory>
+pub fn try_first(alloc: Global, program: &Program, budget: u64, fresh: u64) -> Result<Trial, Memory>
     ensures { IfOk result (λ trial. IsTrial program.now budget fresh trial) }
 {
     match program.query(1) {
