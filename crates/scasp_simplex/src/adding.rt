@@ -1,8 +1,10 @@
 //! Rows that come: one more line in the present basis.
-use crate::form::{Bound, Form, Line, Role, Unknown, add_times};
+use crate::combination::{Combination, Term};
+use crate::form::{Bound, Column, Form, Line, Role, Unknown, count_in, value_by};
 use crate::stop::Stop;
-use crate::value::{Value, is_zero, whole};
-use scasp_num::{Op, Rat, Row};
+use crate::value::Value;
+use crate::whole::{negation, product};
+use scasp_num::{Op, Row};
 use std::alloc::Global;
 
 /// Puts the rows behind those that the form stands for into it.
@@ -22,14 +24,15 @@ fn add_row(alloc: Global, form: &mut Form, place: usize, row: &Row) -> Result<()
         return Ok(());
     }
     add_columns(form, row)?;
-    let terms = terms_of(alloc, form, row)?;
+    let sum = sum_of(alloc, form, row)?;
+    let value = value_by(form.columns.as_slice(), &sum)?;
     let basic = Unknown {
         order: form.next_order()?,
         role: Role::Sum(place),
         bound: Some(bound_of(row)?),
-        value: value_by(form.columns.as_slice(), terms.as_slice())?,
     };
-    form.lines.push(Line { basic, terms })?;
+    count_in(form.columns.as_mut_slice(), &sum);
+    form.lines.push(Line { basic, sum, value })?;
     Ok(())
 }
 
@@ -44,8 +47,8 @@ fn add_columns(form: &mut Form, row: &Row) -> Result<(), Stop> {
 }
 
 fn has_variable(form: &Form, x: u64) -> bool {
-    for unknown in form.columns.as_slice() {
-        if unknown.is_given(x) {
+    for column in form.columns.as_slice() {
+        if column.unknown.is_given(x) {
             return true;
         }
     }
@@ -59,61 +62,45 @@ fn has_variable(form: &Form, x: u64) -> bool {
 
 /// A new variable, with value 0.
 fn add_column(form: &mut Form, x: u64) -> Result<(), Stop> {
-    let order = form.next_order()?;
-    let value = Value::zero()?;
-    let zero = whole(0)?;
-    for line in form.lines.iter_mut() {
-        line.terms.push(zero)?;
-    }
-    form.columns.push(Unknown {
-        order,
+    let unknown = Unknown {
+        order: form.next_order()?,
         role: Role::Given(x),
         bound: None,
-        value,
+    };
+    form.columns.push(Column {
+        unknown,
+        value: Value::zero(),
+        uses: 0,
     })?;
     Ok(())
 }
 
 /// The row's sum in terms of the columns.
-fn terms_of(alloc: Global, form: &Form, row: &Row) -> Result<Vec<Rat>, Stop> {
-    let mut terms = own_terms(alloc, form.columns.as_slice(), row)?;
+fn sum_of(alloc: Global, form: &Form, row: &Row) -> Result<Combination, Stop> {
+    let terms = own_terms(alloc, form.columns.as_slice(), row)?;
+    let mut sum = Combination { scale: 1, terms };
     for line in form.lines.as_slice() {
         let c = line.basic.coefficient_in(row);
         if c != 0 {
-            add_times(terms.as_mut_slice(), &whole(c)?, line.terms.as_slice())?;
-        }
-    }
-    Ok(terms)
-}
-
-/// The row's coefficients of the columns.
-fn own_terms(alloc: Global, columns: &[Unknown], row: &Row) -> Result<Vec<Rat>, Stop> {
-    let mut terms = Vec::new(alloc);
-    for unknown in columns {
-        let term = whole(unknown.coefficient_in(row))?;
-        terms.push(term)?;
-    }
-    Ok(terms)
-}
-
-/// The sum of the columns' values times the terms.
-fn value_by(columns: &[Unknown], terms: &[Rat]) -> Result<Value, Stop> {
-    let mut sum = Value::zero()?;
-    for (column, unknown) in columns.iter().enumerate() {
-        if let Some(term) = terms.get(column) {
-            sum = with_value(&sum, unknown, term)?;
+            sum = sum.replaced(alloc, None, product(c, sum.scale)?, &line.sum)?;
         }
     }
     Ok(sum)
 }
 
-/// The sum with a variable's value times its term.
-fn with_value(sum: &Value, unknown: &Unknown, term: &Rat) -> Result<Value, Stop> {
-    if is_zero(term) {
-        return Ok(*sum);
+/// The terms of the row whose variables have columns.
+fn own_terms(alloc: Global, columns: &[Column], row: &Row) -> Result<Vec<Term>, Stop> {
+    let mut terms = Vec::new(alloc);
+    for (place, column) in columns.iter().enumerate() {
+        let times = column.unknown.coefficient_in(row);
+        if times != 0 {
+            terms.push(Term {
+                column: place,
+                times,
+            })?;
+        }
     }
-    let product = unknown.value.times(term)?;
-    Ok(sum.plus(&product)?)
+    Ok(terms)
 }
 
 /// What the sum of the row's terms may be.
@@ -122,14 +109,13 @@ fn bound_of(row: &Row) -> Result<Bound, Stop> {
         Op::Lt => -1,
         Op::Eq | Op::Le | Op::Ne => 0,
     };
-    let real = whole(row.constant())?.neg();
-    let most = Value {
-        real,
-        tiny: whole(tiny)?,
-    };
+    let real = negation(row.constant())?;
     let is_exact = match row.op() {
         Op::Eq => true,
         Op::Lt | Op::Le | Op::Ne => false,
     };
-    Ok(Bound { most, is_exact })
+    Ok(Bound {
+        most: Value { real, tiny },
+        is_exact,
+    })
 }

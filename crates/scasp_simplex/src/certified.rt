@@ -1,12 +1,13 @@
 //! What the tableau finds, tested.
-ghost use Rattle.std.specs.Prelude.{IfOk, IfSome};
+ghost use Rattle.std.specs.Prelude.{IfOk, IfSome, IsTrue};
+ghost use Rattle.scasp_rows.specs.Points.{IsMet};
 ghost use Rattle.scasp_simplex.specs.Inside.Certified.{IsRight};
 ghost use Rattle.scasp_simplex.specs.Inside.Chains.{Add};
 
 use crate::chain::{Chain, has_false};
 use crate::combining::combine;
 use crate::form::Form;
-use crate::point::meets_all;
+use crate::point::{meets_all, meets_last};
 use crate::pointing::point_of;
 use crate::solving::{Found, Share, solve};
 use crate::stop::Stop;
@@ -15,7 +16,17 @@ use scasp_num::Row;
 use scasp_rows::Verdict;
 use std::alloc::Global;
 
-/// The verdict by the form, where it stands the test; else by a new form, where that does. None leaves a form that may
+/// Whether the last point is seen to meet all rows. The last row is looked at first, since it is often the only new one.
+fn is_met(form: &Form, rows: &[Row]) -> bool
+    ensures { IsTrue result → IsMet rows.now }
+{
+    match &form.point {
+        Some(point) => meets_last(point, rows) && meets_all(point, rows),
+        None => false,
+    }
+}
+
+/// The verdict by the last point or by the form, where it stands the test; else by a new form, where that does. None leaves a form that may
 /// stand for nothing.
 pub(crate) fn certified(
     alloc: Global,
@@ -24,6 +35,9 @@ pub(crate) fn certified(
 ) -> Result<Option<Verdict>, Memory>
     ensures { IfOk result (λ answer. IfSome answer (IsRight rows.now)) }
 {
+    if is_met(form, rows) {
+        return Ok(Some(Verdict::Sat));
+    }
     if is_worn(form, rows) {
         *form = Form::new(alloc);
     }
@@ -61,11 +75,12 @@ fn by_form(alloc: Global, form: &mut Form, rows: &[Row]) -> Result<Option<Verdic
 }
 
 /// Satisfiable, where the form's point meets all rows.
-fn by_point(alloc: Global, form: &Form, rows: &[Row]) -> Result<Option<Verdict>, Memory>
+fn by_point(alloc: Global, form: &mut Form, rows: &[Row]) -> Result<Option<Verdict>, Memory>
     ensures { IfOk result (λ answer. IfSome answer (IsRight rows.now)) }
 {
     match point_of(alloc, form) {
         Ok(point) => Ok(if meets_all(&point, rows) {
+            form.point = Some(point);
             Some(Verdict::Sat)
         } else {
             None

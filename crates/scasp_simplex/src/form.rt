@@ -1,8 +1,12 @@
-//! The simplex form: basic variables as sums of the others.
+//! The simplex form: basic variables as sums of the others, in whole numbers.
+use crate::combination::Combination;
+use crate::point::Point;
 use crate::stop::Stop;
-use crate::value::{Value, is_zero, whole};
-use scasp_num::{Rat, Row};
+use crate::value::Value;
+use crate::whole::product;
+use scasp_num::Row;
 use std::alloc::Global;
+use std::cmp::Ordering;
 
 /// What a variable of the form stands for.
 #[derive(Clone, Copy)]
@@ -20,31 +24,44 @@ pub(crate) struct Bound {
     pub(crate) is_exact: bool,
 }
 
-/// A variable of the form, with its value. Those with a lower `order` are chosen first.
+/// A variable of the form. Those with a lower `order` are chosen first.
 #[derive(Clone, Copy)]
 pub(crate) struct Unknown {
     pub(crate) order: u64,
     pub(crate) role: Role,
     pub(crate) bound: Option<Bound>,
-    pub(crate) value: Value,
 }
 
-/// A basic variable, which is the sum of the columns' variables times these terms.
+/// A variable that is no sum of others, with its value times the form's unit.
+#[derive(Clone, Copy)]
+pub(crate) struct Column {
+    pub(crate) unknown: Unknown,
+    pub(crate) value: Value,
+    /// How many lines it stands in.
+    pub(crate) uses: usize,
+}
+
+/// A basic variable as a sum of the columns' variables, with its value times the unit and the scale of the sum.
 #[derive(Drop)]
 pub(crate) struct Line {
     pub(crate) basic: Unknown,
-    pub(crate) terms: Vec<Rat>,
+    pub(crate) sum: Combination,
+    pub(crate) value: Value,
 }
 
 /// The basic variables, and the others, which have values within their bounds.
 #[derive(Drop)]
 pub(crate) struct Form {
     pub(crate) lines: Vec<Line>,
-    pub(crate) columns: Vec<Unknown>,
+    pub(crate) columns: Vec<Column>,
+    /// A number above 0; the columns' values times it are whole.
+    pub(crate) unit: i128,
     /// How many variables there have been.
     pub(crate) made: u64,
     /// How many of the first rows it stands for.
     pub(crate) rows: usize,
+    /// The last point that met all rows.
+    pub(crate) point: Option<Point>,
 }
 
 impl Form {
@@ -53,8 +70,10 @@ impl Form {
         Form {
             lines: Vec::new(alloc),
             columns: Vec::new(alloc),
+            unit: 1,
             made: 0,
             rows: 0,
+            point: None,
         }
     }
 
@@ -92,29 +111,61 @@ impl Unknown {
     }
 }
 
-/// Adds to each term the other times a number.
-pub(crate) fn add_times(terms: &mut [Rat], a: &Rat, others: &[Rat]) -> Result<(), Stop> {
-    for k in 0..terms.len() {
-        if let Some(other) = others.get(k) {
-            terms[k] = with_times(&terms[k], a, other)?;
+impl Column {
+    /// Whether the variable may rise.
+    pub(crate) fn may_rise(&self, unit: i128) -> Result<bool, Stop> {
+        match &self.unknown.bound {
+            None => Ok(true),
+            Some(bound) => {
+                Ok(
+                    !bound.is_exact
+                        && self.value.compare(&bound.most.times(unit)?) == Ordering::Less,
+                )
+            }
         }
     }
-    Ok(())
-}
 
-/// The sum with a product.
-fn with_times(sum: &Rat, a: &Rat, other: &Rat) -> Result<Rat, Stop> {
-    if is_zero(other) {
-        return Ok(*sum);
+    /// Whether the variable may fall.
+    pub(crate) fn may_fall(&self) -> bool {
+        match &self.unknown.bound {
+            None => true,
+            Some(bound) => !bound.is_exact,
+        }
     }
-    let product = a.mul(other)?;
-    Ok(sum.add(&product)?)
 }
 
-/// The term of a column; 0 where there is none.
-pub(crate) fn term_at(terms: &[Rat], column: usize) -> Result<Rat, Stop> {
-    match terms.get(column) {
-        Some(term) => Ok(*term),
-        None => Ok(whole(0)?),
+impl Line {
+    /// What the value is multiplied by.
+    pub(crate) fn per(&self, unit: i128) -> Result<i128, Stop> {
+        product(self.sum.scale, unit)
+    }
+}
+
+/// The value of the sum, times its scale and what the columns' values are multiplied by.
+pub(crate) fn value_by(columns: &[Column], sum: &Combination) -> Result<Value, Stop> {
+    let mut value = Value::zero();
+    for term in sum.terms.as_slice() {
+        if let Some(column) = columns.get(term.column) {
+            value = value.plus(&column.value.times(term.times)?)?;
+        }
+    }
+    Ok(value)
+}
+
+/// Counts that one more line is the sum.
+pub(crate) fn count_in(columns: &mut [Column], sum: &Combination) {
+    for term in sum.terms.as_slice() {
+        if let Some(column) = columns.get_mut(term.column) {
+            column.uses = column.uses.saturating_add(1);
+        }
+    }
+}
+
+/// Counts that one line less is the sum.
+pub(crate) fn count_out(columns: &mut [Column], sum: &Combination) {
+    for term in sum.terms.as_slice() {
+        if let Some(column) = columns.get_mut(term.column) {
+            column.uses = column.uses.saturating_sub(1);
+        }
     }
 }

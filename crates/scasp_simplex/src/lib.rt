@@ -6,6 +6,7 @@
 mod adding;
 mod certified;
 mod chain;
+mod combination;
 mod combining;
 mod dropping;
 mod fallback;
@@ -17,5 +18,6 @@ mod solving;
 mod stop;
 mod tableau;
 mod value;
+mod whole;
 
 pub use tableau::{TabMark, Tableau};

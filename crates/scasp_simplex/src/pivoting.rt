@@ -1,70 +1,88 @@
 //! Pivots: a basic variable changes places with another.
-use crate::form::{Form, Line, Unknown, add_times, term_at};
+use crate::combination::{Combination, Term};
+use crate::form::{Column, Form, Line, count_in, count_out, value_by};
 use crate::stop::Stop;
-use crate::value::{Value, inverse, is_zero, whole};
-use scasp_num::Rat;
+use crate::value::Value;
+use crate::whole::{negation, quotient};
+use std::alloc::Global;
 
-/// Gives the basic variable of a line the value and makes it the column, whose variable becomes basic in the last
-/// line.
-pub(crate) fn pivot(form: &mut Form, at: usize, column: usize, value: &Value) -> Result<(), Stop> {
+/// Gives the basic variable of a line the value, which is times the unit, and makes it the column, whose variable
+/// becomes basic in the last line.
+pub(crate) fn pivot(
+    alloc: Global,
+    form: &mut Form,
+    at: usize,
+    column: usize,
+    value: &Value,
+) -> Result<(), Stop> {
     if at >= form.lines.len() || column >= form.columns.len() {
         return Err(Stop::Lost);
     }
-    let Line { basic, mut terms } = form.lines.swap_remove(at);
-    let entering = form.columns[column];
-    form.columns[column] = Unknown {
+    let Line { basic, sum, .. } = form.lines.swap_remove(at);
+    let Column {
+        unknown: entering,
+        uses,
+        ..
+    } = form.columns[column];
+    form.columns[column] = Column {
+        unknown: basic,
         value: *value,
-        ..basic
+        uses,
     };
-    let inverse = inverse(&term_at(terms.as_slice(), column)?)?;
-    let shift = value.minus(&basic.value)?.times(&inverse)?;
-    solve(terms.as_mut_slice(), column, &inverse)?;
-    replace_all(form, column, terms.as_slice(), &shift)?;
-    let value = entering.value.plus(&shift)?;
-    let basic = Unknown { value, ..entering };
-    form.lines.push(Line { basic, terms })?;
-    Ok(())
-}
-
-/// The terms of the column's variable by those of the basic one, of which the column's has the inverse.
-fn solve(terms: &mut [Rat], column: usize, inverse: &Rat) -> Result<(), Stop> {
-    for k in 0..terms.len() {
-        terms[k] = if k == column {
-            *inverse
-        } else {
-            turned(&terms[k], inverse)?
-        };
-    }
-    Ok(())
-}
-
-/// The negation of the product.
-fn turned(term: &Rat, by: &Rat) -> Result<Rat, Stop> {
-    if is_zero(term) {
-        return Ok(*term);
-    }
-    Ok(term.mul(by)?.neg())
-}
-
-/// Replaces the variable of the column by the sum in each line.
-fn replace_all(form: &mut Form, column: usize, by: &[Rat], shift: &Value) -> Result<(), Stop> {
+    let sum = solved(sum, column)?;
     for line in form.lines.iter_mut() {
-        replace(line, column, by, shift)?;
+        replace(alloc, form.columns.as_mut_slice(), line, column, &sum)?;
     }
+    let value = value_by(form.columns.as_slice(), &sum)?;
+    form.lines.push(Line {
+        basic: entering,
+        sum,
+        value,
+    })?;
     Ok(())
 }
 
-/// Replaces the variable of the column, whose value changes so, by the sum.
-fn replace(line: &mut Line, column: usize, by: &[Rat], shift: &Value) -> Result<(), Stop> {
-    if column >= line.terms.len() {
-        return Err(Stop::Lost);
+/// The column's variable by the others and the basic variable, which takes its column.
+fn solved(sum: Combination, column: usize) -> Result<Combination, Stop> {
+    let times = sum.times(column);
+    let Combination { scale, mut terms } = sum;
+    let sign = if times < 0 { -1 } else { 1 };
+    for term in terms.iter_mut() {
+        *term = turned(term, column, scale, sign)?;
     }
-    let factor = line.terms[column];
-    if is_zero(&factor) {
+    let scale = quotient(times, sign)?;
+    Ok(Combination { scale, terms })
+}
+
+/// The term on the other side, times the sign.
+fn turned(term: &Term, column: usize, scale: i128, sign: i128) -> Result<Term, Stop> {
+    let times = if term.column == column {
+        quotient(scale, sign)?
+    } else {
+        negation(quotient(term.times, sign)?)?
+    };
+    Ok(Term {
+        column: term.column,
+        times,
+    })
+}
+
+/// Replaces the variable of the column by the sum.
+fn replace(
+    alloc: Global,
+    columns: &mut [Column],
+    line: &mut Line,
+    column: usize,
+    by: &Combination,
+) -> Result<(), Stop> {
+    let times = line.sum.times(column);
+    if times == 0 {
         return Ok(());
     }
-    let change = shift.times(&factor)?;
-    line.basic.value = line.basic.value.plus(&change)?;
-    line.terms[column] = whole(0)?;
-    add_times(line.terms.as_mut_slice(), &factor, by)
+    let sum = line.sum.replaced(alloc, Some(column), times, by)?;
+    count_out(columns, &line.sum);
+    count_in(columns, &sum);
+    line.value = value_by(columns, &sum)?;
+    line.sum = sum;
+    Ok(())
 }

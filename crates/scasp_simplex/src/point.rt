@@ -94,3 +94,11 @@ pub(crate) fn meets_all(point: &Point, rows: &[Row]) -> bool
 {
     has_denominator(point) && meets_each(point, rows)
 }
+
+/// Whether the last row is seen to be met.
+pub(crate) fn meets_last(point: &Point, rows: &[Row]) -> bool {
+    match rows.last() {
+        Some(row) => meets(point, row),
+        None => true,
+    }
+}

@@ -1,35 +1,41 @@
-//! Bland's rule (1977): of all variables that may be chosen the first in order, so that no basis comes twice.
+//! Choice of pivots: by Bland's rule (1977), of all variables that may be chosen the first in order, no basis comes
+//! twice.
 use crate::adding::add_rows;
+use crate::combination::Term;
 use crate::dropping::drop_rows;
-use crate::form::{Form, Line, Role, Unknown};
+use crate::form::{Column, Form, Line, Role, Unknown};
 use crate::pivoting::pivot;
 use crate::stop::Stop;
-use crate::value::{Value, is_zero, whole};
-use scasp_num::{Rat, Row};
+use crate::value::Value;
+use crate::whole::{negation, quotient, sum};
+use scasp_num::Row;
 use std::alloc::Global;
 use std::cmp::Ordering;
 
-/// How a value lies to a variable's bounds.
-#[derive(Clone, Copy)]
-enum Side {
-    Below,
-    Within,
-    Above,
-}
-
-/// A basic variable beyond its bounds: its line, its number in the order, and whether it is above its bounds.
+/// A basic variable beyond its bounds: its line, its number in the order, how far it is beyond them, rounded down, and
+/// whether it is above.
 #[derive(Clone, Copy)]
 struct Beyond {
     at: usize,
     order: u64,
+    by: i128,
     is_above: bool,
 }
 
-/// A row, by its place, times a number.
+/// How a pivot is chosen.
+#[derive(Clone, Copy)]
+enum Rule {
+    /// The basic variable that is the farthest beyond its bounds, and the column that the fewest lines have.
+    Farthest,
+    /// Of both the first in order.
+    First,
+}
+
+/// A row, by its number, times a whole number.
 #[derive(Clone, Copy)]
 pub(crate) struct Share {
-    pub(crate) place: usize,
-    pub(crate) factor: Rat,
+    pub(crate) number: u64,
+    pub(crate) times: i128,
 }
 
 /// What the form says of the rows.
@@ -41,160 +47,171 @@ pub(crate) enum Found {
     Clash(Vec<Share>),
 }
 
-fn side_of(unknown: &Unknown) -> Side {
-    let Some(bound) = &unknown.bound else {
-        return Side::Within;
+/// How the line's basic variable is beyond its bounds, if it is.
+fn beyond_of(at: usize, line: &Line, unit: i128) -> Result<Option<Beyond>, Stop> {
+    let Some(bound) = &line.basic.bound else {
+        return Ok(None);
     };
-    match unknown.value.compare(&bound.most) {
-        Ordering::Greater => Side::Above,
-        Ordering::Equal => Side::Within,
-        Ordering::Less => {
-            if bound.is_exact {
-                Side::Below
-            } else {
-                Side::Within
-            }
-        }
+    let per = line.per(unit)?;
+    let most = bound.most.times(per)?;
+    let is_above = match line.value.compare(&most) {
+        Ordering::Greater => true,
+        Ordering::Less if bound.is_exact => false,
+        Ordering::Less | Ordering::Equal => return Ok(None),
+    };
+    let gap = sum(line.value.real, negation(most.real)?)?;
+    Ok(Some(Beyond {
+        at,
+        order: line.basic.order,
+        by: quotient(gap, per)?.saturating_abs(),
+        is_above,
+    }))
+}
+
+/// A pivot, with the value that the basic variable gets; or that none is needed, or none helps.
+#[derive(Drop)]
+enum Next {
+    Done(Found),
+    Pivot {
+        at: usize,
+        column: usize,
+        value: Value,
+    },
+}
+
+/// Whether the rule takes the first before the other.
+fn is_before(rule: Rule, first: &Beyond, other: &Beyond) -> bool {
+    match rule {
+        Rule::Farthest => first.by >= other.by,
+        Rule::First => first.order <= other.order,
     }
 }
 
-/// The value within the bounds that is nearest to the variable's.
-pub(crate) fn nearest(unknown: &Unknown) -> Value {
-    match (&unknown.bound, side_of(unknown)) {
-        (Some(bound), Side::Above | Side::Below) => bound.most,
-        (Some(_), Side::Within) | (None, _) => unknown.value,
-    }
-}
-
-/// The first basic variable in order that is beyond its bounds.
-fn first_beyond(lines: &[Line]) -> Option<Beyond> {
-    let mut first: Option<Beyond> = None;
-    for (at, line) in lines.iter().enumerate() {
-        let order = line.basic.order;
-        let is_above = match side_of(&line.basic) {
-            Side::Within => continue,
-            Side::Above => true,
-            Side::Below => false,
+/// The basic variable beyond its bounds that the rule takes.
+fn leaving(form: &Form, rule: Rule) -> Result<Option<Beyond>, Stop> {
+    let mut taken: Option<Beyond> = None;
+    for (at, line) in form.lines.iter().enumerate() {
+        let Some(next) = beyond_of(at, line, form.unit)? else {
+            continue;
         };
-        first = match first {
-            Some(other) if other.order <= order => Some(other),
-            _ => Some(Beyond {
-                at,
-                order,
-                is_above,
-            }),
+        taken = match taken {
+            Some(other) if is_before(rule, &other, &next) => Some(other),
+            _ => Some(next),
         };
     }
-    first
-}
-
-/// Whether the variable may rise.
-fn may_rise(unknown: &Unknown) -> bool {
-    match &unknown.bound {
-        None => true,
-        Some(bound) => !bound.is_exact && unknown.value.compare(&bound.most) == Ordering::Less,
-    }
-}
-
-/// Whether the variable may fall.
-fn may_fall(unknown: &Unknown) -> bool {
-    match &unknown.bound {
-        None => true,
-        Some(bound) => !bound.is_exact,
-    }
+    Ok(taken)
 }
 
 /// Whether the column's variable can bring the basic one, in which it has the term, toward its bounds.
-fn may_help(unknown: &Unknown, term: &Rat, is_above: bool) -> bool {
-    if is_zero(term) {
-        return false;
-    }
-    if (term.num() > 0) == is_above {
-        may_fall(unknown)
+fn may_help(column: &Column, unit: i128, term: &Term, is_above: bool) -> Result<bool, Stop> {
+    if (term.times > 0) == is_above {
+        Ok(column.may_fall())
     } else {
-        may_rise(unknown)
+        column.may_rise(unit)
     }
 }
 
-/// The first column in order that can bring the basic variable toward its bounds.
-fn first_helping(columns: &[Unknown], terms: &[Rat], is_above: bool) -> Option<usize> {
-    let mut first: Option<(usize, u64)> = None;
-    for (column, unknown) in columns.iter().enumerate() {
-        let Some(term) = terms.get(column) else {
+/// Whether the rule takes the first before the other.
+fn is_column_before(rule: Rule, first: &Column, other: &Column) -> bool {
+    match rule {
+        Rule::Farthest => first.uses <= other.uses,
+        Rule::First => first.unknown.order <= other.unknown.order,
+    }
+}
+
+/// The column that the rule takes of those that can bring the basic variable toward its bounds.
+fn entering(form: &Form, line: &Line, is_above: bool, rule: Rule) -> Result<Option<usize>, Stop> {
+    let mut taken: Option<(usize, Column)> = None;
+    for term in line.sum.terms.as_slice() {
+        let Some(next) = form.columns.get(term.column) else {
             continue;
         };
-        if !may_help(unknown, term, is_above) {
+        if !may_help(next, form.unit, term, is_above)? {
             continue;
         }
-        first = match first {
-            Some((other, order)) if order <= unknown.order => Some((other, order)),
-            _ => Some((column, unknown.order)),
+        taken = match taken {
+            Some((at, other)) if is_column_before(rule, &other, next) => Some((at, other)),
+            _ => Some((term.column, *next)),
         };
     }
-    first.map(|(column, _)| column)
+    Ok(taken.map(|(at, _)| at))
 }
 
-/// The place of the row whose sum the variable is. A variable of the rows has none, and is none of a clash.
-fn place_of(unknown: &Unknown) -> Result<usize, Stop> {
+/// The row whose sum the variable is, times the number. A variable of the rows has none, and is none of a clash.
+fn share_of(unknown: &Unknown, times: i128) -> Result<Share, Stop> {
     match unknown.role {
         Role::Given(_) => Err(Stop::Lost),
-        Role::Sum(place) => Ok(place),
+        Role::Sum(place) => {
+            let number = (place as u64).saturating_add(1);
+            Ok(Share { number, times })
+        }
     }
 }
 
-/// The rows whose sum is false: that of the basic variable, less those of the columns times their terms, or turned
-/// where the basic variable is below its bounds.
+/// The rows whose sum is false: that of the basic variable, less those of the columns in its sum, or turned where
+/// the basic variable is below its bounds.
 fn clash(
     alloc: Global,
-    columns: &[Unknown],
+    columns: &[Column],
     line: &Line,
     is_above: bool,
 ) -> Result<Vec<Share>, Stop> {
-    let sign = whole(if is_above { 1 } else { -1 })?;
     let mut shares = Vec::new(alloc);
-    shares.push(Share {
-        place: place_of(&line.basic)?,
-        factor: sign,
-    })?;
-    push_shares(&mut shares, columns, line.terms.as_slice(), &sign.neg())?;
+    let scale = line.sum.scale;
+    let times = if is_above { scale } else { negation(scale)? };
+    shares.push(share_of(&line.basic, times)?)?;
+    for term in line.sum.terms.as_slice() {
+        let Some(column) = columns.get(term.column) else {
+            return Err(Stop::Lost);
+        };
+        let times = if is_above {
+            negation(term.times)?
+        } else {
+            term.times
+        };
+        shares.push(share_of(&column.unknown, times)?)?;
+    }
     Ok(shares)
 }
 
-/// Pushes the rows of the columns, each with its term times the sign.
-fn push_shares(
-    shares: &mut Vec<Share>,
-    columns: &[Unknown],
-    terms: &[Rat],
-    sign: &Rat,
-) -> Result<(), Stop> {
-    for (column, unknown) in columns.iter().enumerate() {
-        let Some(term) = terms.get(column) else {
-            continue;
-        };
-        if !is_zero(term) {
-            let place = place_of(unknown)?;
-            let factor = term.mul(sign)?;
-            shares.push(Share { place, factor })?;
-        }
+/// The bound of the line's basic variable, times the unit.
+fn bound_of(line: &Line, unit: i128) -> Result<Value, Stop> {
+    match &line.basic.bound {
+        Some(bound) => bound.most.times(unit),
+        None => Err(Stop::Lost),
     }
-    Ok(())
 }
 
-/// Brings one basic variable to its bounds, or tells that all are there, or that one cannot be brought there.
-fn turn(alloc: Global, form: &mut Form) -> Result<Option<Found>, Stop> {
-    let Some(beyond) = first_beyond(form.lines.as_slice()) else {
-        return Ok(Some(Found::Within));
+/// What comes next: a pivot, or what the form says of the rows.
+fn next_of(alloc: Global, form: &Form, rule: Rule) -> Result<Next, Stop> {
+    let Some(beyond) = leaving(form, rule)? else {
+        return Ok(Next::Done(Found::Within));
     };
     let Some(line) = form.lines.get(beyond.at) else {
         return Err(Stop::Lost);
     };
-    let columns = form.columns.as_slice();
-    let Some(column) = first_helping(columns, line.terms.as_slice(), beyond.is_above) else {
-        return Ok(Some(Found::Clash(clash(alloc, columns, line, beyond.is_above)?)));
-    };
-    let value = nearest(&line.basic);
-    pivot(form, beyond.at, column, &value)?;
-    Ok(None)
+    match entering(form, line, beyond.is_above, rule)? {
+        Some(column) => Ok(Next::Pivot {
+            at: beyond.at,
+            column,
+            value: bound_of(line, form.unit)?,
+        }),
+        None => {
+            let shares = clash(alloc, form.columns.as_slice(), line, beyond.is_above)?;
+            Ok(Next::Done(Found::Clash(shares)))
+        }
+    }
+}
+
+/// Brings one basic variable to its bounds, or tells that all are there, or that one cannot be brought there.
+fn turn(alloc: Global, form: &mut Form, rule: Rule) -> Result<Option<Found>, Stop> {
+    match next_of(alloc, form, rule)? {
+        Next::Done(found) => Ok(Some(found)),
+        Next::Pivot { at, column, value } => {
+            pivot(alloc, form, at, column, &value)?;
+            Ok(None)
+        }
+    }
 }
 
 /// As many pivots may be made.
@@ -208,10 +225,16 @@ fn most_pivots(form: &Form) -> usize {
 
 /// Brings the form up to date with the rows, and its variables to their bounds.
 pub(crate) fn solve(alloc: Global, form: &mut Form, rows: &[Row]) -> Result<Found, Stop> {
-    drop_rows(form)?;
+    drop_rows(alloc, form)?;
     add_rows(alloc, form, rows)?;
-    for _ in 0..most_pivots(form) {
-        if let Some(found) = turn(alloc, form)? {
+    let most = most_pivots(form);
+    for count in 0..most {
+        let rule = if count < most / 2 {
+            Rule::Farthest
+        } else {
+            Rule::First
+        };
+        if let Some(found) = turn(alloc, form, rule)? {
             return Ok(found);
         }
     }
