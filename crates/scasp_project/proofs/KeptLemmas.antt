@@ -244,7 +244,7 @@ rows-held w (con.NotShape x f n ∷ ds) h = rows-held w ds (and_parts (holds w (
 rows-held w (con.Num t ∷ ds) h = rows-held w ds (and_parts (holds w (con.Num t)) (is_met_by w ds) h).1
 rows-held w (con.NotNum t ∷ ds) h = rows-held w ds (and_parts (holds w (con.NotNum t)) (is_met_by w ds) h).1
 
-held-rows : (w : Sub) (rs : List Linear) → MeetsAll (point w) rs → is_met_by w (map con.Row rs) ≡ true
+pub held-rows : (w : Sub) (rs : List Linear) → MeetsAll (point w) rs → is_met_by w (map con.Row rs) ≡ true
 held-rows w [] h = refl
 held-rows w (r ∷ rs) h = and_from (holds w (con.Row r)) (is_met_by w (map con.Row rs)) ((bridge w r).1 h.0) (held-rows w rs h.1)
 
