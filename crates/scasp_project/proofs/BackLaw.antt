@@ -1,22 +1,18 @@
 -- A valuation that meets one of the lists to which a sorted list projects can be extended to meet that list.
-use Rattle.std.proofs.Common.{◌≡◌, ◌≢◌, ◌↔◌, ◌⊎◌, inl, inr, ℕ, Bool, true, false, not, ◌&&◌, Some, None, Option, List, [], ◌∷◌, ◌++◌, append_assoc, append-nil, refl, sym, ap, subst, ◌∙◌}
-use Rattle.std.specs.Prelude.{if◌then◌else◌, ◌||◌, nat_eq, ⊤}
+use Rattle.std.proofs.Common.{◌≡◌, ◌↔◌, ◌⊎◌, inl, inr, ℕ, Bool, true, false, not, ◌&&◌, Some, None, Option, List, [], ◌∷◌, ◌++◌, append_assoc, append-nil, refl, sym, ap, subst, ◌∙◌}
+use Rattle.std.specs.Prelude.{if◌then◌else◌, ◌||◌, nat_eq}
 use Rattle.std.specs.List.{list_all, list_any}
 use Rattle.std.proofs.lemmas.Bool.{and_parts, eqb-true, or_cases, or_parts, true≢false}
 use Rattle.std.proofs.lemmas.Bool.Decides.{Decides-eqb}
 use Rattle.std.proofs.lemmas.List.Folds.{list_all-append}
 use Rattle.scasp_num.specs.declared.linear.Coeff.{Coeff}
-use Rattle.scasp_num.specs.declared.linear.Op.{Op}
-use Rattle.scasp_num.specs.declared.linear.Op.TheVariants as op
 use Rattle.scasp_num.specs.Linear.{Linear}
-use Rattle.scasp_num.specs.Number.{Number}
 use Rattle.scasp_num.specs.Values.{Holds}
 use Rattle.scasp_list.specs.Each.{Each}
 use Rattle.scasp_list.proofs.EachLemmas.{Each-append, Each-map, Each-right}
 use Rattle.scasp_rows.specs.Points.{MeetsAll, RationalPoint}
-use Rattle.scasp_syntax.specs.Constraints.{Meets, Sat, has_shape, holds, is_number}
+use Rattle.scasp_syntax.specs.Constraints.{has_shape, holds, is_number}
 use Rattle.scasp_syntax.specs.RowTruth.{number_of, point}
-use Rattle.scasp_syntax.specs.Same.{same_tm}
 use Rattle.scasp_syntax.specs.Tm.{Tm, Tms, var, num, app, nil, cons}
 use Rattle.scasp_syntax.specs.Values.{Sub, Valuation, are_ground, is_ground, under, all_under}
 use Rattle.scasp_syntax.specs.View.{tm_of}
@@ -35,7 +31,7 @@ use Rattle.scasp_unify.specs.SimpleForm.{differ, term_with}
 use Rattle.scasp_unify.specs.Sorted.{In, Sorted}
 use Rattle.scasp_unify.specs.TermFailures.{fails_by_terms, is_compound, is_identity, is_refuted}
 use Rattle.scasp_unify.specs.Unification.{Absorbs, term_vars}
-use Rattle.scasp_unify.proofs.Members.{any-in, any-out, in-front, none-in, not-false}
+use Rattle.scasp_unify.proofs.Members.{any-in, any-out, none-in}
 use Rattle.scasp_unify.proofs.PointLemmas.{bridge, holds-same}
 use Rattle.scasp_unify.proofs.ResolverLemmas.{complete-list, resolver-equal}
 use Rattle.scasp_unify.proofs.SimpleLemmas.{viewed}
@@ -43,19 +39,16 @@ use Rattle.scasp_unify.proofs.SortedLemmas.{one-more}
 use Rattle.scasp_unify.proofs.UnificationLemmas.{Fits, IfParts, Says, parts-say}
 use Rattle.scasp_unify.proofs.ValuationLemmas.{sorted-met}
 use Rattle.scasp_hint.specs.AskedRows.{RowsNormal, given_rows, inequalities}
-use Rattle.scasp_hint.specs.Sides.{above, below}
-use Rattle.scasp_hint.proofs.SatisfyingLemmas.{above-differs, below-differs}
-use Rattle.scasp_project.specs.Choices.{are_too_many, has_mixed, is_mixed, mixed_by, options, options_by, parts_options, row_options, speak_of_dropped}
-use Rattle.scasp_project.specs.Dropped.{Reading, con_has, is_dropped, is_dropped_number, part_has, parts_have, parts_in, reading_of, row_has}
+use Rattle.scasp_project.specs.Choices.{are_too_many, has_mixed, is_mixed, mixed_by, options, speak_of_dropped}
+use Rattle.scasp_project.specs.Dropped.{con_has, is_dropped, part_has, parts_have, parts_in, reading_of}
 use Rattle.scasp_project.specs.Meaning.{Extends, IfAlternatives, IsNoEquation, MeetsOne}
-use Rattle.scasp_project.specs.Projection.{kept, projection, remaining, stays}
+use Rattle.scasp_project.specs.Projection.{projection, remaining, stays}
 use Rattle.scasp_project.specs.declared.projecting.Projected.{Projected}
 use Rattle.scasp_project.specs.declared.projecting.Projected.TheVariants as projected
-use Rattle.scasp_project.proofs.ExtendLemmas.{LeftOf}
 use Rattle.scasp_project.proofs.ForwardLemmas.{is_met_by}
-use Rattle.scasp_project.proofs.KeptLemmas.{chosen-normal, con-same, normal-cons, points-same, under-same}
+use Rattle.scasp_project.proofs.KeptLemmas.{con-same}
 use Rattle.scasp_project.proofs.MetLaw.{absorbs-any, met, no-equations, number-con, projects, resolved-var}
-use Rattle.scasp_project.proofs.OpenParts.{Absent, no-var, options-open, parts-absent, parts-open, under-var, valued, valued-kept, valued-number, valued-open}
+use Rattle.scasp_project.proofs.OpenParts.{Absent, no-var, options-open, parts-absent, parts-open, under-var, valued, valued-kept, valued-number}
 use Rattle.scasp_project.proofs.SourceLemmas.{Source, any-none, asked-holds, each-by, in-asked, in-parts, left-holds, only-asked, options-are, passing, row-meets, row-met, source-of, sources}
 
 -- ---- equations that fix the kept variables

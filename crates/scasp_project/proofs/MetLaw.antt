@@ -1,14 +1,12 @@
 -- A valuation that can be extended to meet a list meets one of the lists to which that projects.
-use Rattle.std.proofs.Common.{◌≡◌, ℕ, Bool, true, false, Some, None, Option, List, [], ◌∷◌, refl, sym, ap, subst, ◌∙◌}
+use Rattle.std.proofs.Common.{◌≡◌, ℕ, Bool, true, false, Some, Option, List, [], ◌∷◌, refl, sym, ap, subst, ◌∙◌}
 use Rattle.std.specs.Prelude.{if◌then◌else◌}
-use Rattle.std.specs.List.{list_all, list_any}
 use Rattle.std.proofs.lemmas.Bool.{true≢false}
 use Rattle.scasp_num.specs.Arithmetic.{◌>>=◌}
 use Rattle.scasp_num.proofs.Exact.{bind-some}
 use Rattle.scasp_list.specs.Each.{Each}
 use Rattle.scasp_syntax.specs.Constraints.{Meets, holds, is_number}
 use Rattle.scasp_syntax.specs.RowTruth.{number_of, point}
-use Rattle.scasp_syntax.specs.Same.{same_tm}
 use Rattle.scasp_syntax.specs.Tm.{Tm, var, num, app}
 use Rattle.scasp_syntax.specs.Values.{Sub, Valuation, under}
 use Rattle.scasp_syntax.specs.View.{tm_of}

@@ -6,7 +6,6 @@ use Rattle.std.proofs.lemmas.Bool.{and_parts, eqb-true, or_cases, or_parts, true
 use Rattle.std.proofs.lemmas.Bool.Decides.{Decides-eqb}
 use Rattle.std.proofs.lemmas.List.Folds.{list_any-append}
 use Rattle.scasp_num.specs.declared.linear.Op.TheVariants as op
-use Rattle.scasp_num.specs.declared.linear.RatPair.{RatPair}
 use Rattle.scasp_num.specs.Arithmetic.{◌>>=◌, negation_of}
 use Rattle.scasp_num.specs.Linear.{Linear}
 use Rattle.scasp_num.specs.Number.{Number, zero_number}
@@ -36,7 +35,7 @@ use Rattle.scasp_hint.proofs.ExactLemmas.{difference-holds}
 use Rattle.scasp_hint.proofs.SatisfyingLemmas.{above-differs, below-differs}
 use Rattle.scasp_hint.proofs.SidesLemmas.{less-holds, more-holds}
 use Rattle.scasp_project.specs.Choices.{is_mixed, part_options, part_rows, parts_options}
-use Rattle.scasp_project.specs.Dropped.{Reading, con_has, is_between, is_dropped, is_dropped_number, is_number_by, part_has, parts_have, parts_in}
+use Rattle.scasp_project.specs.Dropped.{Reading, is_between, is_dropped, is_dropped_number, is_number_by, part_has, parts_have}
 use Rattle.scasp_project.proofs.KeptLemmas.{under-same}
 
 and-right : (a b : Bool) → (a && b) ≡ false → a ≡ true → b ≡ false

@@ -1,5 +1,5 @@
 -- What is left of rows is their projection.
-use Rattle.std.proofs.Common.{◌≡◌, ◌↔◌, ℕ, Bool, false, ◌||◌, Result, Ok, Err, List, [], ◌∷◌, refl, sym, ap, subst}
+use Rattle.std.proofs.Common.{◌≡◌, ◌↔◌, ℕ, false, Result, Ok, Err, List, [], ◌∷◌, refl, subst}
 use Rattle.std.specs.List.{list_any}
 use Rattle.std.proofs.lemmas.Bool.{or_parts}
 use Rattle.scasp_num.specs.declared.linear.Coeff.{Coeff}
@@ -12,7 +12,6 @@ use Rattle.scasp_rows.specs.declared.state.Halt.TheVariants as halt
 use Rattle.scasp_rows.specs.declared.state.State.{State}
 use Rattle.scasp_rows.specs.Points.{MeetsAll, NoDisequation, RationalPoint}
 use Rattle.scasp_unify.proofs.PointLemmas.{holds-same}
-use Rattle.scasp_project.specs.declared.ended.Ended.{Ended}
 use Rattle.scasp_project.specs.declared.ended.Ended.TheVariants as ended
 use Rattle.scasp_project.specs.Dropped.{is_dropped, row_has}
 use Rattle.scasp_project.specs.LeftRows.{elimination_of, rows_left}
