@@ -1,22 +1,18 @@
 -- A valuation that meets one of the lists to which a sorted list projects can be extended to meet that list.
-use Rattle.std.proofs.Common.{◌≡◌, ◌≢◌, ◌↔◌, ◌⊎◌, inl, inr, ℕ, Bool, true, false, not, ◌&&◌, Some, None, Option, List, [], ◌∷◌, ◌++◌, append_assoc, append-nil, refl, sym, ap, subst, ◌∙◌}
-use Rattle.std.specs.Prelude.{if◌then◌else◌, ◌||◌, nat_eq, ⊤}
+use Rattle.std.proofs.Common.{◌≡◌, ◌↔◌, ◌⊎◌, inl, inr, ℕ, Bool, true, false, not, ◌&&◌, Some, None, Option, List, [], ◌∷◌, ◌++◌, append_assoc, append-nil, refl, sym, ap, subst, ◌∙◌}
+use Rattle.std.specs.Prelude.{if◌then◌else◌, ◌||◌, nat_eq}
 use Rattle.std.specs.List.{list_all, list_any}
 use Rattle.std.proofs.lemmas.Bool.{and_parts, eqb-true, or_cases, or_parts, true≢false}
 use Rattle.std.proofs.lemmas.Bool.Decides.{Decides-eqb}
 use Rattle.std.proofs.lemmas.List.Folds.{list_all-append}
 use Rattle.scasp_num.specs.declared.linear.Coeff.{Coeff}
-use Rattle.scasp_num.specs.declared.linear.Op.{Op}
-use Rattle.scasp_num.specs.declared.linear.Op.TheVariants as op
 use Rattle.scasp_num.specs.Linear.{Linear}
-use Rattle.scasp_num.specs.Number.{Number}
 use Rattle.scasp_num.specs.Values.{Holds}
 use Rattle.scasp_list.specs.Each.{Each}
 use Rattle.scasp_list.proofs.EachLemmas.{Each-append, Each-map, Each-right}
 use Rattle.scasp_rows.specs.Points.{MeetsAll, RationalPoint}
-use Rattle.scasp_syntax.specs.Constraints.{Meets, Sat, has_shape, holds, is_number}
+use Rattle.scasp_syntax.specs.Constraints.{has_shape, holds, is_number}
 use Rattle.scasp_syntax.specs.RowTruth.{number_of, point}
-use Rattle.scasp_syntax.specs.Same.{same_tm}
 use Rattle.scasp_syntax.specs.Tm.{Tm, Tms, var, num, app, nil, cons}
 use Rattle.scasp_syntax.specs.Values.{Sub, Valuation, are_ground, is_ground, under, all_under}
 use Rattle.scasp_syntax.specs.View.{tm_of}
@@ -35,7 +31,7 @@ use Rattle.scasp_unify.specs.SimpleForm.{differ, term_with}
 use Rattle.scasp_unify.specs.Sorted.{In, Sorted}
 use Rattle.scasp_unify.specs.TermFailures.{fails_by_terms, is_compound, is_identity, is_refuted}
 use Rattle.scasp_unify.specs.Unification.{Absorbs, term_vars}
-use Rattle.scasp_unify.proofs.Members.{any-in, any-out, in-front, none-in, not-false}
+use Rattle.scasp_unify.proofs.Members.{any-in, any-out, none-in}
 use Rattle.scasp_unify.proofs.PointLemmas.{bridge, holds-same}
 use Rattle.scasp_unify.proofs.ResolverLemmas.{complete-list, resolver-equal}
 use Rattle.scasp_unify.proofs.SimpleLemmas.{viewed}
@@ -43,20 +39,17 @@ use Rattle.scasp_unify.proofs.SortedLemmas.{one-more}
 use Rattle.scasp_unify.proofs.UnificationLemmas.{Fits, IfParts, Says, parts-say}
 use Rattle.scasp_unify.proofs.ValuationLemmas.{sorted-met}
 use Rattle.scasp_hint.specs.AskedRows.{RowsNormal, given_rows, inequalities}
-use Rattle.scasp_hint.specs.Sides.{above, below}
-use Rattle.scasp_hint.proofs.SatisfyingLemmas.{above-differs, below-differs}
-use Rattle.scasp_project.specs.Choices.{are_too_many, has_mixed, is_mixed, mixed_by, options, options_by, parts_options, row_options, speak_of_dropped}
-use Rattle.scasp_project.specs.Dropped.{Reading, con_has, is_dropped, is_dropped_number, part_has, parts_have, parts_in, reading_of, row_has}
+use Rattle.scasp_project.specs.Choices.{are_too_many, has_mixed, is_mixed, mixed_by, options, speak_of_dropped}
+use Rattle.scasp_project.specs.Dropped.{con_has, is_dropped, part_has, parts_have, parts_in, reading_of}
 use Rattle.scasp_project.specs.Meaning.{Extends, IfAlternatives, IsNoEquation, MeetsOne}
-use Rattle.scasp_project.specs.Projection.{kept, projection, remaining, stays}
+use Rattle.scasp_project.specs.Projection.{projection, remaining, stays}
 use Rattle.scasp_project.specs.declared.projecting.Projected.{Projected}
 use Rattle.scasp_project.specs.declared.projecting.Projected.TheVariants as projected
-use Rattle.scasp_project.proofs.ExtendLemmas.{LeftOf}
 use Rattle.scasp_project.proofs.ForwardLemmas.{is_met_by}
-use Rattle.scasp_project.proofs.KeptLemmas.{chosen-normal, con-same, normal-cons, points-same, under-same}
-use Rattle.scasp_project.proofs.MetLaw.{absorbs-any, met, projects, resolved-var}
-use Rattle.scasp_project.proofs.OpenParts.{Absent, no-var, options-open, parts-absent, parts-open, under-var, valued, valued-kept, valued-number, valued-open}
-use Rattle.scasp_project.proofs.SourceLemmas.{Covers, IsOption, Source, asked-holds, chosen-covers, given-at, in-asked, inequalities-back, left-holds, source}
+use Rattle.scasp_project.proofs.KeptLemmas.{con-same}
+use Rattle.scasp_project.proofs.MetLaw.{absorbs-any, met, no-equations, number-con, projects, resolved-var}
+use Rattle.scasp_project.proofs.OpenParts.{Absent, no-var, options-open, parts-absent, parts-open, under-var, valued, valued-kept, valued-number}
+use Rattle.scasp_project.proofs.SourceLemmas.{Source, any-none, asked-holds, each-by, in-asked, in-parts, left-holds, only-asked, options-are, passing, row-meets, row-met, source-of, sources}
 
 -- ---- equations that fix the kept variables
 
@@ -104,15 +97,6 @@ fixing-num v [] s t c i e = i
 fixing-num v (x ∷ xs) s t c (inl k) e = true≢false (sym e ∙ ap (is_num_of s t) k)
 fixing-num v (x ∷ xs) s t c (inr i) e = fixing-num v xs s t c i e
 
-no-equations : (cs : List Con) (r : Sub) → Each IsNoEquation cs → Each (Equal r) cs
-no-equations [] r h = tt
-no-equations (con.Eq t u ∷ cs) r h = absurd h.0
-no-equations (con.Neq t u ∷ cs) r h = (tt, no-equations cs r h.1)
-no-equations (con.NotShape x f n ∷ cs) r h = (tt, no-equations cs r h.1)
-no-equations (con.Num t ∷ cs) r h = (tt, no-equations cs r h.1)
-no-equations (con.NotNum t ∷ cs) r h = (tt, no-equations cs r h.1)
-no-equations (con.Row r ∷ cs) q h = (tt, no-equations cs q h.1)
-
 members : (xs : List ℕ) → Each (λ x. list_any (nat_eq x) xs ≡ true) xs
 members [] = tt
 members (x ∷ xs) = (ap (λ b. b || list_any (nat_eq x) xs) ((Decides-eqb x x).1 refl), Each-map (λ y. list_any (nat_eq y) xs ≡ true) (λ y. list_any (nat_eq y) (x ∷ xs) ≡ true) (λ y e. ap (λ b. nat_eq y x || b) e ∙ or-all (nat_eq y x)) xs (members xs))
@@ -121,81 +105,23 @@ members (x ∷ xs) = (ap (λ b. b || list_any (nat_eq x) xs) ((Decides-eqb x x).
     or-all true = refl
     or-all false = refl
 
-in-parts : (c : Con) (cs ds : List Con) → In c (cs ++ ds) → In c cs ⊎ In c ds
-in-parts c [] ds i = inr i
-in-parts c (d ∷ cs) ds (inl s) = inl (inl s)
-in-parts c (d ∷ cs) ds (inr j) = by (in-parts c cs ds j)
-  where
-    by : In c cs ⊎ In c ds → In c (d ∷ cs) ⊎ In c ds
-    by (inl k) = inl (inr k)
-    by (inr k) = inr k
-
-each-by : (P : Con → Type 0) (cs : List Con) → ((c : Con) → In c cs → P c) → Each P cs
-each-by P [] h = tt
-each-by P (c ∷ cs) h = (h c (inl refl), each-by P cs (λ d i. h d (inr i)))
-
-any-none : (p : Con → Bool) (cs : List Con) → ((c : Con) → In c cs → p c ≡ false) → list_any p cs ≡ false
-any-none p [] h = refl
-any-none p (c ∷ cs) h = ap (λ b. b || list_any p cs) (h c (inl refl)) ∙ any-none p cs (λ d i. h d (inr i))
-
 not-false-is : (b : Bool) → not b ≡ false → b ≡ true
 not-false-is true e = refl
 not-false-is false e = absurd (true≢false e)
 
-or-plain : (b c : Bool) → (b || false) ≡ c → b ≡ c
-or-plain true c e = e
-or-plain false c e = e
-
--- an option of what has no other is the constraint itself
-only-option : (c d : Con) (os : List Con) → ◌≡◌ {A = Option (List Con)} (Some (c ∷ [])) (Some os) → In d os → d ≡ c
-only-option c d os e i = let same : os ≡ c ∷ [] = cc in by (subst (λ (cs : List Con). In d cs) same i)
-  where
-    by : In d (c ∷ []) → d ≡ c
-    by (inl k) = k
-    by (inr k) = absurd k
-
 -- ---- the extension
 
-module _ (cs : List Con) (keep : List ℕ) (v : Valuation) (plain : Each IsNoEquation cs) (few : are_too_many (reading_of cs keep) cs ≡ false) (x : Source (reading_of cs keep) cs v.of) (q : RationalPoint) (met : MeetsAll q (inequalities (given_rows x.choice))) (same : (y : ℕ) → is_dropped keep y ≡ false → q y ≡ point v.of y) where
-  abbrev s : Reading
-  s = reading_of cs keep
+module _ (cs : List Con) (keep : List ℕ) (v : Valuation) (plain : Each IsNoEquation cs) (few : are_too_many (reading_of cs keep) cs ≡ false) (list : List Con) (x : Source (reading_of cs keep) cs list) (listed : is_met_by v.of list ≡ true) (q : RationalPoint) (met : MeetsAll q (inequalities (given_rows x.choice))) (same : (y : ℕ) → is_dropped keep y ≡ false → q y ≡ point v.of y) where
+  alone-asked : (c : Con) → In c cs → options (reading_of cs keep) c ≡ Some (c ∷ []) → stays keep c ≡ true → In c (remaining keep x.choice x.rows)
+  alone-asked = only-asked (reading_of cs keep) cs list x
 
-  abbrev asked : List Con
-  asked = remaining keep x.choice x.rows
-
-  abbrev all : List Con
-  all = cs ++ fixing v.of keep
-
-  -- what has no other option stays and is asked
-  stays-in : (c : Con) → In c cs → options (reading_of cs keep) c ≡ Some (c ∷ []) → In c x.choice
-  stays-in c i e =
-      let k = x.covers c i in
-      subst (λ (d : Con). In d x.choice) (only-option c k.0 k.2.0 (sym e ∙ k.2.1) k.2.2) k.1
-
-  asked-in : (c : Con) → In c cs → options (reading_of cs keep) c ≡ Some (c ∷ []) → stays keep c ≡ true → In c (remaining keep x.choice x.rows)
-  asked-in c i e k = in-asked (reading_of cs keep) cs v.of x c (stays-in c i e) k
+  passes : (c : Con) → In c (remaining keep x.choice x.rows) → is_refuted (remaining keep x.choice x.rows) c ≡ false
+  passes = passing (reading_of cs keep) cs list x
 
   kept-holds : (c : Con) → In c cs → options (reading_of cs keep) c ≡ Some (c ∷ []) → stays keep c ≡ true → con_has (reading_of cs keep) (is_dropped keep) c ≡ false → holds v.of c ≡ true
-  kept-holds c i e k h = asked-holds (reading_of cs keep) cs v.of x c (asked-in c i e k) h
-
-  passing : (c : Con) → In c (remaining keep x.choice x.rows) → is_refuted (remaining keep x.choice x.rows) c ≡ false
-  passing c i = none-in (is_refuted (remaining keep x.choice x.rows)) c (remaining keep x.choice x.rows) i (not-false (unifies (remaining keep x.choice x.rows)) (list_any (is_refuted (remaining keep x.choice x.rows)) (remaining keep x.choice x.rows)) x.passes).1
+  kept-holds c i e k h = asked-holds (reading_of cs keep) cs list x v.of listed c (alone-asked c i e k) h
 
   -- ---- numbers
-
-  num-var : (t : Term) (y : ℕ) → is_num_of (resolver cs) (var y) (con.Num t) ≡ true → tm_of t ≡ var y
-  num-var t y e = sym (under-var (tm_of t)) ∙ ap (λ (r : Sub). under r (tm_of t)) (sym (resolved-var cs plain)) ∙ (tm_decided (under (resolver cs) (tm_of t)) (var y)).0 e
-
-  number-con : (y : ℕ) → number_var cs y ≡ true → (t : Term) × In (con.Num t) cs × (tm_of t ≡ var y)
-  number-con y e = let c = any-out (is_num_of (resolver cs) (var y)) cs e in by c.0 c.1 c.2
-    where
-      by : (c : Con) → In c cs → is_num_of (resolver cs) (var y) c ≡ true → (t : Term) × In (con.Num t) cs × (tm_of t ≡ var y)
-      by (con.Num t) i e = (t, i, num-var t y e)
-      by (con.Eq t u) i e = absurd (true≢false (sym e))
-      by (con.Neq t u) i e = absurd (true≢false (sym e))
-      by (con.NotShape z f n) i e = absurd (true≢false (sym e))
-      by (con.NotNum t) i e = absurd (true≢false (sym e))
-      by (con.Row r) i e = absurd (true≢false (sym e))
 
   num-value : (t : Tm) → is_number t ≡ true → t ≡ num (number_of t)
   num-value (var y) e = absurd (true≢false (sym e))
@@ -208,7 +134,7 @@ module _ (cs : List Con) (keep : List ℕ) (v : Valuation) (plain : Each IsNoEqu
       by : (b : Bool) → is_dropped keep y ≡ b → valued (reading_of cs keep) v.of q y ≡ num (q y)
       by true d = valued-number (reading_of cs keep) v q y d e
       by false d =
-          let c = number-con y e in
+          let c = number-con cs plain y e in
           let lacks : list_any (is_dropped keep) (term_vars (tm_of c.0)) ≡ false = ap (λ (t : Tm). list_any (is_dropped keep) (term_vars t)) c.2 ∙ ap (λ b. b || false) d in
           let h = kept-holds (con.Num c.0) c.1 refl refl lacks in
           let is : is_number (v.of y) ≡ true = sym (ap (λ (t : Tm). is_number (under v.of t)) c.2) ∙ h in
@@ -216,11 +142,8 @@ module _ (cs : List Con) (keep : List ℕ) (v : Valuation) (plain : Each IsNoEqu
 
   -- ---- disequations
 
-  rows-met : (r : Linear) → In (con.Row r) x.choice → r.op ≢ op.Ne → Holds q r
-  rows-met r i = given-at (λ (r : Linear). r.op ≢ op.Ne → Holds q r) r x.choice i (inequalities-back (Holds q) (given_rows x.choice) met)
-
   differ-holds : (t u : Tm) → In (differ t u) x.choice → parts_have (is_dropped keep) (parts t u) ≡ false → holds v.of (differ t u) ≡ true
-  differ-holds t u i e = asked-holds (reading_of cs keep) cs v.of x (differ t u) (in-asked (reading_of cs keep) cs v.of x (differ t u) i refl) (ap (parts_have (is_dropped keep)) is ∙ e)
+  differ-holds t u i e = asked-holds (reading_of cs keep) cs list x v.of listed (differ t u) (in-asked (reading_of cs keep) cs list x (differ t u) i refl) (ap (parts_have (is_dropped keep)) is ∙ e)
     where
       side : (z : Tm) → under (resolver cs) (tm_of (term_with z)) ≡ z
       side z = ap (λ (r : Sub). under r (tm_of (term_with z))) (resolved-var cs plain) ∙ under-var (tm_of (term_with z)) ∙ viewed z
@@ -256,19 +179,15 @@ module _ (cs : List Con) (keep : List ℕ) (v : Valuation) (plain : Each IsNoEqu
 
           test : (b : Bool) → speak_of_dropped (reading_of cs keep) ps ≡ b → ⊥
           test true d =
-              let c = x.covers (con.Neq t u) i in
-              let is : options (reading_of cs keep) (con.Neq t u) ≡ parts_options (number_var cs) ps = ap (options_by (reading_of cs keep) (con.Neq t u)) k ∙ ap (λ b. if b then parts_options (number_var cs) ps else Some (con.Neq t u ∷ [])) d in
-              options-open (reading_of cs keep) v q x.choice counts (resolved-var cs plain) rows-met differ-holds ps c.2.0 fits a unmixed (sym is ∙ c.2.1) c.0 c.2.2 c.1
+              let c = x.chooses.0 (con.Neq t u) i in
+              options-open (reading_of cs keep) v q x.choice counts (resolved-var cs plain) (row-met q x.choice met) differ-holds ps c.2.0 fits a unmixed (sym (options-are (reading_of cs keep) t u ps true k d) ∙ c.2.1) c.0 c.2.2 c.1
           test false d = part (list_any (part_has (is_dropped keep)) ps) refl
             where
-              is : options (reading_of cs keep) (con.Neq t u) ≡ Some (con.Neq t u ∷ [])
-              is = ap (options_by (reading_of cs keep) (con.Neq t u)) k ∙ ap (λ b. if b then parts_options (number_var cs) ps else Some (con.Neq t u ∷ [])) d
-
               part : (b : Bool) → list_any (part_has (is_dropped keep)) ps ≡ b → ⊥
               part true h = parts-open (reading_of cs keep) v q ps a h d fits
               part false h =
                   let lacks : con_has (reading_of cs keep) (is_dropped keep) (con.Neq t u) ≡ false = ap (parts_have (is_dropped keep)) k ∙ h in
-                  let held = con-same keep w v.of (λ y d. sym (valued-kept (reading_of cs keep) v q y d)) (reading_of cs keep) (absorbs-any cs plain v.of) (absorbs-any cs plain w) (con.Neq t u) lacks (kept-holds (con.Neq t u) i is refl lacks) in
+                  let held = con-same keep w v.of (λ y d. sym (valued-kept (reading_of cs keep) v q y d)) (reading_of cs keep) (absorbs-any cs plain v.of) (absorbs-any cs plain w) (con.Neq t u) lacks (kept-holds (con.Neq t u) i (options-are (reading_of cs keep) t u ps false k d) refl lacks) in
                   (differ_decided (under w (tm_of t)) (under w (tm_of u))).0 held e
 
   -- ---- the list with the equations
@@ -365,33 +284,8 @@ module _ (cs : List Con) (keep : List ℕ) (v : Valuation) (plain : Each IsNoEqu
   same-at [] e = tt
   same-at (k ∷ ks) e = let parts = or_parts (is_dropped keep k.x) (list_any (λ k. is_dropped keep k.x) ks) e in (sym (same k.x parts.0), same-at ks parts.1)
 
-  row-meets : (r : Linear) → In (con.Row r) cs → Holds q r
-  row-meets r i = by r.op refl
-    where
-      alone : (o : Op) → r.op ≡ o → o ≢ op.Ne → row_options keep o r ≡ con.Row r ∷ [] → Holds q r
-      alone o e n k = rows-met r (stays-in (con.Row r) i (ap Some (ap (λ o. row_options keep o r) e ∙ k))) (λ h. n (sym e ∙ h))
-
-      side : (d : Con) → r.op ≡ op.Ne → In d (con.Row (below r) ∷ con.Row (above r) ∷ []) → In d x.choice → Holds q r
-      side d e (inl k) j = below-differs q r e (rows-met (below r) (subst (λ (c : Con). In c x.choice) k j) (λ h. cc))
-      side d e (inr (inl k)) j = above-differs q r e (rows-met (above r) (subst (λ (c : Con). In c x.choice) k j) (λ h. cc))
-      side d e (inr (inr k)) j = absurd k
-
-      apart : r.op ≡ op.Ne → (b : Bool) → row_has (is_dropped keep) r ≡ b → Holds q r
-      apart e true d =
-          let c = x.covers (con.Row r) i in
-          let is : row_options keep r.op r ≡ con.Row (below r) ∷ con.Row (above r) ∷ [] = ap (λ o. row_options keep o r) e ∙ ap (λ b. if b then con.Row (below r) ∷ con.Row (above r) ∷ [] else con.Row r ∷ []) d in
-          let k = c.2.1 in
-          let os : c.2.0 ≡ row_options keep r.op r = cc in
-          side c.0 e (subst (λ (ds : List Con). In c.0 ds) (os ∙ is) c.2.2) c.1
-      apart e false d =
-          let is : row_options keep r.op r ≡ con.Row r ∷ [] = ap (λ o. row_options keep o r) e ∙ ap (λ b. if b then con.Row (below r) ∷ con.Row (above r) ∷ [] else con.Row r ∷ []) d in
-          holds-same (point v.of) q r (same-at r.coeffs d) ((bridge v.of r).0 (kept-holds (con.Row r) i (ap Some is) (ap not d) d))
-
-      by : (o : Op) → r.op ≡ o → Holds q r
-      by op.Eq e = alone op.Eq e (λ h. cc) refl
-      by op.Lt e = alone op.Lt e (λ h. cc) refl
-      by op.Le e = alone op.Le e (λ h. cc) refl
-      by op.Ne e = apart e (row_has (is_dropped keep) r) refl
+  row-holds : (r : Linear) → In (con.Row r) cs → Holds q r
+  row-holds = row-meets (reading_of cs keep) cs list x q met (λ r i d. holds-same (point v.of) q r (same-at r.coeffs d) ((bridge v.of r).0 (asked-holds (reading_of cs keep) cs list x v.of listed (con.Row r) i d)))
 
   through-same : (y : ℕ) → q y ≡ through (resolver (cs ++ fixing v.of keep)) q y
   through-same y = by (is_dropped keep y) refl ∙ ap (read_as q y) (sym (resolver-is y))
@@ -410,7 +304,7 @@ module _ (cs : List Con) (keep : List ℕ) (v : Valuation) (plain : Each IsNoEqu
   all-same (k ∷ ks) = (through-same k.x, all-same ks)
 
   point-meets : (c : Con) → In c cs → PointMeets (cs ++ fixing v.of keep) q c
-  point-meets (con.Row r) i = holds-same q (through (resolver (cs ++ fixing v.of keep)) q) r (all-same r.coeffs) (row-meets r i)
+  point-meets (con.Row r) i = holds-same q (through (resolver (cs ++ fixing v.of keep)) q) r (all-same r.coeffs) (row-holds r i)
   point-meets (con.Neq t u) i = parts-differ t u i
   point-meets (con.Eq t u) i = tt
   point-meets (con.NotShape y f n) i = tt
@@ -421,7 +315,7 @@ module _ (cs : List Con) (keep : List ℕ) (v : Valuation) (plain : Each IsNoEqu
 
   num-passes : (t : Term) → In (con.Num t) cs → (z : Tm) → tm_of t ≡ z → is_compound (under (resolver (cs ++ fixing v.of keep)) z) ≡ false
   num-passes t i (num r) e = refl
-  num-passes t i (app f ts) e = absurd (true≢false (sym (ap (λ (z : Tm). is_compound (under (resolver (remaining keep x.choice x.rows)) z)) e) ∙ passing (con.Num t) (asked-in (con.Num t) i refl refl)))
+  num-passes t i (app f ts) e = absurd (true≢false (sym (ap (λ (z : Tm). is_compound (under (resolver (remaining keep x.choice x.rows)) z)) e) ∙ passes (con.Num t) (alone-asked (con.Num t) i refl refl)))
   num-passes t i (var y) e = ap is_compound (resolver-is y) ∙ by (is_dropped keep y) refl
     where
       plain-number : (z : Tm) → is_number z ≡ true → is_compound z ≡ false
@@ -443,20 +337,20 @@ module _ (cs : List Con) (keep : List ℕ) (v : Valuation) (plain : Each IsNoEqu
       ds = remaining keep x.choice x.rows
 
       first : is_compound (resolver ds y) ≡ false
-      first = sym (ap (λ (z : Tm). is_compound (under (resolver ds) z)) e) ∙ passing (con.Num t) (asked-in (con.Num t) i refl refl)
+      first = sym (ap (λ (z : Tm). is_compound (under (resolver ds) z)) e) ∙ passes (con.Num t) (alone-asked (con.Num t) i refl refl)
 
       second : is_number_term ds (resolver ds y) ≡ false
-      second = sym (ap (λ (z : Tm). is_number_term ds (under (resolver ds) z)) f) ∙ passing (con.NotNum u) (asked-in (con.NotNum u) j refl refl)
+      second = sym (ap (λ (z : Tm). is_number_term ds (under (resolver ds) z)) f) ∙ passes (con.NotNum u) (alone-asked (con.NotNum u) j refl refl)
 
       by : (z : Tm) → resolver ds y ≡ z → ⊥
       by (var n) k =
           let is : under (resolver ds) (tm_of t) ≡ var n = ap (under (resolver ds)) e ∙ k in
-          true≢false (sym (any-in (is_num_of (resolver ds) (var n)) (con.Num t) ds (asked-in (con.Num t) i refl refl) ((tm_decided (under (resolver ds) (tm_of t)) (var n)).1 is)) ∙ ap (is_number_term ds) (sym k) ∙ second)
+          true≢false (sym (any-in (is_num_of (resolver ds) (var n)) (con.Num t) ds (alone-asked (con.Num t) i refl refl) ((tm_decided (under (resolver ds) (tm_of t)) (var n)).1 is)) ∙ ap (is_number_term ds) (sym k) ∙ second)
       by (num r) k = true≢false (ap (is_number_term ds) (sym k) ∙ second)
       by (app f ts) k = true≢false (ap is_compound (sym k) ∙ first)
 
   other-passes : (t : Term) → In (con.NotNum t) cs → (z : Tm) → tm_of t ≡ z → is_number_term (cs ++ fixing v.of keep) (under (resolver (cs ++ fixing v.of keep)) z) ≡ false
-  other-passes t i (num r) e = absurd (true≢false (sym (ap (λ (z : Tm). is_number_term (remaining keep x.choice x.rows) (under (resolver (remaining keep x.choice x.rows)) z)) e) ∙ passing (con.NotNum t) (asked-in (con.NotNum t) i refl refl)))
+  other-passes t i (num r) e = absurd (true≢false (sym (ap (λ (z : Tm). is_number_term (remaining keep x.choice x.rows) (under (resolver (remaining keep x.choice x.rows)) z)) e) ∙ passes (con.NotNum t) (alone-asked (con.NotNum t) i refl refl)))
   other-passes t i (app f ts) e = refl
   other-passes t i (var y) e = ap (is_number_term (cs ++ fixing v.of keep)) (resolver-is y) ∙ by (is_dropped keep y) refl
     where
@@ -466,7 +360,7 @@ module _ (cs : List Con) (keep : List ℕ) (v : Valuation) (plain : Each IsNoEqu
       value (app f ts) k h = refl
 
       lacking : (b : Bool) → number_var (cs ++ fixing v.of keep) y ≡ b → b ≡ false
-      lacking true k = let c = number-con y (all-number y k).0 in absurd (both-asked y c.0 t c.1 i c.2 e)
+      lacking true k = let c = number-con cs plain y (all-number y k).0 in absurd (both-asked y c.0 t c.1 i c.2 e)
       lacking false k = refl
 
       by : (b : Bool) → is_dropped keep y ≡ b → is_number_term (cs ++ fixing v.of keep) (fixed y) ≡ false
@@ -529,11 +423,11 @@ module _ (cs : List Con) (keep : List ℕ) (v : Valuation) (plain : Each IsNoEqu
 
 pub back : (cs : List Con) (keep : List ℕ) (lists : List (List Con)) → RowsNormal cs → Each IsNoEquation cs → Sorted cs → projection cs keep ≡ Some (projected.Alternatives lists) → (v : Valuation) → MeetsOne v.of lists → Extends keep v cs
 back cs keep lists n plain sorted e v m =
-    let p = projects cs keep lists e in
-    let x = source (reading_of cs keep) cs v.of p.chosen lists (chosen-covers (reading_of cs keep) [] ([] ∷ []) cs p.chosen (sym p.chosen_is) ((λ c i. absurd i), tt)) (chosen-normal (reading_of cs keep) ([] ∷ []) cs p.chosen (sym p.chosen_is) (tt, tt) (normal-cons cs n)) (sym p.lists_is) m in
-    let left = Each-map (λ (r : Linear). holds v.of (con.Row r) ≡ true) (Holds (point v.of)) (λ r h. (bridge v.of r).0 h) x.rows (left-holds (reading_of cs keep) cs v.of x) in
-    let q = x.left.extends (point v.of) left in
-    extended cs keep v plain p.few x q.0 q.1 q.2 sorted
+    let s = reading_of cs keep in
+    let k = source-of s cs (is_met_by v.of) lists (sources cs keep lists n e) m in
+    let left = Each-map (λ (r : Linear). holds v.of (con.Row r) ≡ true) (Holds (point v.of)) (λ r h. (bridge v.of r).0 h) k.1.rows (left-holds s cs k.0 k.1 v.of k.2) in
+    let q = k.1.left.extends (point v.of) left in
+    extended cs keep v plain (projects cs keep lists e).few k.0 k.1 k.2 q.0 q.1 q.2 sorted
 
 pub means : (cs : List Con) (keep : List ℕ) (lists : List (List Con)) → RowsNormal cs → Each IsNoEquation cs → Sorted cs → projection cs keep ≡ Some (projected.Alternatives lists) → (v : Valuation) → Extends keep v cs ↔ MeetsOne v.of lists
 means cs keep lists n plain sorted e v = (met cs keep lists n plain e v, back cs keep lists n plain sorted e v)

@@ -1,11 +1,10 @@
 -- Values that meet the rows which are left extend to the variables that were eliminated.
-use Rattle.std.proofs.Common.{◌≡◌, ◌≢◌, ℕ, ◌+◌, ◌==◌, Bool, true, false, not, ℤ, pos, ◌*ℤ◌, ◌<ℤ◌, unsigned_abs, Some, None, Option, Ok, Err, List, [], ◌∷◌, ◌++◌, length, refl, sym, ap, subst, ◌∙◌, arith, cond}
+use Rattle.std.proofs.Common.{◌≡◌, ◌≢◌, ℕ, ◌==◌, Bool, true, false, not, ℤ, pos, ◌*ℤ◌, ◌<ℤ◌, unsigned_abs, Some, None, Option, Ok, List, [], ◌∷◌, ◌++◌, length, refl, sym, ap, subst, ◌∙◌, arith, cond}
 use Rattle.std.specs.Prelude.{if◌then◌else◌, ◌||◌, filter}
 use Rattle.std.specs.List.{flat_map, list_any}
 use Rattle.std.proofs.lemmas.Bool.{eqb-true, true≢false}
 use Rattle.std.proofs.lemmas.Bool.Decides.{nat_tests}
 use Rattle.std.proofs.lemmas.List.Folds.{list_any-append}
-use Rattle.std.proofs.lemmas.Int.{ints}
 use Rattle.scasp_num.specs.declared.linear.Coeff.{Coeff}
 use Rattle.scasp_num.specs.declared.linear.Op.TheVariants as op
 use Rattle.scasp_num.specs.Number.{Number, IsFraction}
@@ -29,7 +28,7 @@ use Rattle.scasp_rows.proofs.Extending.{Extends, solves-sized, equation-extends,
 use Rattle.scasp_rows.proofs.Completeness.{others-back, all-extended, Conditions, made_without-conditions, without-made, zeroed-met, variables-lack, all-among, given-rows, all_looked-ok, fraction}
 use Rattle.scasp_project.specs.Dropped.{is_dropped, row_has}
 use Rattle.scasp_project.specs.LeftRows.{elimination_of}
-use Rattle.scasp_project.proofs.PlainLemmas.{rows_of}
+use Rattle.scasp_project.proofs.PlainLemmas.{LeftMet, left-met, rows_of}
 
 -- ---- one variable
 
@@ -195,11 +194,13 @@ point-extends keep rows v m d above have at over positive met same =
         by x true e f = (fraction (at x) over positive).1
         by x false e f = fraction-same (v x) (m x) d (at x) over above f (same x e)
 
--- what is left of rows has no dropped variable, and a point that meets it meets the rows with other values of the dropped variables
+-- what is left of rows has no dropped variable; a point that meets the rows meets it, and one that meets it meets the rows with
+-- other values of the dropped variables
 pub record LeftOf (keep : List ℕ) (rows left : List Linear) : Type 0 where
   pub lack : Each (λ (r : Linear). row_has (is_dropped keep) r ≡ false) left
   pub normal : Each IsNormal left
   pub comparing : NoDisequation left
+  pub met : (v : RationalPoint) → MeetsAll v rows → MeetsAll v left
   pub extends : (v : RationalPoint) → MeetsAll v left → (w : RationalPoint) × MeetsAll w rows × ((y : ℕ) → is_dropped keep y ≡ false → w y ≡ v y)
 
 pub left-extends : (keep : List ℕ) (rows : List Linear) (t : State) → Each IsNormal rows → NoDisequation rows → elimination_of keep rows ≡ Ok t → LeftOf keep rows (rows_of t.standing)
@@ -207,6 +208,7 @@ left-extends keep rows t h n e = record {
   lack = Each-standing (λ (r : Linear). row_has (is_dropped keep) r ≡ false) t.standing (Each-map (Fine ys) (λ (r : Standing). row_has (is_dropped keep) r.row ≡ false) lacks t.standing fine.0);
   normal = Each-standing IsNormal t.standing (Each-map (Fine ys) (λ (r : Standing). IsNormal r.row) (λ r f. f.normal) t.standing fine.0);
   comparing = Each-standing (λ (r : Linear). r.op ≢ op.Ne) t.standing (Each-map (Fine ys) (λ (r : Standing). r.row.op ≢ op.Ne) (λ r f. f.comparing) t.standing fine.0);
+  met = λ v m. subst (LeftMet v) e (left-met v keep rows n m);
   extends = extends;
 }
   where

@@ -1,40 +1,32 @@
 -- A valuation that meets a list meets one of its choices, and what is kept of that.
-use Rattle.std.proofs.Common.{◌≡◌, ◌≢◌, ◌↔◌, ◌⊎◌, inl, inr, ℕ, Bool, true, false, not, ◌&&◌, Some, None, Option, Result, Ok, Err, List, [], ◌∷◌, ◌++◌, refl, sym, ap, subst, ◌∙◌, cond}
-use Rattle.std.specs.Prelude.{if◌then◌else◌, ◌||◌, filter, map, nat_eq, option_to_list, ⊤}
-use Rattle.std.specs.List.{flat_map, list_all, list_any}
+use Rattle.std.proofs.Common.{◌≡◌, ◌⊎◌, inl, inr, ℕ, Bool, true, false, ◌&&◌, Some, None, Option, List, [], ◌∷◌, ◌++◌, refl, sym, ap, ◌∙◌}
+use Rattle.std.specs.Prelude.{if◌then◌else◌, ◌||◌, map}
+use Rattle.std.specs.List.{list_all, list_any}
 use Rattle.std.proofs.lemmas.Bool.{and_from, and_parts, or_cases, true≢false}
 use Rattle.std.proofs.lemmas.List.Folds.{list_all-append, list_any-append}
-use Rattle.scasp_num.specs.declared.linear.Coeff.{Coeff}
 use Rattle.scasp_num.specs.declared.linear.Op.{Op}
 use Rattle.scasp_num.specs.declared.linear.Op.TheVariants as op
 use Rattle.scasp_num.specs.Arithmetic.{◌>>=◌}
-use Rattle.scasp_num.specs.Linear.{Linear, IsNormal}
-use Rattle.scasp_num.specs.Number.{Number}
-use Rattle.scasp_num.specs.SameRow.{same_row}
+use Rattle.scasp_num.specs.Linear.{Linear}
 use Rattle.scasp_num.specs.Values.{Holds}
 use Rattle.scasp_num.proofs.Exact.{bind-some}
 use Rattle.scasp_list.specs.Each.{Each}
-use Rattle.scasp_list.proofs.EachLemmas.{Each-append, Each-map}
-use Rattle.scasp_rows.specs.declared.state.Halt.{Halt}
-use Rattle.scasp_rows.specs.declared.state.Halt.TheVariants as halt
-use Rattle.scasp_rows.specs.declared.state.State.{State}
-use Rattle.scasp_rows.specs.Points.{MeetsAll, NoDisequation, RationalPoint}
-use Rattle.scasp_syntax.specs.Constraints.{holds, is_number}
-use Rattle.scasp_syntax.specs.RowTruth.{number_of, point, row_holds}
+use Rattle.scasp_rows.specs.Points.{RationalPoint}
+use Rattle.scasp_syntax.specs.Constraints.{holds}
+use Rattle.scasp_syntax.specs.RowTruth.{point}
 use Rattle.scasp_syntax.specs.Same.{same_tm}
-use Rattle.scasp_syntax.specs.Tm.{Tm, Tms, var, num, app, nil, cons}
-use Rattle.scasp_syntax.specs.Values.{Sub, under, all_under}
+use Rattle.scasp_syntax.specs.Tm.{Tm, var, num, app}
+use Rattle.scasp_syntax.specs.Values.{Sub, under}
 use Rattle.scasp_syntax.specs.View.{tm_of}
 use Rattle.scasp_syntax.specs.declared.con.Con.{Con}
 use Rattle.scasp_syntax.specs.declared.con.Con.TheVariants as con
-use Rattle.scasp_syntax.specs.declared.term.Term.{Term}
 use Rattle.scasp_syntax.proofs.SameLemmas.{tm_decided}
 use Rattle.scasp_syntax.proofs.ValueLemmas.{differ_decided}
-use Rattle.scasp_unify.specs.Parts.{Part, left_side, right_side, parts}
+use Rattle.scasp_unify.specs.Parts.{Part, left_side, right_side}
 use Rattle.scasp_unify.specs.Points.{read_as}
 use Rattle.scasp_unify.specs.SimpleForm.{differ, term_with}
-use Rattle.scasp_unify.specs.Unification.{Absorbs, term_vars, terms_vars}
-use Rattle.scasp_unify.proofs.PointLemmas.{bridge, holds-same}
+use Rattle.scasp_unify.specs.Unification.{Absorbs}
+use Rattle.scasp_unify.proofs.PointLemmas.{bridge}
 use Rattle.scasp_unify.proofs.SimpleLemmas.{viewed}
 use Rattle.scasp_unify.proofs.UnificationLemmas.{Fits, Says, parts-say, resolved-twice}
 use Rattle.scasp_hint.specs.ExactRows.{difference}

@@ -1,27 +1,26 @@
 -- What is kept of a list: rows in normal form, and a valuation that meets the list meets one of the lists that are kept.
-use Rattle.std.proofs.Common.{◌≡◌, ◌≢◌, ◌↔◌, ◌⊎◌, inl, inr, ℕ, Bool, true, false, not, ◌&&◌, Some, None, Option, Result, Ok, Err, List, [], ◌∷◌, ◌++◌, refl, sym, ap, subst, ◌∙◌, cond}
-use Rattle.std.specs.Prelude.{if◌then◌else◌, ◌||◌, filter, map, nat_eq, option_to_list, ⊤}
-use Rattle.std.specs.List.{flat_map, list_all, list_any}
+use Rattle.std.proofs.Common.{◌≡◌, ◌⊎◌, inl, inr, ℕ, Bool, true, false, not, Some, None, Option, Result, Ok, Err, List, [], ◌∷◌, ◌++◌, refl, sym, ap, subst, ◌∙◌, cond}
+use Rattle.std.specs.Prelude.{if◌then◌else◌, ◌||◌, filter, map, option_to_list, ⊤}
+use Rattle.std.specs.List.{list_all, list_any}
 use Rattle.std.proofs.lemmas.Bool.{and_from, and_parts, or_cases, or_parts, true≢false}
 use Rattle.std.proofs.lemmas.List.Folds.{list_all-append, list_any-append}
 use Rattle.scasp_num.specs.declared.linear.Coeff.{Coeff}
 use Rattle.scasp_num.specs.declared.linear.Op.{Op}
 use Rattle.scasp_num.specs.declared.linear.Op.TheVariants as op
-use Rattle.scasp_num.specs.declared.linear.RatPair.{RatPair}
 use Rattle.scasp_num.specs.Arithmetic.{◌>>=◌, negation_of}
 use Rattle.scasp_num.specs.Linear.{Linear, IsNormal}
-use Rattle.scasp_num.specs.Number.{Number, zero_number}
+use Rattle.scasp_num.specs.Number.{zero_number}
 use Rattle.scasp_num.specs.Values.{Holds}
 use Rattle.scasp_num.proofs.Exact.{bind-some}
 use Rattle.scasp_num.proofs.Kept.{normal_of-IsNormal}
 use Rattle.scasp_num.proofs.NormalForms.{negation-IsNormal}
 use Rattle.scasp_list.specs.Each.{Each}
-use Rattle.scasp_list.proofs.EachLemmas.{Each-append, Each-filter, Each-map}
+use Rattle.scasp_list.proofs.EachLemmas.{Each-append, Each-filter}
 use Rattle.scasp_rows.specs.declared.state.Halt.{Halt}
 use Rattle.scasp_rows.specs.declared.state.Halt.TheVariants as halt
 use Rattle.scasp_rows.specs.declared.state.State.{State}
-use Rattle.scasp_rows.specs.Points.{MeetsAll, NoDisequation, RationalPoint}
-use Rattle.scasp_syntax.specs.Constraints.{Meets, Sat, has_shape, holds, is_number}
+use Rattle.scasp_rows.specs.Points.{MeetsAll, NoDisequation}
+use Rattle.scasp_syntax.specs.Constraints.{has_shape, holds, is_number}
 use Rattle.scasp_syntax.specs.RowTruth.{number_of, point}
 use Rattle.scasp_syntax.specs.Same.{same_tm}
 use Rattle.scasp_syntax.specs.Tm.{Tm, Tms, var, num, app, nil, cons}
@@ -29,28 +28,25 @@ use Rattle.scasp_syntax.specs.Values.{Sub, Valuation, under, all_under}
 use Rattle.scasp_syntax.specs.View.{tm_of}
 use Rattle.scasp_syntax.specs.declared.con.Con.{Con}
 use Rattle.scasp_syntax.specs.declared.con.Con.TheVariants as con
-use Rattle.scasp_syntax.specs.declared.term.Term.{Term}
-use Rattle.scasp_syntax.proofs.SameLemmas.{tm_decided}
 use Rattle.scasp_syntax.proofs.ValueLemmas.{differ_decided}
-use Rattle.scasp_unify.specs.Parts.{Part, left_side, right_side, parts}
+use Rattle.scasp_unify.specs.Parts.{Part, left_side, right_side}
 use Rattle.scasp_unify.specs.SimpleForm.{differ}
 use Rattle.scasp_unify.specs.Unification.{Absorbs, term_vars, terms_vars}
 use Rattle.scasp_unify.proofs.PointLemmas.{bridge, holds-same}
 use Rattle.scasp_unify.proofs.UnificationLemmas.{Fits, Says, parts-say, resolved-twice}
 use Rattle.scasp_hint.specs.AskedRows.{RowsNormal, given_rows, inequalities}
 use Rattle.scasp_hint.specs.Finding.{Found, found, hint, nothing, unknown_list}
-use Rattle.scasp_hint.specs.Satisfying.{sat}
 use Rattle.scasp_hint.specs.Sides.{above, below, less, more, one, minus_one}
 use Rattle.scasp_hint.specs.Verdicts.{left_above, left_below}
 use Rattle.scasp_hint.proofs.AskedLemmas.{inequalities-each, inequalities-plain}
 use Rattle.scasp_hint.proofs.FoundLemmas.{found-hint}
 use Rattle.scasp_hint.proofs.ShownLemmas.{shown-unsat}
-use Rattle.scasp_project.specs.Choices.{choices, chosen, crossed, options, options_by, part_options, part_rows, parts_options, row_options, speak_of_dropped}
+use Rattle.scasp_project.specs.Choices.{chosen, crossed, options, options_by, part_options, part_rows, parts_options, row_options, speak_of_dropped}
 use Rattle.scasp_project.specs.Dropped.{Reading, con_has, is_between, is_dropped, part_has, parts_have, parts_in, row_has}
 use Rattle.scasp_project.specs.LeftRows.{elimination_of, rows_left}
 use Rattle.scasp_project.specs.Meaning.{Agree}
 use Rattle.scasp_project.specs.Projection.{all_kept, asked_kept, choice_kept, found_kept, is_new, kept, left_kept, remaining, stays}
-use Rattle.scasp_project.proofs.ExtendLemmas.{LeftOf, left-extends}
+use Rattle.scasp_project.proofs.ExtendLemmas.{left-extends}
 use Rattle.scasp_project.proofs.ForwardLemmas.{any-left, any-right, is_met_by}
 use Rattle.scasp_project.proofs.PlainLemmas.{LeftMet, left-met, rows_of}
 
@@ -244,7 +240,7 @@ rows-held w (con.NotShape x f n ∷ ds) h = rows-held w ds (and_parts (holds w (
 rows-held w (con.Num t ∷ ds) h = rows-held w ds (and_parts (holds w (con.Num t)) (is_met_by w ds) h).1
 rows-held w (con.NotNum t ∷ ds) h = rows-held w ds (and_parts (holds w (con.NotNum t)) (is_met_by w ds) h).1
 
-held-rows : (w : Sub) (rs : List Linear) → MeetsAll (point w) rs → is_met_by w (map con.Row rs) ≡ true
+pub held-rows : (w : Sub) (rs : List Linear) → MeetsAll (point w) rs → is_met_by w (map con.Row rs) ≡ true
 held-rows w [] h = refl
 held-rows w (r ∷ rs) h = and_from (holds w (con.Row r)) (is_met_by w (map con.Row rs)) ((bridge w r).1 h.0) (held-rows w rs h.1)
 

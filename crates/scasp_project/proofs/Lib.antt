@@ -5,6 +5,7 @@ pub mod KeptLemmas
 pub mod MetLaw
 pub mod OpenParts
 pub mod PlainLemmas
+pub mod PossibleLaw
 pub mod RowLaw
 pub mod SourceLemmas
 pub mod VariableWalk

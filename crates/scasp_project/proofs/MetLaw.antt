@@ -1,22 +1,22 @@
 -- A valuation that can be extended to meet a list meets one of the lists to which that projects.
-use Rattle.std.proofs.Common.{◌≡◌, ℕ, Bool, true, false, Some, None, Option, List, [], ◌∷◌, refl, sym, ap, subst, ◌∙◌}
+use Rattle.std.proofs.Common.{◌≡◌, ℕ, Bool, true, false, Some, Option, List, [], ◌∷◌, refl, sym, ap, subst, ◌∙◌}
 use Rattle.std.specs.Prelude.{if◌then◌else◌}
-use Rattle.std.specs.List.{list_all, list_any}
 use Rattle.std.proofs.lemmas.Bool.{true≢false}
 use Rattle.scasp_num.specs.Arithmetic.{◌>>=◌}
 use Rattle.scasp_num.proofs.Exact.{bind-some}
 use Rattle.scasp_list.specs.Each.{Each}
 use Rattle.scasp_syntax.specs.Constraints.{Meets, holds, is_number}
 use Rattle.scasp_syntax.specs.RowTruth.{number_of, point}
-use Rattle.scasp_syntax.specs.Same.{same_tm}
 use Rattle.scasp_syntax.specs.Tm.{Tm, var, num, app}
 use Rattle.scasp_syntax.specs.Values.{Sub, Valuation, under}
 use Rattle.scasp_syntax.specs.View.{tm_of}
 use Rattle.scasp_syntax.specs.declared.con.Con.{Con}
 use Rattle.scasp_syntax.specs.declared.con.Con.TheVariants as con
+use Rattle.scasp_syntax.specs.declared.term.Term.{Term}
 use Rattle.scasp_syntax.proofs.SameLemmas.{tm_decided}
 use Rattle.scasp_unify.specs.Numbers.{is_num_of, number_var}
-use Rattle.scasp_unify.specs.Resolver.{resolver, resolver_after}
+use Rattle.scasp_unify.specs.Resolver.{Equal, resolver, resolver_after}
+use Rattle.scasp_unify.specs.Sorted.{In}
 use Rattle.scasp_unify.specs.Unification.{Absorbs}
 use Rattle.scasp_unify.proofs.Members.{all-in, any-out}
 use Rattle.scasp_unify.proofs.UnificationLemmas.{resolved-twice}
@@ -29,6 +29,7 @@ use Rattle.scasp_project.specs.declared.projecting.Projected.{Projected}
 use Rattle.scasp_project.specs.declared.projecting.Projected.TheVariants as projected
 use Rattle.scasp_project.proofs.ForwardLemmas.{Counts, chosen-met}
 use Rattle.scasp_project.proofs.KeptLemmas.{all-kept-met, chosen-normal, normal-cons}
+use Rattle.scasp_project.proofs.OpenParts.{under-var}
 
 -- without equations each variable stands for itself
 resolved-after : (s : Sub) (cs : List Con) → Each IsNoEquation cs → resolver_after s cs ≡ s
@@ -45,6 +46,30 @@ resolved-var cs h = resolved-after var cs h
 
 pub absorbs-any : (cs : List Con) → Each IsNoEquation cs → (v : Sub) → Absorbs v (resolver cs)
 absorbs-any cs h v = subst (λ (s : Sub). Absorbs v s) (sym (resolved-var cs h)) (λ y. refl)
+
+pub no-equations : (cs : List Con) (r : Sub) → Each IsNoEquation cs → Each (Equal r) cs
+no-equations [] r h = tt
+no-equations (con.Eq t u ∷ cs) r h = absurd h.0
+no-equations (con.Neq t u ∷ cs) r h = (tt, no-equations cs r h.1)
+no-equations (con.NotShape x f n ∷ cs) r h = (tt, no-equations cs r h.1)
+no-equations (con.Num t ∷ cs) r h = (tt, no-equations cs r h.1)
+no-equations (con.NotNum t ∷ cs) r h = (tt, no-equations cs r h.1)
+no-equations (con.Row r ∷ cs) q h = (tt, no-equations cs q h.1)
+
+-- a variable that counts as a number has a num
+pub number-con : (cs : List Con) → Each IsNoEquation cs → (y : ℕ) → number_var cs y ≡ true → (t : Term) × In (con.Num t) cs × (tm_of t ≡ var y)
+number-con cs plain y e = let c = any-out (is_num_of (resolver cs) (var y)) cs e in by c.0 c.1 c.2
+  where
+    is : (t : Term) → is_num_of (resolver cs) (var y) (con.Num t) ≡ true → tm_of t ≡ var y
+    is t e = sym (under-var (tm_of t)) ∙ ap (λ (r : Sub). under r (tm_of t)) (sym (resolved-var cs plain)) ∙ (tm_decided (under (resolver cs) (tm_of t)) (var y)).0 e
+
+    by : (c : Con) → In c cs → is_num_of (resolver cs) (var y) c ≡ true → (t : Term) × In (con.Num t) cs × (tm_of t ≡ var y)
+    by (con.Num t) i e = (t, i, is t e)
+    by (con.Eq t u) i e = absurd (true≢false (sym e))
+    by (con.Neq t u) i e = absurd (true≢false (sym e))
+    by (con.NotShape z f n) i e = absurd (true≢false (sym e))
+    by (con.NotNum t) i e = absurd (true≢false (sym e))
+    by (con.Row r) i e = absurd (true≢false (sym e))
 
 num-value : (t : Tm) → is_number t ≡ true → t ≡ num (number_of t)
 num-value (var x) e = absurd (true≢false (sym e))

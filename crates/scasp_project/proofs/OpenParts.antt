@@ -6,7 +6,6 @@ use Rattle.std.proofs.lemmas.Bool.{and_parts, eqb-true, or_cases, or_parts, true
 use Rattle.std.proofs.lemmas.Bool.Decides.{Decides-eqb}
 use Rattle.std.proofs.lemmas.List.Folds.{list_any-append}
 use Rattle.scasp_num.specs.declared.linear.Op.TheVariants as op
-use Rattle.scasp_num.specs.declared.linear.RatPair.{RatPair}
 use Rattle.scasp_num.specs.Arithmetic.{◌>>=◌, negation_of}
 use Rattle.scasp_num.specs.Linear.{Linear}
 use Rattle.scasp_num.specs.Number.{Number, zero_number}
@@ -36,7 +35,7 @@ use Rattle.scasp_hint.proofs.ExactLemmas.{difference-holds}
 use Rattle.scasp_hint.proofs.SatisfyingLemmas.{above-differs, below-differs}
 use Rattle.scasp_hint.proofs.SidesLemmas.{less-holds, more-holds}
 use Rattle.scasp_project.specs.Choices.{is_mixed, part_options, part_rows, parts_options}
-use Rattle.scasp_project.specs.Dropped.{Reading, con_has, is_between, is_dropped, is_dropped_number, is_number_by, part_has, parts_have, parts_in}
+use Rattle.scasp_project.specs.Dropped.{Reading, is_between, is_dropped, is_dropped_number, is_number_by, part_has, parts_have}
 use Rattle.scasp_project.proofs.KeptLemmas.{under-same}
 
 and-right : (a b : Bool) → (a && b) ≡ false → a ≡ true → b ≡ false
@@ -172,15 +171,33 @@ side-apart v p row e = by p.turned e
     by false (inl e) = low e
     by false (inr e) = high e
 
+-- where both sides of a part are the same number, no row of it stands among rows that the point meets
+pub rows-open : (v : RationalPoint) (ds : List Con) → ((r : Linear) → In (con.Row r) ds → r.op ≢ op.Ne → Holds v r) → (p : Part) (os : List Con) → v p.at ≡ read_as v p.at p.term → part_rows p ≡ Some os → (o : Con) → In o os → In o ds → ⊥
+rows-open v ds rows p os equal e o i j = which (subst (λ (cs : List Con). In o cs) same i)
+  where
+    f : (a : Linear) × (Some a ≡ left_below p) × (Some os ≡ (left_above p >>= (λ b. Some (con.Row a ∷ con.Row b ∷ []))))
+    f = bind-some (left_below p) (λ a. left_above p >>= (λ b. Some (con.Row a ∷ con.Row b ∷ []))) os (sym e)
+
+    g : (c : Linear) × (Some c ≡ left_above p) × (◌≡◌ {A = Option (List Con)} (Some os) (Some (con.Row f.0 ∷ con.Row c ∷ [])))
+    g = bind-some (left_above p) (λ b. Some (con.Row f.0 ∷ con.Row b ∷ [])) os f.2
+
+    same : os ≡ con.Row f.0 ∷ con.Row g.0 ∷ []
+    same = let k = g.2 in cc
+
+    row : (r : Linear) → (Some r ≡ left_below p) ⊎ (Some r ≡ left_above p) → In (con.Row r) ds → ⊥
+    row r e j = let side = side-apart v p r e in side.1 (rows r j side.0) equal
+
+    which : In o (con.Row f.0 ∷ con.Row g.0 ∷ []) → ⊥
+    which (inl k) = row f.0 (inl f.1) (subst (λ (c : Con). In c ds) k j)
+    which (inr (inl k)) = row g.0 (inr g.1) (subst (λ (c : Con). In c ds) k j)
+    which (inr (inr k)) = k
+
 -- ---- values of the kept variables, numbers for the dropped ones, and each other variable itself
 
 abbrev pub valued : Reading → Sub → (ℕ → Number) → Sub
 valued s v p x = if is_dropped s.keep x then (if s.number x then num (p x) else var x) else v x
 
 module _ (s : Reading) (v : Valuation) (p : ℕ → Number) where
-  abbrev w : Sub
-  w = valued s v.of p
-
   pub valued-kept : (x : ℕ) → is_dropped s.keep x ≡ false → valued s v.of p x ≡ v.of x
   valued-kept x e i = if e i then (if s.number x then num (p x) else var x) else v.of x
 
@@ -259,12 +276,6 @@ module _ (s : Reading) (v : Valuation) (p : ℕ → Number) where
         equal (num r) a b same = num-is (p q.at) r (sym (counts q.at a) ∙ same)
         equal (app g ts) a b same = absurd (true≢false (sym b))
 
-        row-open : (r : Linear) → (Some r ≡ left_below q) ⊎ (Some r ≡ left_above q) → In (con.Row r) ds → is_between s.number q ≡ true → ⊥
-        row-open r e j b =
-            let side = side-apart p q r e in
-            let both = and_parts (s.number q.at) (is_number_by s.number q.term) b in
-            side.1 (rows r j side.0) (equal q.term both.0 both.1 fits)
-
         apart : part_has (is_dropped s.keep) q ≡ false → In (differ (left_side q) (right_side q)) ds → ⊥
         apart none j =
             let lacks = or_parts (is_dropped s.keep q.at) (list_any (is_dropped s.keep) (term_vars q.term)) none in
@@ -286,21 +297,7 @@ module _ (s : Reading) (v : Valuation) (p : ℕ → Number) where
         differs false h n j = apart h j
 
         by : (b : Bool) → is_between s.number q ≡ b → (if b then part_rows q else Some (differ (left_side q) (right_side q) ∷ [])) ≡ Some os → ⊥
-        by true b e =
-            let k = g.2 in
-            let same : os ≡ con.Row f.0 ∷ con.Row g.0 ∷ [] = cc in
-            which (subst (λ (cs : List Con). In o cs) same i)
-          where
-            f : (a : Linear) × (Some a ≡ left_below q) × (Some os ≡ (left_above q >>= (λ b. Some (con.Row a ∷ con.Row b ∷ []))))
-            f = bind-some (left_below q) (λ a. left_above q >>= (λ b. Some (con.Row a ∷ con.Row b ∷ []))) os (sym e)
-
-            g : (c : Linear) × (Some c ≡ left_above q) × (◌≡◌ {A = Option (List Con)} (Some os) (Some (con.Row f.0 ∷ con.Row c ∷ [])))
-            g = bind-some (left_above q) (λ b. Some (con.Row f.0 ∷ con.Row b ∷ [])) os f.2
-
-            which : In o (con.Row f.0 ∷ con.Row g.0 ∷ []) → ⊥
-            which (inl k) = row-open f.0 (inl f.1) (subst (λ (c : Con). In c ds) k j) b
-            which (inr (inl k)) = row-open g.0 (inr g.1) (subst (λ (c : Con). In c ds) k j) b
-            which (inr (inr k)) = k
+        by true b e = let both = and_parts (s.number q.at) (is_number_by s.number q.term) b in rows-open p ds rows q os (equal q.term both.0 both.1 fits) e o i j
         by false b e =
             let same : os ≡ differ (left_side q) (right_side q) ∷ [] = cc in
             which (subst (λ (cs : List Con). In o cs) same i)

@@ -15,13 +15,11 @@ use Rattle.scasp_num.specs.Values.{Holds}
 use Rattle.scasp_num.proofs.Comparing.{ne_zero}
 use Rattle.scasp_rows.specs.declared.state.Halt.{Halt}
 use Rattle.scasp_rows.specs.declared.state.Halt.TheVariants as halt
-use Rattle.scasp_rows.specs.declared.state.Sign.TheVariants as row_sign
 use Rattle.scasp_rows.specs.declared.state.Standing.{Standing}
 use Rattle.scasp_rows.specs.declared.state.State.{State}
-use Rattle.scasp_rows.specs.declared.steps.StepErr.{StepErr}
 use Rattle.scasp_rows.specs.declared.steps.StepErr.TheVariants as step_err
 use Rattle.scasp_rows.specs.Points.{MeetsAll, NoDisequation, RationalPoint, is_constant, is_false}
-use Rattle.scasp_rows.specs.Steps.{row_sum, may_scale, may_step, step_of, sum_or_overflow}
+use Rattle.scasp_rows.specs.Steps.{row_sum, may_scale, may_step, sum_or_overflow}
 use Rattle.scasp_rows.specs.Elimination as numbered
 use Rattle.scasp_rows.specs.Elimination.{share, size_over, against, variables}
 use Rattle.scasp_rows.proofs.Reaching.{false-holds}
@@ -30,8 +28,7 @@ use Rattle.scasp_rows.proofs.Shares.{share-dvd_left, share-dvd_right, size_over-
 use Rattle.scasp_rows.proofs.Soundness.{below-nonzero, above-nonzero, not_true, filter-passes, first_equation-solves, first_equation-each, others-each}
 use Rattle.scasp_project.specs.declared.ended.Ended.{Ended}
 use Rattle.scasp_project.specs.declared.ended.Ended.TheVariants as ended
-use Rattle.scasp_project.specs.declared.elimination.Sign.TheVariants as sign
-use Rattle.scasp_project.specs.Inside.PlainElimination.{and_then, looked, sum_looked, made, factor, solves, first_equation, others, replaced, solved, has_sign, rows_with, met, paired, all_paired, by_equation, limited, without, eliminated, all_looked}
+use Rattle.scasp_project.specs.Inside.PlainElimination.{and_then, looked, sum_looked, made, factor, solves, first_equation, others, replaced, solved, met, paired, all_paired, by_equation, limited, without, eliminated, all_looked}
 use Rattle.scasp_project.specs.Dropped.{is_dropped}
 use Rattle.scasp_project.specs.LeftRows.{elimination_of, rows_left}
 

@@ -1,5 +1,5 @@
 -- What is left of rows is their projection.
-use Rattle.std.proofs.Common.{◌≡◌, ◌↔◌, ℕ, Bool, false, ◌||◌, Result, Ok, Err, List, [], ◌∷◌, refl, sym, ap, subst}
+use Rattle.std.proofs.Common.{◌≡◌, ◌↔◌, ℕ, false, Result, Ok, Err, List, [], ◌∷◌, refl, subst}
 use Rattle.std.specs.List.{list_any}
 use Rattle.std.proofs.lemmas.Bool.{or_parts}
 use Rattle.scasp_num.specs.declared.linear.Coeff.{Coeff}
@@ -12,7 +12,6 @@ use Rattle.scasp_rows.specs.declared.state.Halt.TheVariants as halt
 use Rattle.scasp_rows.specs.declared.state.State.{State}
 use Rattle.scasp_rows.specs.Points.{MeetsAll, NoDisequation, RationalPoint}
 use Rattle.scasp_unify.proofs.PointLemmas.{holds-same}
-use Rattle.scasp_project.specs.declared.ended.Ended.{Ended}
 use Rattle.scasp_project.specs.declared.ended.Ended.TheVariants as ended
 use Rattle.scasp_project.specs.Dropped.{is_dropped, row_has}
 use Rattle.scasp_project.specs.LeftRows.{elimination_of, rows_left}
@@ -33,7 +32,8 @@ left-of keep rows left n p e =
 pub lacks : (keep : List ℕ) (rows left : List Linear) → Each IsNormal rows → NoDisequation rows → rows_left (elimination_of keep rows) ≡ Ok left → Each (λ (r : Linear). row_has (is_dropped keep) r ≡ false) left
 lacks keep rows left n p e = (left-of keep rows left n p e).lack
 
-points-same : (keep : List ℕ) (v w : RationalPoint) → ((x : ℕ) → is_dropped keep x ≡ false → w x ≡ v x) → (ks : List Coeff) → list_any (λ k. is_dropped keep k.x) ks ≡ false → Each (λ k. w k.x ≡ v k.x) ks
+-- points that agree on the kept variables agree on a row without dropped ones
+pub points-same : (keep : List ℕ) (v w : RationalPoint) → ((x : ℕ) → is_dropped keep x ≡ false → w x ≡ v x) → (ks : List Coeff) → list_any (λ k. is_dropped keep k.x) ks ≡ false → Each (λ k. w k.x ≡ v k.x) ks
 points-same keep v w a [] e = tt
 points-same keep v w a (k ∷ ks) e = let parts = or_parts (is_dropped keep k.x) (list_any (λ k. is_dropped keep k.x) ks) e in (a k.x parts.0, points-same keep v w a ks parts.1)
 
@@ -45,9 +45,7 @@ extends keep rows left n p e v = (λ m. all.extends v m, λ k. back k.0 k.1 k.2)
 
     back : (w : RationalPoint) → MeetsAll w rows → ((x : ℕ) → is_dropped keep x ≡ false → w x ≡ v x) → MeetsAll v left
     back w m a =
-        let t = ended-ok (elimination_of keep rows) left e in
-        let met = subst (λ (rs : List Linear). MeetsAll w rs) t.2 (subst (LeftMet w) t.1 (left-met w keep rows p m)) in
-        Each-map (λ (r : Linear). (row_has (is_dropped keep) r ≡ false) × Holds w r) (Holds v) (λ r k. holds-same w v r (points-same keep v w a r.coeffs k.0) k.1) left (Each-both (λ (r : Linear). row_has (is_dropped keep) r ≡ false) (Holds w) left all.lack met)
+        Each-map (λ (r : Linear). (row_has (is_dropped keep) r ≡ false) × Holds w r) (Holds v) (λ r k. holds-same w v r (points-same keep v w a r.coeffs k.0) k.1) left (Each-both (λ (r : Linear). row_has (is_dropped keep) r ≡ false) (Holds w) left all.lack (all.met w m))
 
 ended-unsat : (w : RationalPoint) (o : Result State Halt) → rows_left o ≡ Err ended.Unsat → LeftMet w o → ⊥
 ended-unsat w (Ok t) e m = cc

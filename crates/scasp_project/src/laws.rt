@@ -9,6 +9,7 @@ ghost use Rattle.scasp_project.specs.declared.ended.Ended.TheVariants as ends;
 ghost use Rattle.scasp_project.specs.declared.projecting.Projected.TheVariants as answers;
 ghost use Rattle.scasp_project.specs.Meaning.{Extends, IsNoEquation, MeetsOne};
 ghost use Rattle.scasp_project.specs.Projection.{projection};
+ghost use Rattle.scasp_syntax.specs.Constraints.{Sat};
 ghost use Rattle.scasp_syntax.specs.Values.{Valuation};
 ghost use Rattle.scasp_unify.specs.Sorted.{Sorted};
 ghost use Rattle.scasp_syntax.specs.declared.con.Con.{Con as ThisCon};
@@ -27,4 +28,9 @@ pub fn rows_are_projected()
 /// exactly where it meets one of the alternatives.
 pub fn projections_mean()
     ensures { (cs : List ThisCon) (keep : List ℕ) (lists : List (List ThisCon)) → RowsNormal cs → Each IsNoEquation cs → Sorted cs → projection cs keep ≡ Some (answers.Alternatives lists) → (v : Valuation) → Extends keep v cs ↔ MeetsOne v.of lists }
+{}
+
+/// Of a sorted list without equations: each of the alternatives has a valuation.
+pub fn alternatives_are_possible()
+    ensures { (cs : List ThisCon) (keep : List ℕ) (lists : List (List ThisCon)) → RowsNormal cs → Each IsNoEquation cs → Sorted cs → projection cs keep ≡ Some (answers.Alternatives lists) → Each Sat lists }
 {}

@@ -6,6 +6,7 @@ ghost use Rattle.scasp_hint.specs.Finding.{found};
 ghost use Rattle.scasp_list.specs.Each.{Each};
 ghost use Rattle.scasp_num.specs.Linear.{Gives};
 ghost use Rattle.scasp_num.specs.SameRow.{same_row};
+ghost use Rattle.scasp_syntax.specs.Constraints.{Sat};
 ghost use Rattle.scasp_syntax.specs.Values.{Valuation};
 ghost use Rattle.scasp_syntax.specs.declared.con.Con.TheVariants as con;
 ghost use Rattle.scasp_unify.specs.Sorted.{Sorted};
@@ -242,14 +243,15 @@ fn projection(
 /// The projection of the constraints on the variables that are kept. A valuation of these can be extended to one of all
 /// variables that meets the constraints exactly where it meets one of the alternatives. Each disequation that speaks of
 /// a dropped number gives an alternative for each of its parts, twice where that is between numbers (below and above),
-/// and in each the dropped numbers are eliminated (Fourier 1826, Motzkin 1936); one that has no valuation is left out.
-/// TooMany exactly where these disequations have together more than 6 parts, or one of their parts speaks of a dropped
-/// number and is not between numbers. Overflow only where an elimination overflows, or the list that it leaves where it
-/// is asked for a valuation.
+/// and in each the dropped numbers are eliminated (Fourier 1826, Motzkin 1936). One that is found to have no valuation
+/// is left out: where the constraints are sorted each alternative has one. TooMany exactly where these disequations
+/// have together more than 6 parts, or one of their parts speaks of a dropped number and is not between numbers.
+/// Overflow only where an elimination overflows, or the list that it leaves where it is asked for a valuation.
 pub fn project(constraints: &Cons, keep: &VarList) -> Result<Projected, LinErr>
     ensures exact { Projects result (projection constraints.now keep.now) }
     ensures extends { IfOk result (λ answer. IfAlternatives answer (λ lists. Each IsNoEquation constraints.now → Sorted constraints.now
         → (v : Valuation) → Extends keep.now v constraints.now ↔ MeetsOne v.of lists)) }
+    ensures possible { IfOk result (λ answer. IfAlternatives answer (λ lists. Each IsNoEquation constraints.now → Sorted constraints.now → Each Sat lists)) }
 {
     let alloc = constraints.allocator();
     let list = constraints.as_slice();

@@ -1,7 +1,7 @@
-use Rattle.std.proofs.Common.{◌≡◌, ◌++◌, ◌∷◌, ◌+◌, ◌≤◌, [], Some, drop, map, filter}
-use Rattle.std.specs.List.{list_any, sum_by}
+use Rattle.std.proofs.Common.{◌≡◌, drop}
+use Rattle.std.specs.List.{list_any}
 use Rattle.scasp_project.specs.Choices.{has_mixed}
-use Rattle.scasp_project.specs.Inside.CodeReading.{numbers_of, reading}
+use Rattle.scasp_project.specs.Inside.CodeReading.{reading}
 use Rattle.scasp_project.proofs.choices.any_mixed.Given as goal
 
 abbrev pub invariant-loop-constraint : goal.invariant-loop-constraint

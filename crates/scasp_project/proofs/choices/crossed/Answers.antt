@@ -1,4 +1,4 @@
-use Rattle.std.proofs.Common.{◌≡◌, ◌+◌, ◌++◌, ◌∷◌, List, [], append_assoc, drop, map, refl, sym, ap, ◌∙◌}
+use Rattle.std.proofs.Common.{◌+◌, ◌++◌, ◌∷◌, List, [], append_assoc, drop, map, refl, sym, ap, ◌∙◌}
 use Rattle.scasp_syntax.specs.declared.con.Con.{Con}
 use Rattle.scasp_syntax.proofs.Walks.{drop-at}
 use Rattle.scasp_project.specs.Choices.{crossed}

@@ -1,8 +1,8 @@
-use Rattle.std.proofs.Common.{◌≡◌, ◌++◌, ◌∷◌, ◌+◌, ◌≤◌, [], Some, drop, map, filter}
+use Rattle.std.proofs.Common.{◌≡◌, ◌++◌, Some, drop, map}
 use Rattle.scasp_num.specs.Arithmetic.{◌>>=◌}
 use Rattle.scasp_unify.specs.Solving.{part_of}
 use Rattle.scasp_project.specs.Choices.{parts_options}
-use Rattle.scasp_project.specs.Inside.CodeReading.{numbers_of, reading}
+use Rattle.scasp_project.specs.Inside.CodeReading.{numbers_of}
 use Rattle.scasp_project.proofs.choices.parts_options.Given as goal
 
 abbrev pub invariant-loop-part : goal.invariant-loop-part

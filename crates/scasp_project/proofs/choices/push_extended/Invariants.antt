@@ -1,4 +1,4 @@
-use Rattle.std.proofs.Common.{◌≡◌, ◌++◌, ◌∷◌, ◌+◌, ◌≤◌, [], Some, drop, map, filter}
+use Rattle.std.proofs.Common.{◌≡◌, ◌++◌, ◌∷◌, [], drop, map}
 use Rattle.scasp_project.proofs.choices.push_extended.Given as goal
 
 abbrev pub invariant-loop-option : goal.invariant-loop-option

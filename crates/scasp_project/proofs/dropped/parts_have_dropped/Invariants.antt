@@ -1,5 +1,5 @@
-use Rattle.std.proofs.Common.{◌≡◌, ◌++◌, ◌∷◌, ◌+◌, ◌≤◌, [], Some, drop, map, filter}
-use Rattle.std.specs.List.{list_any, sum_by}
+use Rattle.std.proofs.Common.{◌≡◌, drop, map}
+use Rattle.std.specs.List.{list_any}
 use Rattle.scasp_unify.specs.Solving.{part_of}
 use Rattle.scasp_project.specs.Dropped.{is_dropped, part_has}
 use Rattle.scasp_project.proofs.dropped.parts_have_dropped.Given as goal

@@ -1,15 +1,11 @@
-use Rattle.std.proofs.Common.{◌≡◌, ℕ, ◌+◌, Bool, List, ◌∷◌, [], ◌++◌, Bor, drop, refl, sym, ap, ◌∙◌, arith}
+use Rattle.std.proofs.Common.{◌≡◌, ◌∷◌, [], ◌++◌, sym, ap, ◌∙◌, arith}
 use Rattle.std.specs.Prelude.{◌||◌}
 use Rattle.std.specs.List.{list_any}
 use Rattle.std.proofs.lemmas.List.{drop_all, nil_from_length}
-use Rattle.std.proofs.lemmas.List.Folds.{list_any-append}
-use Rattle.scasp_syntax.specs.Tm.{weight_s}
 use Rattle.scasp_syntax.specs.View.{tms_of}
-use Rattle.scasp_syntax.specs.declared.term.Term.{Term}
-use Rattle.scasp_syntax.specs.declared.term.Term.TheVariants.{Var, Num, App}
-use Rattle.scasp_syntax.proofs.Walks.{sum_by-pushed, drop-at, work}
+use Rattle.scasp_syntax.proofs.Walks.{sum_by-pushed, work}
 use Rattle.scasp_unify.specs.Unification.{terms_vars}
-use Rattle.scasp_project.proofs.VariableWalk.{list_has, or-false, any-pushed, found-more, unseen-more}
+use Rattle.scasp_project.proofs.VariableWalk.{list_has, or-false, any-pushed}
 use Rattle.scasp_project.proofs.dropped.push_variables.Goals as goal
 
 pub loop-list-init : goal.loop-list-init

@@ -1,7 +1,7 @@
-use Rattle.std.proofs.Common.{◌≡◌, ◌++◌, ◌∷◌, ◌+◌, ◌≤◌, [], Some, drop, map, filter}
+use Rattle.std.proofs.Common.{◌≡◌, drop, map}
 use Rattle.scasp_unify.specs.Solving.{part_of}
 use Rattle.scasp_project.specs.Choices.{speak_of_dropped}
-use Rattle.scasp_project.specs.Inside.CodeReading.{numbers_of, reading}
+use Rattle.scasp_project.specs.Inside.CodeReading.{reading}
 use Rattle.scasp_project.proofs.dropped.speak_of_dropped.Given as goal
 
 abbrev pub invariant-loop-part : goal.invariant-loop-part

@@ -1,7 +1,7 @@
-use Rattle.std.proofs.Common.{◌≡◌, ◌++◌, ◌∷◌, ◌+◌, ◌≤◌, [], Some, drop, map, filter}
+use Rattle.std.proofs.Common.{◌≡◌, ◌++◌, Some, drop}
 use Rattle.scasp_num.specs.Arithmetic.{◌>>=◌}
 use Rattle.scasp_project.specs.Projection.{all_kept}
-use Rattle.scasp_project.specs.Inside.CodeReading.{numbers_of, reading}
+use Rattle.scasp_project.specs.Inside.CodeReading.{reading}
 use Rattle.scasp_project.proofs.projecting.all_kept.Given as goal
 
 abbrev pub invariant-loop-choice : goal.invariant-loop-choice

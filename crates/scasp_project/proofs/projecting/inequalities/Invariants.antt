@@ -1,4 +1,4 @@
-use Rattle.std.proofs.Common.{◌≡◌, ◌++◌, ◌∷◌, ◌+◌, ◌≤◌, [], Some, drop, map, filter}
+use Rattle.std.proofs.Common.{◌≡◌, ◌++◌, drop}
 use Rattle.scasp_hint.specs.AskedRows.{given_rows, inequalities}
 use Rattle.scasp_project.proofs.projecting.inequalities.Given as goal
 

@@ -1,4 +1,4 @@
-use Rattle.std.proofs.Common.{◌≡◌, ◌++◌, ◌∷◌, ◌+◌, ◌≤◌, [], Some, drop, map, filter}
+use Rattle.std.proofs.Common.{◌≡◌, drop}
 use Rattle.scasp_project.specs.Projection.{is_new}
 use Rattle.scasp_project.proofs.projecting.is_new.Given as goal
 

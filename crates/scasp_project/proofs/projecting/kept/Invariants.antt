@@ -1,6 +1,6 @@
-use Rattle.std.proofs.Common.{◌≡◌, ◌++◌, ◌∷◌, ◌+◌, ◌≤◌, [], Some, drop, map, filter}
+use Rattle.std.proofs.Common.{◌≡◌, ◌++◌, drop}
 use Rattle.scasp_project.specs.Projection.{kept}
-use Rattle.scasp_project.specs.Inside.CodeReading.{numbers_of, reading}
+use Rattle.scasp_project.specs.Inside.CodeReading.{reading}
 use Rattle.scasp_project.proofs.projecting.kept.Given as goal
 
 abbrev pub invariant-loop-constraint : goal.invariant-loop-constraint

@@ -1,4 +1,4 @@
-use Rattle.std.proofs.Common.{◌≡◌, ◌++◌, ◌∷◌, ◌+◌, ◌≤◌, [], Some, drop, map, filter}
+use Rattle.std.proofs.Common.{◌≡◌, ◌++◌, drop, filter}
 use Rattle.scasp_project.specs.Projection.{stays}
 use Rattle.scasp_project.proofs.projecting.staying.Given as goal
 
