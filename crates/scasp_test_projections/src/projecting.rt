@@ -24,7 +24,7 @@ struct Case {
     wanted: Wanted,
 }
 
-static CASES: [Case; 26] = [
+static CASES: [Case; 27] = [
     // Without constraints there is one empty list.
     Case {
         list: &[],
@@ -262,6 +262,12 @@ static CASES: [Case; 26] = [
         list: &[Number(0), NoNumber(0)],
         keep: &[],
         wanted: Wanted::Lists(&[]),
+    },
+    // V0 #< 0, not num(V0): no valuation, but that is seen only where the list sorts V0 as a number.
+    Case {
+        list: &[Compared(&[(0, 1)], 0, Lt), NoNumber(0)],
+        keep: &[0],
+        wanted: Wanted::Lists(&[&[Compared(&[(0, 1)], 0, Lt), NoNumber(0)]]),
     },
     // V1 \= a, V1 \= V0, not num(V1): some name for V1 meets these.
     Case {
