@@ -13,3 +13,7 @@ mod text;
 mod trees;
 
 pub use block::print_cert;
+pub use constraints::put_con;
+pub use names::text_at;
+pub use terms::put_term;
+pub use text::{put, put_separator};

@@ -66,7 +66,8 @@ fn put_quoted(out: &mut Vec<u8>, text: &str) -> Result<(), Memory>
     put(out, "'")
 }
 
-fn text_at(names: &Names, name: NameId) -> &str
+/// The text of a name; the empty text where the table lacks it.
+pub fn text_at(names: &Names, name: NameId) -> &str
     ensures { result.now ≡ spec.text_at names.now name }
 {
     if name.place() < names.len() {

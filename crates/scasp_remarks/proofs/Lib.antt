@@ -1,0 +1,2 @@
+pub mod SkeletonLemmas
+mod Vectors

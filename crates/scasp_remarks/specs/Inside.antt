@@ -1,0 +1,2 @@
+-- Words for contracts of private functions.
+pub mod Unseen
