@@ -26,8 +26,8 @@ fn is_met(form: &Form, rows: &[Row]) -> bool
     }
 }
 
-/// The verdict by the last point or by the form, where it stands the test; else by a new form, where that does. None leaves a form that may
-/// stand for nothing.
+/// The verdict by the last point or by the form, where it stands the test; else by a new form, where that does. None
+/// leaves a form that may stand for nothing.
 pub(crate) fn certified(
     alloc: Global,
     form: &mut Form,

@@ -1,5 +1,5 @@
-//! Choice of pivots: by Bland's rule (1977), of all variables that may be chosen the first in order, no basis comes
-//! twice.
+//! Choice of pivots: first of the variable that is the farthest beyond its bounds, later by Bland's rule (1977): of all
+//! variables that may be chosen the first in order, by which no basis comes twice.
 use crate::adding::add_rows;
 use crate::combination::Term;
 use crate::dropping::drop_rows;

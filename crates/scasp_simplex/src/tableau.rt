@@ -93,9 +93,10 @@ impl Tableau {
     /// Whether rational values meet all rows: Sat exactly where they do, else steps that add a false constant row.
     /// Overflow only where `eliminate` overflows on the same list.
     ///
-    /// The tableau of the last call is brought up to date with the rows, and pivots are made by Bland's rule (1977), at
-    /// most 64 and 16 for each of its variables. Strict rows have bounds with an infinitesimal part. Where a number of
-    /// the tableau overflows, the bound on pivots is reached, or what it finds does not stand its test, the rows are
+    /// The last point that met all rows is tried first. Where it does not meet them, the tableau of the last call is
+    /// brought up to date with the rows, and pivots are made, at most 64 and 16 for each of its variables, the later
+    /// half of them by Bland's rule (1977). Strict rows have bounds with an infinitesimal part. Where a number of the
+    /// tableau overflows, the bound on pivots is reached, or what it finds does not stand its test, the rows are
     /// eliminated, and the next call begins with a new tableau.
     pub fn decide(&mut self) -> Result<Verdict, LinErr>
         ensures rows { self.new ≡ self.old }
