@@ -66,7 +66,7 @@ module _ (job : Job) where
         record {
           all = record { answers = h.remains.all; end = Some x.end } ∷ r.all;
           runs = (runs-shown text (Some x) h, follows);
-          text_is = ap (λ (t : List ℕ). t ++ more) h.remains.text_is ∙ ap (λ (t : List ℕ). shown_from number 1 h.remains.all (Some x.end) ++ t) r.text_is;
+          text_is = ap (λ (t : List ℕ). t ++ more) h.remains.text_is ∙ ap (λ (t : List ℕ). shown_from job.program number 1 h.remains.all (Some x.end) ++ t) r.text_is;
           end_is = sym is ∙ ap (end_with (Some x.end)) r.end_is ∙ ap (λ b. end_with (Some x.end) (end_from (answered || b) qs r.all)) has;
         }
 
@@ -78,7 +78,7 @@ module _ (job : Job) where
     rests-last text r h end follows is = record {
       all = record { answers = h.remains.all; end = option_map (λ x. x.end) r } ∷ [];
       runs = (runs-shown text r h, follows);
-      text_is = h.remains.text_is ∙ sym (append-nil (shown_from number 1 h.remains.all (option_map (λ x. x.end) r)));
+      text_is = h.remains.text_is ∙ sym (append-nil (shown_from job.program number 1 h.remains.all (option_map (λ x. x.end) r)));
       end_is = is;
     }
 

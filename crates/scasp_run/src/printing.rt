@@ -1,7 +1,6 @@
 //! What is written: answers with their remarks, and the lines at the end of queries.
 ghost use Rattle.std.specs.Prelude.{◌≡◌, ◌++◌, ◌≤◌, codes, decimal, OnOk, IfOk, IsErrOf};
 ghost use Rattle.scasp_cert.specs.Certificate.{certificate_of};
-ghost use Rattle.scasp_cert.specs.Flat.{is_flat};
 ghost use Rattle.scasp_io.specs.Counts.{Rose};
 ghost use Rattle.scasp_io.specs.Taken.{Writes};
 ghost use Rattle.scasp_run.specs.Inside.Continuing.{IsText};
@@ -9,46 +8,54 @@ ghost use Rattle.scasp_run.specs.Texts as spec;
 
 use crate::ends::QueryEnd;
 use itoa::Buffer;
-use scasp_cert::{Cert, flat};
+use scasp_cert::Cert;
 use scasp_io::{OutputErr, Sink, write_all};
 use scasp_list::Memory;
-use scasp_name::Names;
+use scasp_name::{NameId, Names};
 use scasp_print::print_cert;
+use scasp_remarks::put_remarks;
+use scasp_syntax::Program;
 use std::alloc::Global;
 
-/// The remark on the domains of an answer.
-fn domain_line(cert: &Cert) -> Result<&'static str, Memory>
-    ensures { IfOk result (λ line. line.now ≡ spec.domain_line (certificate_of cert.now)) }
+/// The names of the variables of the query of this number.
+fn variables_of(program: &Program, query: u64) -> &[Option<NameId>]
+    ensures { result.now ≡ spec.variables_of program.now query }
 {
-    if flat(cert)? {
-        Ok("% domain any\n")
-    } else {
-        Ok("% domain closed\n")
+    match program.query(query) {
+        Some(asked) => asked.names.as_slice(),
+        None => &[],
     }
 }
 
-/// The block of the answer of this number, and the remark on its domains.
-fn answer_text(alloc: Global, names: &Names, number: u64, cert: &Cert) -> Result<Vec<u8>, Memory>
-    ensures { IfOk result (λ text. text.items ≡ spec.answer_text number (record { names = names.now; certificate = certificate_of cert.now })) }
+/// The block of the answer of this number, and the remarks on it.
+fn answer_text(
+    alloc: Global,
+    program: &Program,
+    names: &Names,
+    number: u64,
+    cert: &Cert,
+) -> Result<Vec<u8>, Memory>
+    ensures { IfOk result (λ text. text.items ≡ spec.answer_text program.now number (record { names = names.now; certificate = certificate_of cert.now })) }
 {
     let mut text = print_cert(alloc, names, cert, number)?;
-    text.extend_from_slice(domain_line(cert)?.as_bytes())?;
+    put_remarks(&mut text, names, variables_of(program, cert.query), cert)?;
     Ok(text)
 }
 
-/// Writes the block of the answer of this number, and the remark on its domains.
+/// Writes the block of the answer of this number, and the remarks on it.
 pub(crate) fn write_answer<K: Sink>(
     alloc: Global,
+    program: &Program,
     names: &Names,
     number: u64,
     cert: &Cert,
     out: &mut K,
 ) -> Result<(), OutputErr>
-    ensures output { Writes (IsText (spec.answer_text number (record { names = names.now; certificate = certificate_of cert.now }))) (K.taken out.old) (K.taken out.new) result }
+    ensures output { Writes (IsText (spec.answer_text program.now number (record { names = names.now; certificate = certificate_of cert.now }))) (K.taken out.old) (K.taken out.new) result }
     ensures write { IsErrOf result OutputErr.Write → Rose (K.faults out.old) (K.faults out.new) }
     ensures counts { K.faults out.old ≤ K.faults out.new }
 {
-    let text = answer_text(alloc, names, number, cert)?;
+    let text = answer_text(alloc, program, names, number, cert)?;
     write_all(out, text.as_slice())?;
     Ok(())
 }

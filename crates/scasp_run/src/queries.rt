@@ -71,13 +71,14 @@ fn one_more(count: u64) -> Result<u64, Memory>
 /// Prints the answer, to which the search has come from the standing `first`, as the next one.
 fn print_next<K: Sink>(
     alloc: Global,
+    program: &Program,
     table: &mut Table,
     progress: &mut Progress,
     cert: &Cert,
     out: &mut K,
 ) -> Result<Option<QueryEnd>, OutputErr>
-    ensures output { (p : ThisProgram) (names : List (List ℕ)) (query : ℕ) (first : Standing) → IsTable names table.old → IsAnswered p first (certificate_of cert.now) (standing progress.old)
-        → Writes (Steps p names query first (standing progress.new)) (K.taken out.old) (K.taken out.new) result }
+    ensures output { (names : List (List ℕ)) (query : ℕ) (first : Standing) → IsTable names table.old → IsAnswered program.now first (certificate_of cert.now) (standing progress.old)
+        → Writes (Steps program.now names query first (standing progress.new)) (K.taken out.old) (K.taken out.new) result }
     ensures table { OnOk result ((names : List (List ℕ)) → IsTable names table.old → IsTable names table.new) }
     ensures search { progress.new.search ≡ progress.old.search }
     ensures write { IsErrOf result OutputErr.Write → Rose (K.faults out.old) (K.faults out.new) }
@@ -85,7 +86,7 @@ fn print_next<K: Sink>(
 {
     let number = one_more(progress.printed)?;
     name_sample(alloc, table, cert)?;
-    write_answer(alloc, &table.names, number, cert, out)?;
+    write_answer(alloc, program, &table.names, number, cert, out)?;
     progress.asked = fewer(progress.asked);
     progress.printed = number;
     Ok(None)
@@ -129,7 +130,7 @@ fn step<K: Sink>(
         return print_end(alloc, query, QueryEnd::Stopped, out);
     }
     match next_event(alloc, program, &mut progress.search)? {
-        Next::Answer(cert) => print_next(alloc, table, progress, &cert, out),
+        Next::Answer(cert) => print_next(alloc, program, table, progress, &cert, out),
         Next::Passed => Ok(None),
         Next::End(end) => print_end(alloc, query, end, out),
     }

@@ -16,7 +16,7 @@ use std::alloc::Global;
 
 /// Runs the queries of a program in order, each within so many calls and up to so many answers, or to all where no number
 /// is given. `names` is the table by which the program was read. Each answer is checked and printed as soon as it is
-/// found, with the remark on its domains, and a line at the end of each query; the first line is written first.
+/// found, with the remarks on it, and a line at the end of each query; the first line is written first.
 ///
 /// The run ends with the last query, or where the budget is spent or arithmetic overflows.
 ///

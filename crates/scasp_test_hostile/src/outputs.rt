@@ -21,14 +21,14 @@ struct Long {
 }
 
 static RUNS: [Long; 2] = [
-    // More than a million lines: ten facts for each of five items, in 100,000 answers of eleven lines.
+    // More than a million lines: ten facts for each of five items, in 100,000 answers of sixteen lines.
     Long {
         words: &["run", "p", "--answers", "0"],
         program: Pieces {
             before: "p(a). p(b). p(c). p(d). p(e). p(f). p(g). p(h). p(i). p(j). ?- p(A), p(B), p(C), p(D), p(E).",
             ..EMPTY
         },
-        lines: 1_100_002,
+        lines: 1_600_002,
         end: "
 answer 1.100000 [j,j,j,j,j]
 sample []
@@ -40,6 +40,11 @@ tree
  pos p(j) rule 10 []
 map p/1 0 +
 end
+% A = j
+% B = j
+% C = j
+% D = j
+% E = j
 % domain any
 ended 1
 ",
@@ -50,7 +55,7 @@ ended 1
     Long {
         words: &["run", "p", "--answers", "8"],
         program: NESTING,
-        lines: 86,
+        lines: 94,
         end: "\n% domain any\nstopped 1\n",
         status: Status::Done,
         checked: "\n1.8 right any\nchecked 8\n",

@@ -1,7 +1,9 @@
 //! What worked programs print, read back and checked.
 use scasp_io::Memory;
 use scasp_top::Status;
-use scasp_worked::{BIRDS, LIMITS, LOOPS, NUMBERS, PASSED, QUERIES, Row, SOUND, TERMS, prints};
+use scasp_worked::{
+    BIRDS, LIMITS, LOOPS, NUMBERS, PASSED, QUERIES, REMARKS, Row, SOUND, TERMS, prints,
+};
 use std::alloc::Global;
 use std::process::Abort;
 use std::test::Fail;
@@ -20,7 +22,16 @@ fn check_rows(rt: &impl Abort, alloc: Global, rows: &[Row]) -> Result<(), Memory
 
 #[test]
 fn printed_answers_are_right(rt: HostRuntime) -> Result<(), Fail> {
-    for rows in [LOOPS, QUERIES, TERMS, NUMBERS, BIRDS, LIMITS, &[PASSED]] {
+    for rows in [
+        LOOPS,
+        QUERIES,
+        TERMS,
+        NUMBERS,
+        BIRDS,
+        LIMITS,
+        REMARKS,
+        &[PASSED],
+    ] {
         check_rows(&rt, rt.alloc(), rows)?;
     }
     Ok(())

@@ -1,6 +1,8 @@
 //! Whole runs of worked programs.
 use scasp_io::Memory;
-use scasp_worked::{BIRDS, LIMITS, LOOPS, NUMBERS, PASSED, QUERIES, Row, SOUND, TERMS, prints};
+use scasp_worked::{
+    BIRDS, LIMITS, LOOPS, NUMBERS, PASSED, QUERIES, REMARKS, Row, SOUND, TERMS, prints,
+};
 use std::alloc::Global;
 use std::process::Abort;
 use std::test::Fail;
@@ -19,7 +21,16 @@ fn check_runs(rt: &impl Abort, alloc: Global, rows: &[Row]) -> Result<(), Memory
 
 #[test]
 fn worked_programs_are_run(rt: HostRuntime) -> Result<(), Fail> {
-    for rows in [LOOPS, QUERIES, TERMS, NUMBERS, BIRDS, LIMITS, &[PASSED]] {
+    for rows in [
+        LOOPS,
+        QUERIES,
+        TERMS,
+        NUMBERS,
+        BIRDS,
+        LIMITS,
+        REMARKS,
+        &[PASSED],
+    ] {
         check_runs(&rt, rt.alloc(), rows)?;
     }
     Ok(())

@@ -83,6 +83,7 @@ map ab/1 1 +
 map -flies/1 1 +
 map stone/1 0 +
 end
+% X = tweety
 % domain any
 stopped 1
 answer 2.1 [V0]
@@ -163,6 +164,8 @@ map ab/1 1 +
 map -flies/1 1 +
 map stone/1 0 +
 end
+% X = V0
+% where V0 \\= tweety, V0 \\= sam
 % domain any
 stopped 2
 answer 3.1 [sam]
@@ -235,6 +238,7 @@ map ab/1 1 +
 map -flies/1 1 +
 map stone/1 0 +
 end
+% X = sam
 % domain any
 stopped 3
 ended 4

@@ -8,6 +8,7 @@ mod loops;
 mod numbers;
 mod passed;
 mod queries;
+mod remarks;
 mod rows;
 mod terms;
 
@@ -18,5 +19,6 @@ pub use loops::{EVEN_LOOP, FACT, FACT_PRINTED, FACT_PROGRAM, LOOPS, THROUGH_NEGA
 pub use numbers::{FORALL_OVER_NUMBERS, LINEAR_DENIAL, NUMBER_OR_NOT, NUMBERS};
 pub use passed::PASSED;
 pub use queries::QUERIES;
+pub use remarks::REMARKS;
 pub use rows::Row;
 pub use terms::{DEFAULT, FORALL_OVER_FACTS, TERMS};

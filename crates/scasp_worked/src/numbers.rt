@@ -18,6 +18,8 @@ tree
 map p/1 1 +
 map q/1 0 +
 end
+% X = V0
+% where not num(V0)
 % domain any
 answer 1.2 [V0]
 given num(V0)
@@ -31,6 +33,8 @@ tree
 map p/1 1 +
 map q/1 0 +
 end
+% X = V0
+% where num(V0), V0 \\= 3
 % domain any
 ended 1
 ",
@@ -135,6 +139,8 @@ tree
   test V0-5 #< 0 terms
 map ok/1 0 +
 end
+% X = V0
+% where num(V0), -V0+3 #< 0, V0-5 #< 0
 % domain any
 stopped 1
 ",
@@ -158,6 +164,8 @@ tree
   test V0-5 #< 0 terms
 map ok/1 0 +
 end
+% X = V0
+% where num(V0), -V0+3 #< 0, V0-5 #< 0
 % domain any
 stopped 1
 ",
@@ -192,6 +200,9 @@ tree
   test 5*V0-V1-2 #= 0 terms
 map t/2 0 +
 end
+% X = V0
+% Y = V1
+% where num(V0), num(V1), 4*V0+3*V1-1 #= 0, 5*V0-V1-2 #= 0
 % domain any
 stopped 1
 ",
@@ -210,6 +221,8 @@ tree
  test num(V0) terms
  test 0 #= 0 terms
 end
+% X = V0
+% where num(V0)
 % domain any
 stopped 1
 ",
@@ -229,6 +242,8 @@ tree
  test num(V0) terms
  test V0-3 #<> 0 terms
 end
+% X = V0
+% where num(V0), V0-3 #<> 0
 % domain any
 stopped 1
 ",
@@ -253,6 +268,10 @@ tree
  test 2*V0-3*V1-3 #= 0 terms
  test -7/19 = -7/19 terms
 end
+% X = V0
+% Y = V1
+% Z = -7/19
+% where num(V0), num(V1), 2*V0+2*V1-7 #= 0, 2*V0-3*V1-3 #= 0
 % domain any
 stopped 1
 ",

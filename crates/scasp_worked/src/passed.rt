@@ -40,6 +40,8 @@ tree
 map r/1 1 +
 map t/0 0 +
 end
+% Q = V0
+% where not num(V0)
 % domain any
 answer 1.2 [V0]
 given num(V0)
@@ -76,6 +78,8 @@ tree
 map r/1 1 +
 map t/0 0 +
 end
+% Q = V0
+% where num(V0), V0 #=< 0
 % domain any
 answer 1.3 [V0]
 given num(V0)
@@ -114,6 +118,8 @@ tree
 map r/1 1 +
 map t/0 0 +
 end
+% Q = V0
+% where num(V0), -V0 #< 0
 % domain any
 answer 1.4 [V0]
 given V0 \\= a
@@ -151,6 +157,8 @@ tree
 map r/1 1 +
 map t/0 0 +
 end
+% Q = V0
+% where V0 \\= a
 % domain any
 answer 1.5 [V0]
 given not num(V0)
@@ -185,6 +193,8 @@ tree
 map r/1 1 +
 map t/0 0 +
 end
+% Q = V0
+% where not num(V0)
 % domain any
 stopped 1
 ",

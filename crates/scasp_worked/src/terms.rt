@@ -17,6 +17,8 @@ tree
 map p/1 1 +
 map q/1 0 +
 end
+% X = V0
+% where V0 \\= a
 % domain any
 stopped 1
 ",
@@ -80,6 +82,8 @@ tree
 map p/1 1 +
 map q/1 0 +
 end
+% X = V0
+% where V0 \\= a
 % domain any
 ended 1
 ",
@@ -103,6 +107,8 @@ tree
 map p/1 1 +
 map q/1 0 +
 end
+% X = V0
+% where V0 \\= a
 % domain any
 spent 1
 ",
@@ -163,6 +169,8 @@ tree
 map q/1 0 +
 map p/1 1 +
 end
+% X = V0
+% where V0 \\= f/1
 % domain any
 answer 1.2 [f(V0)]
 given V0 \\= a
@@ -175,6 +183,8 @@ tree
 map q/1 0 +
 map p/1 1 +
 end
+% X = f(V0)
+% where V0 \\= a
 % domain any
 ended 1
 ",
@@ -247,6 +257,7 @@ tree
  pos p(1/2) rule 1 []
 map p/1 0 +
 end
+% X = 1/2
 % domain any
 stopped 1
 ",
@@ -280,6 +291,9 @@ tree
 map p/1 1 +
 map q/1 0 +
 end
+% X = V0
+% Y = V1
+% where V0 \\= w0, V0 \\= w2, V1 \\= w0, V1 \\= w2
 % domain any
 stopped 1
 ",
@@ -298,6 +312,7 @@ tree
   test [f(V0,'')|V1] = [f(V0,'')|V1] terms
 map p/1 0 +
 end
+% Z = [a,'B',f(V0,'')|V1]
 % domain any
 stopped 1
 ",
@@ -344,6 +359,9 @@ tree
    void terms
 map e/2 0 +
 end
+% A = V0
+% B = V1
+% where V1 \\= V0
 % domain any
 stopped 1
 ",
@@ -362,6 +380,9 @@ tree
  test f(V0) = f(V0) terms
  test V0 \\= a terms
 end
+% X = f(V0)
+% Y = V0
+% where V0 \\= a
 % domain any
 stopped 1
 ",

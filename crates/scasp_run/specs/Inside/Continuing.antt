@@ -26,7 +26,7 @@ pub record Standing : Type 0 where
 pub record Remains (p : Program) (names : List (List ℕ)) (query : ℕ) (s : Standing) (text : List ℕ) (has : Bool) (end : Option QueryEnd) : Type 0 where
   pub all : List Printed
   pub prints : Prints p names s.asked s.rest all end
-  pub text_is : text ≡ shown_from query (suc s.printed) all end
+  pub text_is : text ≡ shown_from p query (suc s.printed) all end
   pub has_is : has ≡ (nat_lt 0 s.printed || has_any all)
 
 -- the text leads from the old standing to the new one

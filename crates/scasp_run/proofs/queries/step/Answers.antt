@@ -22,7 +22,7 @@ pub returns-in-Answer-clause-output : goal.returns-in-Answer-clause-output
 returns-in-Answer-clause-output g c =
     let comes = rw c.in-Answer.is at c.in_ok-cert.ensures.comes in
     λ names is.
-    c.print_next.ensures.output c.args.program.now names c.args.query (standing c.args.progress.now) is
+    c.print_next.ensures.output names c.args.query (standing c.args.progress.now) is
     (record { comes = comes; more = λ e. true-false c.is_enough.result (c.is_enough.ensures.1 e) c.if-is_enough.false; asked = refl; printed = refl })
 
 pub returns-in-Passed-clause-output : goal.returns-in-Passed-clause-output
