@@ -29,7 +29,7 @@ use Rattle.scasp_compound_readback.specs.Counting.{count_all}
 use Rattle.scasp_compound_readback.specs.Reading.{had, Reads}
 use Rattle.scasp_compound_readback.proofs.Tables.{name-place, name-there}
 use Rattle.scasp_clause_readback.specs.Fitting.{arguments_fit, atom_fits}
-use Rattle.scasp_clause_readback.specs.Reading.{EndsItem}
+use Rattle.scasp_clause_readback.specs.Reading.{EndsPlain}
 use Rattle.scasp_clause_readback.proofs.Names.{arguments_text, named_text, named-length, named-tokens, minus-named, arguments-reads}
 
 -- ---- steps
@@ -178,7 +178,7 @@ module _ (w : Style) (style : IsStyle w) (a : Atom) (n m : ℕ) (g : atom_fits w
 
   -- ---- literals
 
-  pub positive-read : (s : State) (rest : List ℕ) → EndsItem rest → Reads w n m item (atom_text w a) (call_of true a) s rest
+  pub positive-read : (s : State) (rest : List ℕ) → EndsPlain rest → Reads w n m item (atom_text w a) (call_of true a) s rest
   unfolding atom_text
   positive-read s rest end at = by a.minus
     where
@@ -194,7 +194,7 @@ module _ (w : Style) (style : IsStyle w) (a : Atom) (n m : ℕ) (g : atom_fits w
           (ap (λ ts. atom (record (had w n s) { tokens = ts })) (sym tokens) ∙ minus-reads s rest at end.term) (end.no_relation behind-it)
       by false = item-reads s rest at end.term (end.no_equation _) (end.no_relation _)
 
-  negative-read : (s : State) (rest : List ℕ) → EndsItem rest → Reads w n m item (codes "not " ++ atom_text w a) (call_of false a) s rest
+  negative-read : (s : State) (rest : List ℕ) → EndsPlain rest → Reads w n m item (codes "not " ++ atom_text w a) (call_of false a) s rest
   negative-read s rest end at =
       let bytes = atom_text w a ++ rest in
       let inside : State = record s { is_behind_operand = false } in
@@ -205,7 +205,7 @@ module _ (w : Style) (style : IsStyle w) (a : Atom) (n m : ℕ) (g : atom_fits w
       ∙ literal-step (before (had w n inside) (at + 4) bytes) (behind_term (had w m s) (at + 4 + length (atom_text w a)) rest) at false a (atom-read inside rest end.term (at + 4)) (end.no_relation (at + 4 + length (atom_text w a)))
       ∙ ap (λ p. Ok (call_of false a, behind_term (had w m s) p rest)) place
 
-pub lit-read : (w : Style) (style : IsStyle w) (l : Lit) (n m : ℕ) → atom_fits w l.atom ≡ true → count_all w n l.atom.args ≡ Some m → (s : State) (rest : List ℕ) → EndsItem rest
+pub lit-read : (w : Style) (style : IsStyle w) (l : Lit) (n m : ℕ) → atom_fits w l.atom ≡ true → count_all w n l.atom.args ≡ Some m → (s : State) (rest : List ℕ) → EndsPlain rest
     → Reads w n m item (lit_text w l) (form.Call l) s rest
 unfolding lit_text
 lit-read w style l n m g c s rest end = by l.positive

@@ -28,7 +28,7 @@ use Rattle.scasp_compound_readback.proofs.Terms.{bind-parts}
 use Rattle.scasp_clause_readback.specs.Fitting.{item_fits, body_fits}
 use Rattle.scasp_clause_readback.specs.Counting.{count_item, count_body}
 use Rattle.scasp_clause_readback.proofs.Items.{item-read}
-use Rattle.scasp_clause_readback.proofs.ItemTokens.{stop-ends, items-end, item-has}
+use Rattle.scasp_clause_readback.proofs.ItemTokens.{of-any, stop-ends, items-end, item-has}
 
 -- ---- flat items
 
@@ -84,7 +84,7 @@ module _ (w : Style) (style : IsStyle w) where
         let place : at + length first + length behind ≡ at + length (first ++ behind) = omega (arith, length-append first behind) in
         ap (λ bs. series counted_item k us (before (had w n s) at bs)) whole
         ∙ series-step counted_item k us (before (had w n s) at (first ++ bytes)) (behind_term (had w parts.0 s) (at + length first) bytes) i some
-        (counted-step us i (before (had w n s) at (first ++ bytes)) (behind_term (had w parts.0 s) (at + length first) bytes) within (item-read w style i n parts.0 p.0 parts.1 s bytes ends at))
+        (counted-step us i (before (had w n s) at (first ++ bytes)) (behind_term (had w parts.0 s) (at + length first) bytes) within (item-read w style i n parts.0 p.0 parts.1 s bytes (of-any i bytes ends) at))
         ∙ others parts.0 m p.1 parts.2 us i (k - 1) s rest (at + length first) few less
         ∙ ap (λ a. Ok (us ++ i ∷ is, behind_term (had w m s) a stop)) place
       where

@@ -1,7 +1,7 @@
 -- How many tokens an item has at least, and what ends the items of a body.
 use Rattle.std.proofs.Common.{◌≡◌, ℕ, ◌+◌, Bool, true, false, not, ◌&&◌, nat_lt, List, [], ◌∷◌, ◌++◌, length, codes, ap, ◌∙◌, arith}
 use Rattle.std.specs.Prelude.{if◌then◌else◌}
-use Rattle.std.proofs.lemmas.Bool.{and_parts, false≢true}
+use Rattle.std.proofs.lemmas.Bool.{and_parts}
 use Rattle.scasp_syntax.specs.Tm.{Tm, Tms, nil, cons, items}
 use Rattle.scasp_syntax.specs.View.{tm_of}
 use Rattle.scasp_syntax.specs.declared.atom.Atom.{Atom}
@@ -28,20 +28,40 @@ use Rattle.scasp_compound_readback.specs.Fitting.{fits}
 use Rattle.scasp_compound_readback.proofs.Tables.{name-utf8}
 use Rattle.scasp_compound_readback.proofs.Tokens.{Has, has-append, has-fewer, has-token, name-has}
 use Rattle.scasp_compound_readback.proofs.TermTokens.{call-parts, term-has, called-has}
+use Rattle.scasp_linear_readback.specs.Ending.{EndsExpression}
+use Rattle.scasp_linear_readback.proofs.LinearItems as linear
+use Rattle.scasp_linear_readback.proofs.LinearItems.{linear-is, linear-has}
 use Rattle.scasp_clause_readback.specs.Fitting.{arguments_fit, atom_fits, item_fits}
-use Rattle.scasp_clause_readback.specs.Reading.{EndsItem}
+use Rattle.scasp_clause_readback.specs.Reading.{EndsPlain, EndsItem}
 use Rattle.scasp_clause_readback.proofs.Names.{named_text, minus-named}
 use Rattle.scasp_clause_readback.proofs.Equations.{Between, equal, differ}
 
 -- ---- what ends an item
 
-pub stop-ends : (rest : List ℕ) → EndsItem (46 ∷ 10 ∷ rest)
-stop-ends rest = record { term = stop_ends rest; no_equation = λ at. ap (λ ts. equation_sign (token_of ts)) (stop_read rest at); no_relation = λ at. ap (λ ts. relation (token_of ts)) (stop_read rest at) }
+-- what may stand behind an item of any form
+pub record EndsAny (rest : List ℕ) : Type 0 where
+  pub plain : EndsPlain rest
+  pub expression : EndsExpression rest
 
-pub comma-ends : (rest : List ℕ) → EndsItem (44 ∷ rest)
-comma-ends rest = record { term = comma_ends rest; no_equation = λ at. ap (λ ts. equation_sign (token_of ts)) (comma_read rest at); no_relation = λ at. ap (λ ts. relation (token_of ts)) (comma_read rest at) }
+pub of-any : (i : Item) (rest : List ℕ) → EndsAny rest → EndsItem i rest
+of-any (form.Call l) rest end = end.plain
+of-any (form.Equal t s) rest end = end.plain
+of-any (form.Differ t s) rest end = end.plain
+of-any (form.Linear l) rest end = end.expression
 
-pub items-end : (w : Style) (is : List Item) (rest : List ℕ) → EndsItem rest → EndsItem (items_text w false is ++ rest)
+plain-stop : (rest : List ℕ) → EndsPlain (46 ∷ 10 ∷ rest)
+plain-stop rest = record { term = stop_ends rest; no_equation = λ at. ap (λ ts. equation_sign (token_of ts)) (stop_read rest at); no_relation = λ at. ap (λ ts. relation (token_of ts)) (stop_read rest at) }
+
+plain-comma : (rest : List ℕ) → EndsPlain (44 ∷ rest)
+plain-comma rest = record { term = comma_ends rest; no_equation = λ at. ap (λ ts. equation_sign (token_of ts)) (comma_read rest at); no_relation = λ at. ap (λ ts. relation (token_of ts)) (comma_read rest at) }
+
+pub stop-ends : (rest : List ℕ) → EndsAny (46 ∷ 10 ∷ rest)
+stop-ends rest = record { plain = plain-stop rest; expression = linear.stop-ends rest }
+
+pub comma-ends : (rest : List ℕ) → EndsAny (44 ∷ rest)
+comma-ends rest = record { plain = plain-comma rest; expression = linear.comma-ends rest }
+
+pub items-end : (w : Style) (is : List Item) (rest : List ℕ) → EndsAny rest → EndsAny (items_text w false is ++ rest)
 items-end w [] rest end = end
 items-end w (i ∷ is) rest end = comma-ends ((32 ∷ item_text w i ++ items_text w false is) ++ rest)
 
@@ -102,8 +122,8 @@ module _ (w : Style) (style : IsStyle w) where
       (has-append 1 1 left sep (right ++ rest) (term-has w style l DEPTH_LIMIT p.0 (sep ++ (right ++ rest)) (b.ends (right ++ rest))) (between-has sep t e b (right ++ rest)))
       (term-has w style r DEPTH_LIMIT p.1 rest end))
 
-  pub item-has : (i : Item) (rest : List ℕ) → item_fits w i ≡ true → EndsItem rest → Has 1 (item_text w i) rest
-  item-has (form.Call l) rest g end = lit-has l rest g end.term
-  item-has (form.Equal t u) rest g end = sides-have (codes " = ") sign.Equal true equal (tm_of t) (tm_of u) rest g end.term
-  item-has (form.Differ t u) rest g end = sides-have (codes " \\= ") sign.Differ false differ (tm_of t) (tm_of u) rest g end.term
-  item-has (form.Linear l) rest g end = absurd (false≢true g)
+  pub item-has : (i : Item) (rest : List ℕ) → item_fits w i ≡ true → EndsAny rest → Has 1 (item_text w i) rest
+  item-has (form.Call l) rest g end = lit-has l rest g end.plain.term
+  item-has (form.Equal t u) rest g end = sides-have (codes " = ") sign.Equal true equal (tm_of t) (tm_of u) rest g end.plain.term
+  item-has (form.Differ t u) rest g end = sides-have (codes " \\= ") sign.Differ false differ (tm_of t) (tm_of u) rest g end.plain.term
+  item-has (form.Linear l) rest g end = linear-has w style l (linear-is w l g) rest end.expression

@@ -1,7 +1,6 @@
--- Items of all forms but linear ones are read back.
+-- Items of all forms are read back.
 use Rattle.std.proofs.Common.{◌≡◌, ℕ, Bool, true, false, List, ◌++◌, codes, Some, refl, ap, subst, ◌∙◌}
 use Rattle.std.specs.Prelude.{if◌then◌else◌}
-use Rattle.std.proofs.lemmas.Bool.{false≢true}
 use Rattle.scasp_syntax.specs.View.{tm_of}
 use Rattle.scasp_syntax.specs.declared.clause.Item.{Item}
 use Rattle.scasp_syntax.specs.declared.clause.Item.TheVariants as form
@@ -14,6 +13,7 @@ use Rattle.scasp_listing.specs.Terms.{Style, term_text}
 use Rattle.scasp_listing.specs.Items.{item_text}
 use Rattle.scasp_compound_readback.specs.Styles.{IsStyle}
 use Rattle.scasp_compound_readback.specs.Reading.{Reads}
+use Rattle.scasp_linear_readback.proofs.LinearItems.{linear-is, linear-read}
 use Rattle.scasp_clause_readback.specs.Fitting.{item_fits}
 use Rattle.scasp_clause_readback.specs.Counting.{count_item}
 use Rattle.scasp_clause_readback.specs.Reading.{EndsItem}
@@ -29,7 +29,7 @@ same-sides : (are_equal : Bool) (t u : Term) → equation_of are_equal (tm_of t)
 same-sides true t u = ap (λ x. form.Equal x (term_of (tm_of u))) (same-term t) ∙ ap (form.Equal t) (same-term u)
 same-sides false t u = ap (λ x. form.Differ x (term_of (tm_of u))) (same-term t) ∙ ap (form.Differ t) (same-term u)
 
-pub item-read : (w : Style) (style : IsStyle w) (i : Item) (n m : ℕ) → item_fits w i ≡ true → count_item w n i ≡ Some m → (s : State) (rest : List ℕ) → EndsItem rest → Reads w n m item (item_text w i) i s rest
+pub item-read : (w : Style) (style : IsStyle w) (i : Item) (n m : ℕ) → item_fits w i ≡ true → count_item w n i ≡ Some m → (s : State) (rest : List ℕ) → EndsItem i rest → Reads w n m item (item_text w i) i s rest
 item-read w style (form.Call l) n m g c s rest end = lit-read w style l n m g c s rest end
 item-read w style (form.Equal t u) n m g c s rest end =
     subst (λ i. Reads w n m item ((term_text w DEPTH_LIMIT (tm_of t) ++ codes " = ") ++ term_text w DEPTH_LIMIT (tm_of u)) i s rest) (same-sides true t u)
@@ -37,4 +37,4 @@ item-read w style (form.Equal t u) n m g c s rest end =
 item-read w style (form.Differ t u) n m g c s rest end =
     subst (λ i. Reads w n m item ((term_text w DEPTH_LIMIT (tm_of t) ++ codes " \\= ") ++ term_text w DEPTH_LIMIT (tm_of u)) i s rest) (same-sides false t u)
     (differ-read w style (tm_of t) (tm_of u) n m g c s rest end.term)
-item-read w style (form.Linear l) n m g c s rest end = absurd (false≢true g)
+item-read w style (form.Linear l) n m g c s rest end = linear-read w style l (linear-is w l g) n m c s rest end

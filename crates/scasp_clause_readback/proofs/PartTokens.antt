@@ -22,10 +22,9 @@ use Rattle.scasp_compound_readback.proofs.Terms.{bind-parts}
 use Rattle.scasp_compound_readback.proofs.Tokens.{Has, has-append, has-fewer, has-none, has-token}
 use Rattle.scasp_clause_readback.specs.Fitting.{atom_fits, item_fits, body_fits}
 use Rattle.scasp_clause_readback.specs.Counting.{count_body}
-use Rattle.scasp_clause_readback.specs.Reading.{EndsItem}
 use Rattle.scasp_clause_readback.specs.Parts.{parts_fit, count_parts}
 use Rattle.scasp_clause_readback.proofs.Atoms.{atom-front}
-use Rattle.scasp_clause_readback.proofs.ItemTokens.{stop-ends, items-end, atom-has, item-has}
+use Rattle.scasp_clause_readback.proofs.ItemTokens.{EndsAny, stop-ends, items-end, atom-has, item-has}
 use Rattle.scasp_clause_readback.proofs.Clauses.{stop-tokens, denial-tokens, if-tokens, if-ends, text_of}
 use Rattle.scasp_clause_readback.proofs.Queries.{query-tokens}
 
@@ -40,19 +39,19 @@ comma-has rest =
 module _ (w : Style) (style : IsStyle w) where
   -- ---- items
 
-  first-has : (i : Item) (is : List Item) (rest : List ℕ) → list_all (item_fits w) (i ∷ is) ≡ true → EndsItem rest → Has 0 (items_text w false is) rest → Has 1 (items_text w true (i ∷ is)) rest
+  first-has : (i : Item) (is : List Item) (rest : List ℕ) → list_all (item_fits w) (i ∷ is) ≡ true → EndsAny rest → Has 0 (items_text w false is) rest → Has 1 (items_text w true (i ∷ is)) rest
   first-has i is rest g end others =
       let behind = items_text w false is in
       has-append 1 0 (item_text w i) behind rest (item-has w style i (behind ++ rest) (and_parts (item_fits w i) (list_all (item_fits w) is) g).0 (items-end w is rest end)) others
 
-  others-have : (is : List Item) (rest : List ℕ) → list_all (item_fits w) is ≡ true → EndsItem rest → Has 0 (items_text w false is) rest
+  others-have : (is : List Item) (rest : List ℕ) → list_all (item_fits w) is ≡ true → EndsAny rest → Has 0 (items_text w false is) rest
   others-have [] rest g end = has-none rest
   others-have (i ∷ is) rest g end =
       let text = items_text w true (i ∷ is) in
       let others = others-have is rest (and_parts (item_fits w i) (list_all (item_fits w) is) g).1 end in
       has-fewer 0 2 (codes ", " ++ text) rest (omega arith) (has-append 1 1 (codes ", ") text rest (comma-has (text ++ rest)) (first-has i is rest g end others))
 
-  body-has : (is : List Item) (rest : List ℕ) → body_fits w is ≡ true → EndsItem rest → Has 1 (items_text w true is) rest
+  body-has : (is : List Item) (rest : List ℕ) → body_fits w is ≡ true → EndsAny rest → Has 1 (items_text w true is) rest
   body-has [] rest g end = absurd (false≢true g)
   body-has (i ∷ is) rest g end =
       let p = and_parts (list_all (item_fits w) (i ∷ is)) (nat_le (length (flat_body (i ∷ is))) ITEM_LIMIT) g in

@@ -1,12 +1,15 @@
 -- A worked program meets the premises of the laws; parts that do not.
-use Rattle.std.specs.Prelude.{◌≡◌, ℕ, true, false, List, [], ◌∷◌, codes, None, Some}
+use Rattle.std.specs.Prelude.{◌≡◌, ℕ, true, false, List, [], ◌∷◌, codes, None, Some, ℤ, pos, negsuc}
 use Rattle.std.proofs.Common.{refl}
 use Rattle.std.specs.Char.{encode_utf8}
 use Rattle.std.specs.Str.{is_utf8, chars}
 use Rattle.std.proofs.lemmas.Str.{IsUtf8-from_is_utf8}
+use Rattle.scasp_num.specs.declared.linear.Op.TheVariants as op
+use Rattle.scasp_num.specs.Gcd.{gcd, gcd_within}
 use Rattle.scasp_num.specs.Number.{zero_number}
 use Rattle.scasp_syntax.specs.Tm.{var, app, nil, cons}
 use Rattle.scasp_syntax.specs.declared.clause.Clause.{Clause}
+use Rattle.scasp_syntax.specs.declared.clause.Item.{Item}
 use Rattle.scasp_syntax.specs.declared.clause.Item.TheVariants as form
 use Rattle.scasp_syntax.specs.declared.clause.Query.{Query}
 use Rattle.scasp_syntax.specs.declared.term.Term.TheVariants.{Var, Num, App}
@@ -30,13 +33,17 @@ is_table = record {
   lists = record { nil = refl; pair = refl };
 }
 
--- p(V0) :- q(V0,V1), not -p(V1), V1 \= 0.
+-- c*V0+0*V1-2 #< 0
+abbrev linear_item : ℤ → Item
+linear_item c = form.Linear (record { vars = 0 ∷ 1 ∷ []; row = record { coeffs = record { x = 0; c = c } ∷ []; constant = negsuc 1; op = op.Lt } })
+
+-- p(V0) :- q(V0,V1), not -p(V1), V1 \= 0, V0+0*V1-2 #< 0.
 abbrev rule : Clause
 rule = record {
   head = Some (atom_of false 2 (cons (var 0) nil));
   body =
       call_of true (atom_of false 3 (cons (var 0) (cons (var 1) nil))) ∷ call_of false (atom_of true 2 (cons (var 1) nil))
-      ∷ form.Differ (Var 1) (Num zero_number) ∷ [];
+      ∷ form.Differ (Var 1) (Num zero_number) ∷ linear_item (pos 1) ∷ [];
   vars = 2;
 }
 
@@ -50,6 +57,7 @@ query = record {
 }
 
 is_met : text_fits names (rule ∷ []) (query ∷ []) ≡ true
+unfolding gcd gcd_within
 is_met = refl
 
 -- ---- parts that are not read back
@@ -58,7 +66,13 @@ a_reserved_head : clause_fits names (record rule { head = Some (atom_of false 5 
 a_reserved_head = refl
 
 a_variable_more : clause_fits names (record rule { vars = 3 }) ≡ false
+unfolding gcd gcd_within
 a_variable_more = refl
+
+-- 2*V0+0*V1-2 #< 0 would be read as V0+0*V1-1 #< 0
+a_common_divisor : clause_fits names (record rule { head = None; body = linear_item (pos 2) ∷ [] }) ≡ false
+unfolding gcd gcd_within
+a_common_divisor = refl
 
 -- nothing is written of a denial without a body
 an_empty_denial : clause_fits names (record { head = None; body = []; vars = 0 }) ≡ false

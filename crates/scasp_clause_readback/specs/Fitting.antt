@@ -4,6 +4,7 @@ use Rattle.std.specs.List.{list_all}
 use Rattle.scasp_syntax.specs.Flat.{flat_body}
 use Rattle.scasp_syntax.specs.Tm.{Tms, nil, cons, items}
 use Rattle.scasp_syntax.specs.View.{tm_of}
+use Rattle.scasp_syntax.specs.WellFormed.{is_item_below}
 use Rattle.scasp_syntax.specs.declared.atom.Atom.{Atom}
 use Rattle.scasp_syntax.specs.declared.clause.Item.{Item}
 use Rattle.scasp_syntax.specs.declared.clause.Item.TheVariants as form
@@ -23,12 +24,12 @@ abbrev pub atom_fits : Style → Atom → Bool
 atom_fits w a =
     nat_lt a.name (length w.names) && not (is_reserved reserved (text_at w.names a.name) (length (items a.args))) && arguments_fit w a.args
 
--- a literal or an equation; linear items are left out
+-- a literal or an equation within the limits, or any linear item that a program may have
 abbrev pub item_fits : Style → Item → Bool
 item_fits w (form.Call l) = atom_fits w l.atom
 item_fits w (form.Equal t s) = fits w DEPTH_LIMIT (tm_of t) && fits w DEPTH_LIMIT (tm_of s)
 item_fits w (form.Differ t s) = fits w DEPTH_LIMIT (tm_of t) && fits w DEPTH_LIMIT (tm_of s)
-item_fits w (form.Linear l) = false
+item_fits w (form.Linear l) = is_item_below (length w.variables) (form.Linear l)
 
 -- at least one item, each within the limits, and all together of so many flat items
 abbrev pub body_fits : Style → List Item → Bool

@@ -35,13 +35,13 @@ pub fn atoms_are_read_back()
 
 /// What is written behind an item may stand there: a comma, or a stop at a line's end.
 pub fn ends_of_items_are_written()
-    ensures comma { (rest : List ℕ) → EndsItem (codes ", " ++ rest) }
-    ensures stop { (rest : List ℕ) → EndsItem (codes ".\n" ++ rest) }
+    ensures comma { (i : Item) (rest : List ℕ) → EndsItem i (codes ", " ++ rest) }
+    ensures stop { (i : Item) (rest : List ℕ) → EndsItem i (codes ".\n" ++ rest) }
 {}
 
-/// The text of an item is read as this item: a literal, an equation or a disequation.
+/// The text of an item is read as this item: a literal, an equation, a disequation or a linear item.
 pub fn items_are_read_back()
-    ensures { (w : Style) (i : Item) (n m : ℕ) (s : State) (rest : List ℕ) → IsStyle w → item_fits w i ≡ true → count_item w n i ≡ Some m → EndsItem rest
+    ensures { (w : Style) (i : Item) (n m : ℕ) (s : State) (rest : List ℕ) → IsStyle w → item_fits w i ≡ true → count_item w n i ≡ Some m → EndsItem i rest
         → Reads w n m item (item_text w i) i s rest }
 {}
 
