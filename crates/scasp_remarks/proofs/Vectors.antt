@@ -68,6 +68,9 @@ none_left = refl
 one_without_constraints : where_text texts (Some (projected.Alternatives ([] ∷ []))) ≡ []
 one_without_constraints = refl
 
+some_without_constraints : where_text texts (Some (projected.Alternatives ((is_number 0 ∷ []) ∷ [] ∷ []))) ≡ []
+some_without_constraints = refl
+
 many : where_text texts (Some projected.TooMany) ≡ codes "% where more\n"
 many = refl
 

@@ -1,5 +1,6 @@
 -- The remarks behind the block of an answer: what it says of the query's variables, and over which domains it holds.
 use Rattle.std.specs.Prelude.{ℕ, ◌==◌, Bool, true, false, if◌then◌else◌, List, [], ◌∷◌, ◌++◌, length, flat_map, Option, None, Some, codes}
+use Rattle.std.specs.List.{list_any}
 use Rattle.scasp_syntax.specs.Tm.{Tm, Tms, nil, cons}
 use Rattle.scasp_syntax.specs.declared.con.Con.{Con}
 use Rattle.scasp_unify.specs.Unification.{term_vars}
@@ -52,15 +53,13 @@ alternative_lines names is_first [] = []
 alternative_lines names is_first (cs ∷ more) =
     (if is_first then codes "% where " else codes "% or ") ++ cons_text names true cs ++ codes "\n" ++ alternative_lines names false more
 
--- a single alternative, without constraints: all values of the variables will do
-abbrev pub is_one_empty : List (List Con) → Bool
-is_one_empty [] = false
-is_one_empty (cs ∷ []) = length cs == 0
-is_one_empty (cs ∷ (ds ∷ more)) = false
+-- some alternative has no constraints, so all values of the variables will do
+abbrev pub has_empty : List (List Con) → Bool
+has_empty lists = list_any (λ cs. length cs == 0) lists
 
 abbrev pub alternatives_text : List (List ℕ) → List (List Con) → List ℕ
 alternatives_text names lists =
-    if length lists == 0 then codes "% where false\n" else if is_one_empty lists then [] else alternative_lines names true lists
+    if length lists == 0 then codes "% where false\n" else if has_empty lists then [] else alternative_lines names true lists
 
 -- what the given constraints say of the variables; none where that overflows
 abbrev pub where_text : List (List ℕ) → Option Projected → List ℕ

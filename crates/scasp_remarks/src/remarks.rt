@@ -23,7 +23,7 @@ fn domain_line(cert: &Cert) -> Result<&'static str, Memory>
 /// Puts the remarks on an answer to a query with these variables at the end: a line `% NAME = TERM` for each of them that
 /// has a name; what the given constraints say of the variables in these terms, as `% where C, C` for the first alternative
 /// and `% or C, C` for each further one, as `% where false` where there is none, `% where more` where there are too many
-/// and `% where overflow` where their projection overflows, and no line where it is one without constraints; and
+/// and `% where overflow` where their projection overflows, and no line where some alternative has no constraint; and
 /// `% domain any` or `% domain closed`. A name that the table lacks is written as the empty text.
 pub fn put_remarks(
     out: &mut Vec<u8>,

@@ -48,15 +48,16 @@ fn put_alternative_lines(out: &mut Vec<u8>, names: &Names, lists: &[Cons]) -> Re
     Ok(())
 }
 
-/// Whether there is a single alternative, without constraints.
-fn is_one_empty(lists: &[Cons]) -> bool
-    ensures { result ≡ spec.is_one_empty lists.now }
+/// Whether some alternative has no constraints.
+fn has_empty(lists: &[Cons]) -> bool
+    ensures { result ≡ spec.has_empty lists.now }
 {
-    match lists {
-        [] => false,
-        [only] => only.len() == 0,
-        [_, _, ..] => false,
+    for constraints in lists {
+        if constraints.len() == 0 {
+            return true;
+        }
     }
+    false
 }
 
 /// Puts what the alternatives say.
@@ -65,7 +66,7 @@ fn put_alternatives(out: &mut Vec<u8>, names: &Names, lists: &ConLists) -> Resul
 {
     if lists.len() == 0 {
         put(out, "% where false\n")
-    } else if is_one_empty(lists.as_slice()) {
+    } else if has_empty(lists.as_slice()) {
         Ok(())
     } else {
         put_alternative_lines(out, names, lists.as_slice())
