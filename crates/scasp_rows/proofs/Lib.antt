@@ -19,6 +19,8 @@ pub mod Sampling
 pub mod Fitting
 pub mod StepRanges
 pub mod Pairing
+pub mod Keeping
+pub mod Wrapping
 pub mod Indexing
 pub mod BetweenLemmas
 pub mod PlainLemmas

@@ -2,6 +2,7 @@
 use Rattle.std.proofs.Common.{◌≡◌, ℕ, ◌+◌, ◌<◌, nat_lt, Bool, true, false, ◌||◌, ◌&&◌, not, is_some, Option, Some, None, Result, Ok, Err, List, [], ◌∷◌, ◌++◌, length, refl, sym, ap, subst, ◌∙◌, arith, length-append}
 use Rattle.std.specs.Prelude.{⊤, if◌then◌else◌}
 use Rattle.std.specs.List.{list_any}
+use Rattle.std.proofs.lemmas.Bool.{or_parts}
 use Rattle.std.proofs.lemmas.Bool.Decides.{nat_tests}
 use Rattle.scasp_num.specs.declared.hints.Step.{Step}
 use Rattle.scasp_num.specs.Linear.{Linear, compares}
@@ -15,7 +16,7 @@ use Rattle.scasp_rows.specs.declared.state.State.{State}
 use Rattle.scasp_rows.specs.Points.{is_constant, is_false}
 use Rattle.scasp_rows.specs.Steps.{row_sum}
 use Rattle.scasp_rows.specs.Elimination.{Ends, and_then, looked, sum_looked, met, paired, all_paired, limited}
-use Rattle.scasp_rows.specs.Inside.Outlooks.{meeting, outlook_of, met_outlook, or_later, paired_outlook, all_paired_outlook, stepped, paired_steps, all_paired_steps}
+use Rattle.scasp_rows.specs.Inside.Outlooks.{meeting, outlook_of, met_outlook, is_falsified, some_false, any_false, stepped, paired_steps, all_paired_steps}
 
 -- the state without its rows
 abbrev bare : State → State
@@ -60,32 +61,73 @@ all_paired-stepped : (x : ℕ) (ls us : List Standing) (s : State) → bare_end 
 all_paired-stepped x [] us s = refl
 all_paired-stepped x (l ∷ ls) us s = bare-then (paired x l us s) (paired_steps x l us (bare s)) (all_paired x ls us) (all_paired_steps x ls us) (paired-stepped x l us s) (λ t. all_paired-stepped x ls us t)
 
--- ---- the steps end as the outlook says
+-- ---- where no sum is a false row, the steps go through or overflow
 
-abbrev EndsAs : Outlook → Result State Halt → Type 0
-EndsAs outlook.Open o = (t : State) × (o ≡ Ok t)
-EndsAs outlook.False o = (steps : List Step) × (o ≡ Err (halt.Unsat steps))
-EndsAs outlook.Overflow o = o ≡ Err halt.Overflow
+abbrev GoesOn : Result State Halt → Type 0
+GoesOn (Ok t) = ⊤
+GoesOn (Err halt.Overflow) = ⊤
+GoesOn (Err halt.Memory) = ⊥
+GoesOn (Err (halt.Unsat steps)) = ⊥
 
-ends-then : (o p : Outlook) (e : Result State Halt) (f : State → Result State Halt) → EndsAs o e → ((t : State) → EndsAs p (f t)) → EndsAs (or_later o p) (and_then e f)
-ends-then outlook.Open p e f h k = subst (λ (r : Result State Halt). EndsAs p (and_then r f)) (sym h.1) (k h.0)
-ends-then outlook.False p e f h k = (h.0, ap (λ (r : Result State Halt). and_then r f) h.1)
-ends-then outlook.Overflow p e f h k = ap (λ (r : Result State Halt). and_then r f) h
+goes-then : (o : Result State Halt) (f : State → Result State Halt) → GoesOn o → ((t : State) → GoesOn (f t)) → GoesOn (and_then o f)
+goes-then (Ok t) f g h = h t
+goes-then (Err k) f g h = g
 
-stepped-ends : (o : Outlook) (m : Step) (s : State) → EndsAs o (stepped o m s)
-stepped-ends outlook.Open m s = (record { standing = s.standing; steps = s.steps ++ m ∷ []; last = s.last + 1 }, refl)
-stepped-ends outlook.False m s = (s.steps ++ m ∷ [], refl)
-stepped-ends outlook.Overflow m s = refl
+stepped-goes : (o : Outlook) (m : Step) (s : State) → is_falsified o ≡ false → GoesOn (stepped o m s)
+stepped-goes outlook.Open m s e = tt
+stepped-goes outlook.False m s e = cc
+stepped-goes outlook.Overflow m s e = tt
 
-paired-ends : (x : ℕ) (l : Standing) (us : List Standing) (s : State) → EndsAs (paired_outlook x l us) (paired_steps x l us s)
-paired-ends x l [] s = (s, refl)
-paired-ends x l (u ∷ us) s = ends-then (met_outlook x l u) (paired_outlook x l us) (stepped (met_outlook x l u) (meeting x l u) s) (paired_steps x l us) (stepped-ends (met_outlook x l u) (meeting x l u) s) (λ t. paired-ends x l us t)
+paired-goes : (x : ℕ) (l : Standing) (us : List Standing) (s : State) → some_false x l us ≡ false → GoesOn (paired_steps x l us s)
+paired-goes x l [] s e = tt
+paired-goes x l (u ∷ us) s e =
+    let parts = or_parts (is_falsified (met_outlook x l u)) (some_false x l us) e in
+    goes-then (stepped (met_outlook x l u) (meeting x l u) s) (paired_steps x l us) (stepped-goes (met_outlook x l u) (meeting x l u) s parts.0) (λ t. paired-goes x l us t parts.1)
 
-all_paired-ends : (x : ℕ) (ls us : List Standing) (s : State) → EndsAs (all_paired_outlook x ls us) (all_paired_steps x ls us s)
-all_paired-ends x [] us s = (s, refl)
-all_paired-ends x (l ∷ ls) us s = ends-then (paired_outlook x l us) (all_paired_outlook x ls us) (paired_steps x l us s) (all_paired_steps x ls us) (paired-ends x l us s) (λ t. all_paired-ends x ls us t)
+all_paired-goes : (x : ℕ) (ls us : List Standing) (s : State) → any_false x ls us ≡ false → GoesOn (all_paired_steps x ls us s)
+all_paired-goes x [] us s e = tt
+all_paired-goes x (l ∷ ls) us s e =
+    let parts = or_parts (some_false x l us) (any_false x ls us) e in
+    goes-then (paired_steps x l us s) (all_paired_steps x ls us) (paired-goes x l us s parts.0) (λ t. all_paired-goes x ls us t parts.1)
 
--- ---- an end by overflow, or by a false row
+-- ---- where some sum is a false row, they end
+
+abbrev Stops : Result State Halt → Type 0
+Stops (Ok t) = ⊥
+Stops (Err h) = ⊤
+
+-- the first part ends where the test is true, and else what follows
+stops-then : (t : Bool) (o : Result State Halt) (f : State → Result State Halt) → (t ≡ true → Stops o) → (t ≡ false → (s : State) → Stops (f s)) → Stops (and_then o f)
+stops-then t (Err k) f g h = tt
+stops-then true (Ok s) f g h = absurd (g refl)
+stops-then false (Ok s) f g h = h refl s
+
+or-later : (a b : Bool) → (a || b) ≡ true → a ≡ false → b ≡ true
+or-later false b e f = e
+or-later true b e f = cc
+
+stepped-stops : (o : Outlook) (m : Step) (s : State) → is_falsified o ≡ true → Stops (stepped o m s)
+stepped-stops outlook.Open m s e = cc
+stepped-stops outlook.False m s e = tt
+stepped-stops outlook.Overflow m s e = cc
+
+paired-stops : (x : ℕ) (l : Standing) (us : List Standing) (s : State) → some_false x l us ≡ true → Stops (paired_steps x l us s)
+paired-stops x l [] s e = cc
+paired-stops x l (u ∷ us) s e =
+    let first = is_falsified (met_outlook x l u) in
+    stops-then first (stepped (met_outlook x l u) (meeting x l u) s) (paired_steps x l us) (stepped-stops (met_outlook x l u) (meeting x l u) s) (λ f t. paired-stops x l us t (or-later first (some_false x l us) e f))
+
+all_paired-stops : (x : ℕ) (ls us : List Standing) (s : State) → any_false x ls us ≡ true → Stops (all_paired_steps x ls us s)
+all_paired-stops x [] us s e = cc
+all_paired-stops x (l ∷ ls) us s e =
+    let first = some_false x l us in
+    stops-then first (paired_steps x l us s) (all_paired_steps x ls us) (paired-stops x l us s) (λ f t. all_paired-stops x ls us t (or-later first (any_false x ls us) e f))
+
+-- where some sum is a false row, the steps do not go through
+pub false-ends : (x : ℕ) (ls us : List Standing) (s t : State) → any_false x ls us ≡ true → all_paired_steps x ls us s ≡ Ok t → ⊥
+false-ends x ls us s t e f = subst Stops f (all_paired-stops x ls us s e)
+
+-- ---- the end of the elimination
 
 -- the end that the steps have is the elimination's
 pub ended-limited : (x : ℕ) (ls us : List Standing) (s : State) (h : Halt) → Ends {A = State} (Err h) (all_paired_steps x ls us (bare s)) → Ends {A = State} (Err h) (and_then (all_paired x ls us s) limited)
@@ -96,14 +138,6 @@ ended-limited x ls us s h e = by (all_paired x ls us s) h (subst (λ (o : Result
     by (Ok t) halt.Overflow g = cc
     by (Ok t) (halt.Unsat steps) g = cc
     by (Err k) h g = g
-
-pub overflow-limited : (x : ℕ) (ls us : List Standing) (s : State) → all_paired_outlook x ls us ≡ outlook.Overflow → and_then (all_paired x ls us s) limited ≡ Err halt.Overflow
-overflow-limited x ls us s e =
-    ended-limited x ls us s halt.Overflow (subst (λ (o : Outlook). EndsAs o (all_paired_steps x ls us (bare s))) e (all_paired-ends x ls us (bare s)))
-
--- where a false row comes, the steps do not go through
-pub false-ends : (x : ℕ) (ls us : List Standing) (s t : State) → all_paired_outlook x ls us ≡ outlook.False → all_paired_steps x ls us s ≡ Ok t → ⊥
-false-ends x ls us s t e f = let h = subst (λ (o : Outlook). EndsAs o (all_paired_steps x ls us s)) e (all_paired-ends x ls us s) in let g : Err (halt.Unsat h.0) ≡ Ok t = sym h.1 ∙ f in cc
 
 -- ---- too many rows stay too many
 
@@ -141,23 +175,17 @@ all_paired-over : (x : ℕ) (ls us : List Standing) (s : State) → IsOver s →
 all_paired-over x [] us s h = h
 all_paired-over x (l ∷ ls) us s h = over-then (paired x l us s) (all_paired x ls us) (paired-over x l us s h) (λ t k. all_paired-over x ls us t k)
 
--- once too many rows stand, and no later pair ends the elimination, it overflows
-pub over-limited : (x : ℕ) (ls us : List Standing) (s : State) → 4096 < length s.standing → all_paired_outlook x ls us ≡ outlook.Open → and_then (all_paired x ls us s) limited ≡ Err halt.Overflow
-over-limited x ls us s h e =
-    let k = subst (λ (o : Outlook). EndsAs o (all_paired_steps x ls us (bare s))) e (all_paired-ends x ls us (bare s)) in
-    by (all_paired x ls us s) (all_paired-over x ls us s h) (all_paired-stepped x ls us s ∙ k.1)
+-- once too many rows stand, and no later sum is a false row, it overflows
+pub over-limited : (x : ℕ) (ls us : List Standing) (s : State) → 4096 < length s.standing → any_false x ls us ≡ false → and_then (all_paired x ls us s) limited ≡ Err halt.Overflow
+over-limited x ls us s h e = by (all_paired x ls us s) (all_paired-over x ls us s h) (subst GoesOn (sym (all_paired-stepped x ls us s)) (all_paired-goes x ls us (bare s) e))
   where
-    by : (o : Result State Halt) → StaysOver o → {t : State} → bare_end o ≡ Ok t → and_then o limited ≡ Err halt.Overflow
-    by (Ok t) k f = let over : nat_lt 4096 (length t.standing) ≡ true = grind (arith, nat_tests, k) in ap (λ b. if b then Err halt.Overflow else Ok t) over
-    by (Err j) k f = cc
+    by : (o : Result State Halt) → StaysOver o → GoesOn (bare_end o) → and_then o limited ≡ Err halt.Overflow
+    by (Ok t) k g = let over : nat_lt 4096 (length t.standing) ≡ true = grind (arith, nat_tests, k) in ap (λ b. if b then Err halt.Overflow else Ok t) over
+    by (Err halt.Overflow) k g = refl
+    by (Err halt.Memory) k g = absurd g
+    by (Err (halt.Unsat steps)) k g = absurd g
 
--- the later pairs are open where all are
-pub later-open : (o p : Outlook) → or_later o p ≡ outlook.Open → p ≡ outlook.Open
-later-open outlook.Open p e = e
-later-open outlook.False p e = cc
-later-open outlook.Overflow p e = cc
-
-pub ruleset overflowing = (over-limited, later-open)
+pub ruleset overflowing = (over-limited, or_parts)
 
 -- ---- the outlook of a sum
 

@@ -59,7 +59,7 @@ sign-size false z = refl
 against-range : (a b : ℤ) (g : ℕ) → InRange b → InRange (against a b g)
 against-range a b g h = subst (λ n. n < 2 ^ 127) (sym (sign-size (not (int_lt a (pos 0))) (int_div b (pos g)) ∙ unsigned_abs-over b g)) (smaller (unsigned_abs b) g h)
 
-factor-range : (x : ℕ) (r : Standing) → Normal r → InRange (factor x r)
+pub factor-range : (x : ℕ) (r : Standing) → Normal r → InRange (factor x r)
 factor-range x r n = coefficient-range x r.row.coeffs n.range
 
 -- ---- new rows

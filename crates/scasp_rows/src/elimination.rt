@@ -1,14 +1,15 @@
 //! The elimination of variables (Fourier 1826, Motzkin 1936).
-ghost use Rattle.std.specs.Prelude.{◌≡◌, ◌≢◌, ◌+◌, ◌++◌, ◌<◌, ◌≤◌, [], ◌∷◌, IfOk, OnOk, drop, filter, length, slice_get, slice_index, take};
+ghost use Rattle.std.specs.Prelude.{◌≡◌, ◌≢◌, ◌+◌, ◌++◌, ◌<◌, ◌≤◌, true, false, [], ◌∷◌, IfOk, OnOk, drop, filter, length, slice_get, slice_index, take};
 ghost use Rattle.std.specs.Option.{option_copied};
 ghost use Rattle.scasp_list.specs.Each.{Each};
 ghost use Rattle.scasp_num.specs.Linear.{IsNormal};
 ghost use Rattle.scasp_rows.specs.Elimination.{Ends, all_looked, all_paired, and_then, by_bounds, by_equation, eliminated, elimination, first_equation, limited, looked, met, others, paired, placed, rows_with, variables, with_terms, without};
-ghost use Rattle.scasp_rows.specs.Inside.Outlooks.{all_paired_outlook, all_paired_steps};
+ghost use Rattle.scasp_rows.specs.Inside.Outlooks.{all_paired_steps, any_false};
 ghost use Rattle.scasp_rows.specs.declared.state.State.{State as ThisState};
 
+use crate::falsity::any_false;
 use crate::indexed::Indexed;
-use crate::outlook::{Outlook, all_paired_outlook, all_paired_steps, meeting};
+use crate::outlook::{all_paired_steps, meeting};
 use crate::replacing::{equation_place, solved};
 use crate::rows::{factor, has_sign, solves};
 use crate::state::{Halt, Sign, Standing, StandingRows, State, copy, next};
@@ -86,8 +87,8 @@ fn rows_without(alloc: Global, x: u64, rows: StandingRows) -> Result<StandingRow
     Ok(kept)
 }
 
-/// Each lower row with each upper row, in order, where none of them ends the elimination. So once too many
-/// rows stand, no more need be made.
+/// Each lower row with each upper row, in order, where no sum is a false row. So once too many rows stand, no
+/// more need be made.
 #[tactic(auto, using(crate::proofs::Pairing::overflowing))]
 fn all_paired(
     alloc: Global,
@@ -96,7 +97,7 @@ fn all_paired(
     uppers: &[Standing],
     start: Indexed,
 ) -> Result<State, Halt>
-    requires { all_paired_outlook x lowers.now uppers.now ≡ Outlook.Open }
+    requires { any_false x lowers.now uppers.now ≡ false }
     ensures { Ends result (and_then (all_paired x lowers.now uppers.now start) limited) }
 {
     let mut state = start;
@@ -109,7 +110,7 @@ fn all_paired(
     limited(state.into_state())
 }
 
-/// The end of the elimination by a lower row and an upper row, where their sum is a false row. No row is kept.
+/// The end of the elimination by the pairs in order, where some sum is a false row. No row is kept.
 fn falsified(
     alloc: Global,
     x: u64,
@@ -118,7 +119,7 @@ fn falsified(
     steps: Steps,
     last: u64,
 ) -> Halt
-    requires { all_paired_outlook x lowers.now uppers.now ≡ Outlook.False }
+    requires { any_false x lowers.now uppers.now ≡ true }
     ensures { Ends {A = ThisState} (Err result) (all_paired_steps x lowers.now uppers.now (record { standing = []; steps = steps; last = last })) }
 {
     let start = State {
@@ -142,8 +143,8 @@ fn limited(state: State) -> Result<State, Halt>
     Ok(state)
 }
 
-/// Sets the rows with `x` aside, where no equation has it. What the pairs of rows do is known before any row
-/// is kept.
+/// Sets the rows with `x` aside, where no equation has it. Whether some sum is a false row is known before any
+/// row is kept.
 fn by_bounds(
     alloc: Global,
     x: u64,
@@ -156,21 +157,18 @@ fn by_bounds(
     let lowers = rows_with(alloc, Sign::Below, x, &rows)?;
     let uppers = rows_with(alloc, Sign::Above, x, &rows)?;
     let (lowers, uppers) = (lowers.as_slice(), uppers.as_slice());
-    match all_paired_outlook(alloc, x, lowers, uppers)? {
-        Outlook::Overflow => Err(Halt::Overflow),
-        Outlook::False => Err(falsified(alloc, x, lowers, uppers, steps, last)),
-        Outlook::Open => {
-            let standing = rows_without(alloc, x, rows)?;
-            let state = State {
-                standing,
-                steps,
-                last,
-            };
-            let pairs = lowers.len().saturating_mul(uppers.len());
-            let kept = Indexed::of(alloc, state, pairs)?;
-            all_paired(alloc, x, lowers, uppers, kept)
-        }
+    if any_false(alloc, x, lowers, uppers)? {
+        return Err(falsified(alloc, x, lowers, uppers, steps, last));
     }
+    let standing = rows_without(alloc, x, rows)?;
+    let state = State {
+        standing,
+        steps,
+        last,
+    };
+    let pairs = lowers.len().saturating_mul(uppers.len());
+    let kept = Indexed::of(alloc, state, pairs)?;
+    all_paired(alloc, x, lowers, uppers, kept)
 }
 
 /// Takes the equation with `x` from its place, and replaces `x` by it in the other rows.

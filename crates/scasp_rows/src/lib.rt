@@ -5,6 +5,7 @@
 
 mod backward;
 mod elimination;
+mod falsity;
 mod indexed;
 pub mod laws;
 mod outlook;

@@ -1,7 +1,7 @@
 //! Pairs of a lower and an upper row: how their sums end an elimination, whatever rows stand.
 ghost use Rattle.std.specs.Prelude.{◌≡◌, IfOk};
 ghost use Rattle.scasp_rows.specs.Elimination.{Ends};
-ghost use Rattle.scasp_rows.specs.Inside.Outlooks.{all_paired_outlook, all_paired_steps, meeting, met_outlook, outlook_of, paired_outlook, paired_steps, stepped};
+ghost use Rattle.scasp_rows.specs.Inside.Outlooks.{all_paired_steps, meeting, met_outlook, outlook_of, paired_steps, stepped};
 ghost use Rattle.scasp_rows.specs.Steps.{row_sum};
 
 use crate::range::{has_variable, sum_fits};
@@ -60,49 +60,11 @@ fn sum_outlook(alloc: Global, a: i128, p: &Row, b: i128, q: &Row) -> Result<Outl
 }
 
 /// What the lower row and the upper row do.
-fn met_outlook(alloc: Global, x: u64, l: &Standing, u: &Standing) -> Result<Outlook, Memory>
+pub(crate) fn met_outlook(alloc: Global, x: u64, l: &Standing, u: &Standing) -> Result<Outlook, Memory>
     ensures { IfOk result (λ outlook. outlook ≡ met_outlook x l.now u.now) }
 {
     let step = meeting(x, l, u);
     sum_outlook(alloc, step.a, &l.row, step.b, &u.row)
-}
-
-/// What the lower row does with the first upper row with which it does not go on.
-fn paired_outlook(
-    alloc: Global,
-    x: u64,
-    l: &Standing,
-    uppers: &[Standing],
-) -> Result<Outlook, Memory>
-    ensures { IfOk result (λ outlook. outlook ≡ paired_outlook x l.now uppers.now) }
-{
-    for u in uppers {
-        match met_outlook(alloc, x, l, u)? {
-            Outlook::Open => {}
-            Outlook::False => return Ok(Outlook::False),
-            Outlook::Overflow => return Ok(Outlook::Overflow),
-        }
-    }
-    Ok(Outlook::Open)
-}
-
-/// What the first lower row and upper row do that do not go on.
-pub(crate) fn all_paired_outlook(
-    alloc: Global,
-    x: u64,
-    lowers: &[Standing],
-    uppers: &[Standing],
-) -> Result<Outlook, Memory>
-    ensures { IfOk result (λ outlook. outlook ≡ all_paired_outlook x lowers.now uppers.now) }
-{
-    for l in lowers {
-        match paired_outlook(alloc, x, l, uppers)? {
-            Outlook::Open => {}
-            Outlook::False => return Ok(Outlook::False),
-            Outlook::Overflow => return Ok(Outlook::Overflow),
-        }
-    }
-    Ok(Outlook::Open)
 }
 
 /// The state after the step of a lower row and an upper row; no row is kept.

@@ -1,7 +1,9 @@
 -- Pairs of a lower and an upper row: their steps, and how their sums end an elimination, whatever rows stand.
-use Rattle.std.specs.Prelude.{ℕ, ◌+◌, if◌then◌else◌, List, [], ◌∷◌, ◌++◌, Option, Some, None, Result, Ok, Err}
+use Rattle.std.specs.Prelude.{ℕ, ◌+◌, Bool, true, false, if◌then◌else◌, ℤ, pos, unsigned_abs, List, [], ◌∷◌, ◌++◌, Option, Some, None, Result, Ok, Err}
+use Rattle.std.specs.List.{list_any}
 use Rattle.scasp_num.specs.declared.hints.Step.{Step}
 use Rattle.scasp_num.specs.Linear.{Linear}
+use Rattle.scasp_rows.specs.declared.falsity.Factors.{Factors}
 use Rattle.scasp_rows.specs.declared.outlook.Outlook.{Outlook}
 use Rattle.scasp_rows.specs.declared.outlook.Outlook.TheVariants as outlook
 use Rattle.scasp_rows.specs.declared.state.Halt.{Halt}
@@ -25,21 +27,29 @@ outlook_of (Some row) = if is_false row then outlook.False else outlook.Open
 abbrev pub met_outlook : ℕ → Standing → Standing → Outlook
 met_outlook x l u = let m = meeting x l u in outlook_of (row_sum m.a l.row m.b u.row)
 
--- the first of two that is not open
-abbrev pub or_later : Outlook → Outlook → Outlook
-or_later outlook.Open o = o
-or_later outlook.False o = outlook.False
-or_later outlook.Overflow o = outlook.Overflow
+-- ---- whether some sum is a false row
 
--- of the lower row with each upper row
-abbrev pub paired_outlook : ℕ → Standing → List Standing → Outlook
-paired_outlook x l [] = outlook.Open
-paired_outlook x l (u ∷ us) = or_later (met_outlook x l u) (paired_outlook x l us)
+abbrev pub is_falsified : Outlook → Bool
+is_falsified outlook.Open = false
+is_falsified outlook.False = true
+is_falsified outlook.Overflow = false
 
--- of each lower row with each upper row
-abbrev pub all_paired_outlook : ℕ → List Standing → List Standing → Outlook
-all_paired_outlook x [] us = outlook.Open
-all_paired_outlook x (l ∷ ls) us = or_later (paired_outlook x l us) (all_paired_outlook x ls us)
+-- of the lower row with an upper row
+abbrev pub some_false : ℕ → Standing → List Standing → Bool
+some_false x l us = list_any (λ u. is_falsified (met_outlook x l u)) us
+
+-- of a lower row with an upper row
+abbrev pub any_false : ℕ → List Standing → List Standing → Bool
+any_false x ls us = list_any (λ l. some_false x l us) ls
+
+-- ---- by which a variable y is known to be left in a sum
+
+abbrev pub size_of : ℤ → ℤ
+size_of z = pos (unsigned_abs z)
+
+-- the size of the coefficient of x, and the coefficient of y
+abbrev pub factors_of : ℕ → ℕ → Standing → Factors
+factors_of x y r = record { size = size_of (factor x r); other = factor y r }
 
 -- ---- the steps alone: no row is kept
 

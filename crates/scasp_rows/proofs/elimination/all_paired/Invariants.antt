@@ -1,8 +1,7 @@
-use Rattle.std.proofs.Common.{◌≡◌, drop}
-use Rattle.scasp_rows.specs.declared.outlook.Outlook.TheVariants as outlook
+use Rattle.std.proofs.Common.{◌≡◌, false, drop}
 use Rattle.scasp_rows.specs.Elimination.{all_paired, and_then, limited}
-use Rattle.scasp_rows.specs.Inside.Outlooks.{all_paired_outlook}
+use Rattle.scasp_rows.specs.Inside.Outlooks.{any_false}
 use Rattle.scasp_rows.proofs.elimination.all_paired.Given as goal
 
 abbrev pub invariant-loop-l : goal.invariant-loop-l
-invariant-loop-l l = (and_then (all_paired l.x (drop l.l-index l.lowers) l.uppers l.state) limited ≡ and_then (all_paired l.x l.lowers l.uppers l.fn.start) limited) × (all_paired_outlook l.x (drop l.l-index l.lowers) l.uppers ≡ outlook.Open)
+invariant-loop-l l = (and_then (all_paired l.x (drop l.l-index l.lowers) l.uppers l.state) limited ≡ and_then (all_paired l.x l.lowers l.uppers l.fn.start) limited) × (any_false l.x (drop l.l-index l.lowers) l.uppers ≡ false)
