@@ -2,6 +2,8 @@
 #![tactic(auto)]
 
 #[cfg(test)]
+mod dense;
+#[cfg(test)]
 mod numbers;
 #[cfg(test)]
 mod rows;

@@ -627,7 +627,12 @@ fn whole(z: i128) -> Result<Rat, Fail> {
     }
 }
 
-fn written(alloc: Global, terms: &[(u64, i128)], constant: i128, op: Op) -> Result<Row, Fail> {
+pub(crate) fn written(
+    alloc: Global,
+    terms: &[(u64, i128)],
+    constant: i128,
+    op: Op,
+) -> Result<Row, Fail> {
     let mut pairs = RatPairs::new(alloc);
     for (x, c) in terms {
         let value = whole(*c)?;

@@ -6,8 +6,8 @@ use Rattle.scasp_rows.specs.Elimination.{Ends, all_paired, and_then, limited, ro
 use Rattle.scasp_rows.proofs.Pairing.{ended-limited}
 use Rattle.scasp_rows.proofs.elimination.by_bounds.Goals as goal
 
-pub returns-then-any_false : goal.returns-then-any_false
-returns-then-any_false c =
+pub returns-then-branch : goal.returns-then-branch
+returns-then-branch c =
     let x = c.args.x in
     let rows = c.args.rows in
     let start : State = record { standing = rows_with sign.Zero x rows; steps = c.args.steps; last = c.args.last } in
