@@ -1,11 +1,12 @@
 //! Pairs of a lower and an upper row: whether some sum is a false row. One that keeps a variable is not, so most
 //! pairs are told by two products.
-ghost use Rattle.std.specs.Prelude.{◌≡◌, ◌≢◌, ◌+ℤ◌, ◌*ℤ◌, IfOk, IsTrue, map, pos};
+ghost use Rattle.std.specs.Prelude.{◌≡◌, IfOk, map};
 ghost use Rattle.scasp_num.specs.Linear.{IsNormal};
 ghost use Rattle.scasp_num.specs.Number.{InRange};
 ghost use Rattle.scasp_rows.specs.Inside.Outlooks.{any_false, factors_of, is_falsified, met_outlook, size_of, some_false};
 
 use crate::outlook::{Outlook, met_outlook};
+use crate::range::{has_variable, is_not_zero};
 use crate::rows::factor;
 use crate::state::Standing;
 use scasp_list::Memory;
@@ -46,13 +47,6 @@ fn all_factors(alloc: Global, x: u64, y: u64, rows: &[Standing]) -> Result<Vec<F
     Ok(all)
 }
 
-/// Whether `a` times `c` plus `b` times `d` is known not to be 0, by its lowest 128 bits.
-fn is_not_zero(a: i128, c: i128, b: i128, d: i128) -> bool
-    ensures { IsTrue result → (a *ℤ c +ℤ b *ℤ d) ≢ pos 0 }
-{
-    a.wrapping_mul(c).wrapping_add(b.wrapping_mul(d)) != 0
-}
-
 /// Both rows are in normal form.
 fn are_normal(l: &Standing, u: &Standing)
     ensures { IsNormal l.now.row × IsNormal u.now.row }
@@ -62,7 +56,7 @@ fn are_normal(l: &Standing, u: &Standing)
 }
 
 /// Whether the sum of a lower row and an upper row is a false row, where these are their coefficients. It is
-/// none where it keeps `y`.
+/// none where it keeps `y`, or another variable.
 fn is_false_sum(
     alloc: Global,
     x: u64,
@@ -78,6 +72,9 @@ fn is_false_sum(
 {
     are_normal(l, u);
     if is_not_zero(theirs.size, own.other, own.size, theirs.other) {
+        return Ok(false);
+    }
+    if has_variable(theirs.size, &l.row, own.size, &u.row) {
         return Ok(false);
     }
     match met_outlook(alloc, x, l, u)? {

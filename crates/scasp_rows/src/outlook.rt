@@ -60,7 +60,12 @@ fn sum_outlook(alloc: Global, a: i128, p: &Row, b: i128, q: &Row) -> Result<Outl
 }
 
 /// What the lower row and the upper row do.
-pub(crate) fn met_outlook(alloc: Global, x: u64, l: &Standing, u: &Standing) -> Result<Outlook, Memory>
+pub(crate) fn met_outlook(
+    alloc: Global,
+    x: u64,
+    l: &Standing,
+    u: &Standing,
+) -> Result<Outlook, Memory>
     ensures { IfOk result (λ outlook. outlook ≡ met_outlook x l.now u.now) }
 {
     let step = meeting(x, l, u);

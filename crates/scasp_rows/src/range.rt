@@ -95,22 +95,19 @@ pub(crate) fn sum_fits(a: i128, p: &Row, b: i128, q: &Row) -> bool
     constants_fit(a, p, b, q)
 }
 
-/// The coefficient of `x` in the sum, where it and its two products lie in -M..M.
-#[tactic(auto, using(scasp_num::proofs::Numbers::plain))]
-fn coefficient_sum(a: i128, p: &Row, b: i128, q: &Row, x: u64) -> Option<i128>
-    ensures { result ≡ pair_sum a (coefficient x p.now.coeffs) b (coefficient x q.now.coeffs) }
+/// Whether `a` times `c` plus `b` times `d` is known not to be 0, by its lowest 128 bits.
+pub(crate) fn is_not_zero(a: i128, c: i128, b: i128, d: i128) -> bool
+    ensures { IsTrue result → (a *ℤ c +ℤ b *ℤ d) ≢ pos 0 }
 {
-    pair_sum(a, p.coefficient(x), b, q.coefficient(x))
+    a.wrapping_mul(c).wrapping_add(b.wrapping_mul(d)) != 0
 }
 
 /// Whether `x` is known to be left in the sum.
+#[tactic(auto, using(scasp_num::proofs::Numbers::plain))]
 fn is_left(a: i128, p: &Row, b: i128, q: &Row, x: u64) -> bool
     ensures { IsTrue result → (a *ℤ coefficient x p.now.coeffs +ℤ b *ℤ coefficient x q.now.coeffs) ≢ pos 0 }
 {
-    match coefficient_sum(a, p, b, q, x) {
-        Some(z) => z != 0,
-        None => false,
-    }
+    is_not_zero(a, p.coefficient(x), b, q.coefficient(x))
 }
 
 /// Whether some variable is known to be left in the sum.

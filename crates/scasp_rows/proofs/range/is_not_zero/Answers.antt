@@ -1,7 +1,7 @@
 use Rattle.std.proofs.Common.{IsTrue, not, subst}
 use Rattle.std.specs.Prelude.{nat_eq}
 use Rattle.scasp_rows.proofs.Wrapping.{sum-bits}
-use Rattle.scasp_rows.proofs.falsity.is_not_zero.Goals as goal
+use Rattle.scasp_rows.proofs.range.is_not_zero.Goals as goal
 
 pub returns : goal.returns
 returns c = λ t e.
