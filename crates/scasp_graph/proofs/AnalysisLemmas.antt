@@ -1,6 +1,6 @@
 -- What is found by numbers is right for predicates.
 use Rattle.std.proofs.Common.{◌≡◌, ◌≢◌, ◌∙◌, ◌++◌, ◌⊎◌, ℕ, zero, suc, ◌+◌, ◌<◌, Bool, true, false, ◌||◌, not, nat_eq, List, length, get_or, map, Option, Some, None, option_map, slice_get, refl, ap, sym, subst, inl, inr, arith}
-use Rattle.std.specs.List.{list_any, flat_map}
+use Rattle.std.specs.List.{list_any, flat_map, Contains}
 use Rattle.std.proofs.lemmas.Bool.{cases_Bool, true≢false, false≢true, and_parts, and_from, or_left, or_right}
 use Rattle.std.proofs.lemmas.Bool.Decides.{Decides-eqb}
 use Rattle.std.proofs.lemmas.List.{length-map}
@@ -31,6 +31,8 @@ use Rattle.scasp_graph.proofs.LevelLemmas.{root-below}
 use Rattle.scasp_graph.proofs.NumberingLemmas.{among, are_distinct, no_pred, pred_at, place-below, place-at, among-at, before-at, distinct-first, depends-among, rule-depends}
 use Rattle.scasp_graph.proofs.PredLemmas.{bool_is}
 use Rattle.scasp_graph.proofs.WalkLemmas.{differ, differ-assoc, differ-comm, differ-false, joined, reaches-trans, edge-walk, walk-edge, mapped}
+use Rattle.std.proofs.lemmas.List.Elements.{Contains-get_or}
+use Rattle.scasp_list.proofs.MemberLemmas.{Contains-map, Contains-from_map}
 
 -- the numbers of a program's components, with its predicates, edges, levels and odd components
 pub record Known (program : Program) (preds : List Pred) (edges : List Edge) (members : List Member) (levels : List ℕ) (odd : List Bool) : Type 0 where
@@ -70,7 +72,7 @@ edges-below program preds edges e m =
         let s : slice_get (dependencies program) k ≡ Some d = slice_get-get_or (dependencies program) k (record { from = no_pred; to = no_pred; negated = false }) b in
         let g : slice_get edges k ≡ Some (numbered_edge preds d) = ap (λ z. slice_get z k) m ∙ slice_get-map (numbered_edge preds) (dependencies program) k ∙ ap (option_map (numbered_edge preds)) s in
         let x : edge_at edges k ≡ numbered_edge preds d = get_or_from_slice_get edges k (numbered_edge preds d) (record { from = 0; to = 0; negated = false }) g in
-        let a = known-among program preds e d.from d.to d.negated (k, s) in
+        let a = known-among program preds e d.from d.to d.negated (Contains-get_or (dependencies program) k (record { from = no_pred; to = no_pred; negated = false }) b) in
         let f = (place-below preds d.from a.0).0 in
         let t = (place-below preds d.to a.1).0 in
         let fe : (edge_at edges k).from ≡ place_in preds d.from = ap (λ (z : Edge). z.from) x in
@@ -80,37 +82,16 @@ edges-below program preds edges e m =
 -- an edge between predicates is one between their places
 pub down : (program : Program) (preds : List Pred) (edges : List Edge) → edges ≡ map (numbered_edge preds) (dependencies program) → (p q : Pred) (b : Bool) → Depends program p b q → EdgeIn edges (place_in preds p) b (place_in preds q)
 down program preds edges m p q b d =
-    (d.0, ap (λ z. slice_get z d.0) m ∙ slice_get-map (numbered_edge preds) (dependencies program) d.0 ∙ ap (option_map (numbered_edge preds)) d.1)
-
-up-some : (preds : List Pred) (o : Option Dependency) (u v : ℕ) (b : Bool) → option_map (numbered_edge preds) o ≡ Some (record { from = u; to = v; negated = b }) → (d : Dependency) × ((o ≡ Some d) × ((place_in preds d.from ≡ u) × ((place_in preds d.to ≡ v) × (d.negated ≡ b))))
-up-some preds None u v b h = absurd (none-is-none h)
-  where
-    none-is-none : {X : Type 0} {x : X} → None ≡ Some x → ⊥
-    none-is-none h = cc
-up-some preds (Some d) u v b h =
-    (d, (refl, (ap from_of h, (ap to_of h, ap negated_of h))))
-  where
-    from_of : Option Edge → ℕ
-    from_of None = 0
-    from_of (Some y) = y.from
-
-    to_of : Option Edge → ℕ
-    to_of None = 0
-    to_of (Some y) = y.to
-
-    negated_of : Option Edge → Bool
-    negated_of None = false
-    negated_of (Some y) = y.negated
+    subst (λ z. EdgeIn z (place_in preds p) b (place_in preds q)) (sym m) (Contains-map (numbered_edge preds) (dependencies program) (record { from = p; to = q; negated = b }) d)
 
 -- an edge between places is one between the predicates there
 pub up : (program : Program) (preds : List Pred) (edges : List Edge) → preds ≡ predicates program → edges ≡ map (numbered_edge preds) (dependencies program) → (u v : ℕ) (b : Bool) → EdgeIn edges u b v → Depends program (pred_at preds u) b (pred_at preds v)
 up program preds edges e m u v b k =
-    let h = up-some preds (slice_get (dependencies program) k.0) u v b (sym (slice_get-map (numbered_edge preds) (dependencies program) k.0) ∙ ap (λ z. slice_get z k.0) (sym m) ∙ k.1) in
-    let d : Dependency = h.0 in
-    let a = known-among program preds e h.0.from h.0.to h.0.negated (k.0, h.1.0) in
-    let f : pred_at preds u ≡ h.0.from = ap (pred_at preds) (sym h.1.1.0) ∙ (place-below preds h.0.from a.0).1 in
-    let t : pred_at preds v ≡ h.0.to = ap (pred_at preds) (sym h.1.1.1.0) ∙ (place-below preds h.0.to a.1).1 in
-    (k.0, h.1.0 ∙ (λ i. Some (record { from = sym f i; to = sym t i; negated = h.1.1.1.1 i })))
+    let h = Contains-from_map (numbered_edge preds) (dependencies program) (record { from = u; to = v; negated = b }) (subst (λ z. EdgeIn z u b v) m k) in
+    let a = known-among program preds e h.0.from h.0.to h.0.negated h.1 in
+    let f : pred_at preds u ≡ h.0.from = ap (pred_at preds) (sym (ap (λ (z : Edge). z.from) h.2)) ∙ (place-below preds h.0.from a.0).1 in
+    let t : pred_at preds v ≡ h.0.to = ap (pred_at preds) (sym (ap (λ (z : Edge). z.to) h.2)) ∙ (place-below preds h.0.to a.1).1 in
+    subst (Contains (dependencies program)) (λ i. record { from = sym f i; to = sym t i; negated = (h.2 i).negated }) h.1
 
 -- two parities that differ change the parity of a walk
 flip : (a x w : Bool) → differ a (differ (not x) w) ≡ not (differ a (differ x w))

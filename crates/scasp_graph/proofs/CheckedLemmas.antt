@@ -1,8 +1,9 @@
 -- The map of an analysis holds where denials and odd rules are covered.
-use Rattle.std.proofs.Common.{◌≡◌, ◌∙◌, ◌∷◌, ℕ, zero, suc, ◌+◌, Bool, true, false, ◌&&◌, ◌||◌, not, nat_eq, nat_lt, is_none, List, [], Option, Some, None, slice_get, refl, ap, sym, inl, inr, arith}
-use Rattle.std.specs.List.{list_any, list_all}
+use Rattle.std.proofs.Common.{◌≡◌, ◌∙◌, ◌∷◌, ◌⊎◌, ℕ, zero, suc, ◌+◌, Bool, true, false, ◌&&◌, ◌||◌, not, nat_eq, nat_lt, is_none, List, [], Option, Some, None, slice_get, refl, ap, sym, inl, inr, arith}
+use Rattle.std.specs.List.{Contains, list_any, list_all}
 use Rattle.std.proofs.lemmas.Bool.{cases_Bool, true≢false, false≢true, and_from, or_left, or_right, cond-true, cond-false}
 use Rattle.std.proofs.lemmas.Bool.Decides.{Decides-eqb, Decides-ltb}
+use Rattle.scasp_list.proofs.MemberLemmas.{Contains-cases, Contains-flat_map, Contains-here, Contains-none, Contains-there}
 use Rattle.scasp_syntax.specs.Programs.{pred_of, body_preds}
 use Rattle.scasp_syntax.specs.Same.{same_pred, same_bool}
 use Rattle.scasp_syntax.specs.declared.atom.Atom.{Atom}
@@ -19,7 +20,7 @@ use Rattle.scasp_graph.specs.OddRules.{IsOddRule}
 use Rattle.scasp_graph.specs.Walks.{Walk, Dependency, item_dependencies, Depends}
 use Rattle.scasp_graph.specs.declared.analysis.Analysis.{Analysis}
 use Rattle.scasp_graph.proofs.MapLemmas.{faults-cons}
-use Rattle.scasp_graph.proofs.NumberingLemmas.{In, among, in-flat_map, clause-depends}
+use Rattle.scasp_graph.proofs.NumberingLemmas.{Contains-from_get, among, clause-depends}
 use Rattle.scasp_graph.proofs.PredLemmas.{pred_same}
 
 -- signs that follow a literal keep the map
@@ -29,27 +30,31 @@ kept-sign true false q e = ap not e
 kept-sign false true q e = ap not e
 kept-sign false false q e = ap (λ z. not (not z)) e
 
-call-among : (body : List Item) (l : Lit) (e : ℕ) → slice_get body e ≡ Some (Call l) → among (body_preds body) (pred_of l.atom) ≡ true
-call-among [] l e h = cc
-call-among (Call k ∷ items) l zero h =
-    let s : k ≡ l = cc in
-    ap (λ (z : Lit). among (pred_of z.atom ∷ body_preds items) (pred_of l.atom)) s ∙ or_left (same_pred (pred_of l.atom) (pred_of l.atom)) (among (body_preds items) (pred_of l.atom)) (pred_same (pred_of l.atom))
-call-among (Equal t s ∷ items) l zero h = cc
-call-among (Differ t s ∷ items) l zero h = cc
-call-among (Linear k ∷ items) l zero h = cc
-call-among (Call k ∷ items) l (suc e) h = or_right (same_pred (pred_of l.atom) (pred_of k.atom)) (among (body_preds items) (pred_of l.atom)) (call-among items l e h)
-call-among (Equal t s ∷ items) l (suc e) h = call-among items l e h
-call-among (Differ t s ∷ items) l (suc e) h = call-among items l e h
-call-among (Linear k ∷ items) l (suc e) h = call-among items l e h
+call-among : (body : List Item) (l : Lit) → Contains body (Call l) → among (body_preds body) (pred_of l.atom) ≡ true
+call-among [] l h = absurd (Contains-none (Call l) h)
+call-among (item ∷ items) l h = by item (Contains-cases item items (Call l) h) (λ i. call-among items l i)
+  where
+    by : (first : Item) → (first ≡ Call l) ⊎ Contains items (Call l) → (Contains items (Call l) → among (body_preds items) (pred_of l.atom) ≡ true) → among (body_preds (first ∷ items)) (pred_of l.atom) ≡ true
+    by (Call k) (inl e) rest =
+        let s : k ≡ l = cc in
+        ap (λ (z : Lit). among (pred_of z.atom ∷ body_preds items) (pred_of l.atom)) s ∙ or_left (same_pred (pred_of l.atom) (pred_of l.atom)) (among (body_preds items) (pred_of l.atom)) (pred_same (pred_of l.atom))
+    by (Call k) (inr i) rest = or_right (same_pred (pred_of l.atom) (pred_of k.atom)) (among (body_preds items) (pred_of l.atom)) (rest i)
+    by (Equal t s) (inl e) rest = cc
+    by (Equal t s) (inr i) rest = rest i
+    by (Differ t s) (inl e) rest = cc
+    by (Differ t s) (inr i) rest = rest i
+    by (Linear k) (inl e) rest = cc
+    by (Linear k) (inr i) rest = rest i
 
 -- a body keeps the map where each literal does
-body-keeps : (entries : List PredMap) (p : Pred) (body : List Item) → ((l : Lit) → In (Call l) body → keeps_entry (entry_of entries p) l.positive (entry_of entries (pred_of l.atom)) ≡ true) → list_all (keeps_item entries p) body ≡ true
+body-keeps : (entries : List PredMap) (p : Pred) (body : List Item) → ((l : Lit) → Contains body (Call l) → keeps_entry (entry_of entries p) l.positive (entry_of entries (pred_of l.atom)) ≡ true) → list_all (keeps_item entries p) body ≡ true
 body-keeps entries p [] h = refl
 body-keeps entries p (Call l ∷ items) h =
-    and_from (keeps_item entries p (Call l)) (list_all (keeps_item entries p) items) (h l (0, refl)) (body-keeps entries p items (λ k i. h k (suc i.0, i.1)))
-body-keeps entries p (Equal t s ∷ items) h = body-keeps entries p items (λ k i. h k (suc i.0, i.1))
-body-keeps entries p (Differ t s ∷ items) h = body-keeps entries p items (λ k i. h k (suc i.0, i.1))
-body-keeps entries p (Linear l ∷ items) h = body-keeps entries p items (λ k i. h k (suc i.0, i.1))
+    and_from (keeps_item entries p (Call l)) (list_all (keeps_item entries p) items) (h l (Contains-here (Call l) items))
+    (body-keeps entries p items (λ k i. h k (Contains-there (Call l) items (Call k) i)))
+body-keeps entries p (Equal t s ∷ items) h = body-keeps entries p items (λ k i. h k (Contains-there (Equal t s) items (Call k) i))
+body-keeps entries p (Differ t s ∷ items) h = body-keeps entries p items (λ k i. h k (Contains-there (Differ t s) items (Call k) i))
+body-keeps entries p (Linear l ∷ items) h = body-keeps entries p items (λ k i. h k (Contains-there (Linear l) items (Call k) i))
 
 -- a rule that is not odd keeps the map
 rule-keeps : (program : Program) (a : Analysis) → IsAnalysis program a → (i : ℕ) (c : Clause) (head : Atom) → slice_get program.clauses i ≡ Some c → c.head ≡ Some head → list_any (nat_eq (suc i)) a.odd_rules ≡ false → list_all (keeps_item a.map (pred_of head)) c.body ≡ true
@@ -58,11 +63,11 @@ rule-keeps program a is i c head s e even = body-keeps a.map (pred_of head) c.bo
     p : Pred
     p = pred_of head
 
-    literal : (l : Lit) → In (Call l) c.body → keeps_entry (entry_of a.map (pred_of head)) l.positive (entry_of a.map (pred_of l.atom)) ≡ true
+    literal : (l : Lit) → Contains c.body (Call l) → keeps_entry (entry_of a.map (pred_of head)) l.positive (entry_of a.map (pred_of l.atom)) ≡ true
     literal l h =
         let d : Dependency = record { from = pred_of head; to = pred_of l.atom; negated = not l.positive } in
         let edge : Depends program (pred_of head) (not l.positive) (pred_of l.atom) =
-        clause-depends program i c head d s e (in-flat_map (item_dependencies (pred_of head)) c.body h.0 (Call l) d h.1 (0, refl)) in
+        clause-depends program c head d (Contains-from_get program.clauses i c s) e (Contains-flat_map (item_dependencies (pred_of head)) c.body (Call l) d h (Contains-here d [])) in
         let head-entry : PredMap = entry_of a.map (pred_of head) in
         let body-entry : PredMap = entry_of a.map (pred_of l.atom) in
         elim (is.right.falls (pred_of head) (pred_of l.atom) (not l.positive) edge) [
@@ -78,7 +83,7 @@ rule-keeps program a is i c head s e even = body-keeps a.map (pred_of head) c.bo
                 head = head;
                 head_is = e;
                 below = pred_of l.atom;
-                in_body = call-among c.body l h.0 h.1;
+                in_body = call-among c.body l h;
                 back = same.0;
                 odd = w;
               } in

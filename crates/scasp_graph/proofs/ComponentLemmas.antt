@@ -1,59 +1,40 @@
 -- Components grow root by root.
-use Rattle.std.proofs.Common.{◌≡◌, ◌≢◌, ◌∙◌, ◌∷◌, ℕ, zero, suc, ◌+◌, ◌<◌, ◌≤◌, ◌-◌, ◌⊎◌, Bool, true, false, not, ◌&&◌, cond, List, [], length, map, Option, Some, None, is_some, option_map, slice_get, get_or, replicate, refl, ap, sym, subst, inl, inr, arith}
+use Rattle.std.proofs.Common.{◌≡◌, ◌≢◌, ◌∙◌, ◌∷◌, ℕ, zero, suc, ◌+◌, ◌<◌, ◌≤◌, ◌-◌, ◌⊎◌, Bool, true, false, not, ◌&&◌, cond, List, [], length, map, Option, Some, None, is_some, get_or, replicate, refl, ap, sym, subst, inl, inr, arith}
 use Rattle.std.specs.Prelude.{unwrap_or, nat_eq}
 use Rattle.std.proofs.lemmas.Bool.{cases_Bool, false≢true}
 use Rattle.std.proofs.lemmas.Bool.Decides.{Decides-eqb}
-use Rattle.std.proofs.lemmas.List.{length-replicate, get_or-replicate, get_or_past}
+use Rattle.std.proofs.lemmas.List.{length-replicate, get_or-replicate, get_or_default, get_or_past}
 use Rattle.std.proofs.lemmas.List.Sums.{sum_by-cons}
-use Rattle.std.proofs.lemmas.Option.{slice_get-map, slice_get_within, slice_get-get_or, get_or_from_slice_get}
 use Rattle.scasp_graph.specs.Inside.Components.{turned, member_at, root_of, AreComponents}
-use Rattle.scasp_graph.specs.Inside.Graphs.{edge_at, EdgeIn, EdgeTo, Marks, mark_of, is_marked, odd_of, marked_count, AreBelow, AreClear, IsListed, IsReach, EndsBelow}
+use Rattle.scasp_graph.specs.Inside.Graphs.{edge_at, EdgeIn, EdgeTo, Marks, mark_of, is_marked, odd_of, marked_count, AreBelow, AreClear, IsReach, EndsBelow}
 use Rattle.scasp_graph.specs.Inside.Partitions.{rank_of, IsMember, AreKnown, IsSource, placed, ArePlaced}
 use Rattle.scasp_syntax.specs.Same.{same_bool}
 use Rattle.scasp_graph.specs.Walks.{Walk, Reaches, stays, goes}
 use Rattle.scasp_graph.specs.declared.components.Member.{Member}
 use Rattle.scasp_graph.specs.declared.graph.Edge.{Edge}
 use Rattle.scasp_graph.proofs.GraphLemmas.{below_or_not}
-use Rattle.scasp_graph.proofs.ReachLemmas.{some-is, marked_count-below, marked-below}
+use Rattle.scasp_graph.proofs.ReachLemmas.{place-of, some-is, marked_count-below, marked-below}
 use Rattle.scasp_graph.proofs.WalkLemmas.{differ, kept, reaches-trans, edge-walk}
 use Rattle.scasp_graph.proofs.WalkLemmas as walks
+use Rattle.std.specs.List.{Contains}
+use Rattle.std.proofs.lemmas.List.Elements.{Contains-get_or}
+use Rattle.scasp_list.proofs.MemberLemmas.{Contains-map, Contains-from_map}
 
 -- an edge, by its number
 pub edge-is : (edges : List Edge) (u v : ℕ) (b : Bool) → (e : EdgeIn edges u b v) → (e.0 < length edges) × (edge_at edges e.0 ≡ record { from = u; to = v; negated = b })
-edge-is edges u v b e = (
-  slice_get_within edges e.0 (record { from = u; to = v; negated = b }) e.1,
-  get_or_from_slice_get edges e.0 (record { from = u; to = v; negated = b }) (record { from = 0; to = 0; negated = false }) e.1,
-)
+edge-is edges u v b e = (e.1, get_or_default edges e.0 (record { from = 0; to = 0; negated = false }) (record { from = u; to = v; negated = b }) e.1 ∙ e.2)
 
 pub edge-in : (edges : List Edge) (e : ℕ) → e < length edges → EdgeIn edges (edge_at edges e).from (edge_at edges e).negated (edge_at edges e).to
-edge-in edges e h = (e, slice_get-get_or edges e (record { from = 0; to = 0; negated = false }) h)
+edge-in edges e h = Contains-get_or edges e (record { from = 0; to = 0; negated = false }) h
 
 -- the edges of a list turned round are those of the list
 pub turn : (edges : List Edge) (u v : ℕ) (b : Bool) → EdgeIn edges u b v → EdgeIn (map turned edges) v b u
-turn edges u v b e = (e.0, slice_get-map turned edges e.0 ∙ ap (option_map turned) e.1)
-
-turn-some : (o : Option Edge) (u v : ℕ) (b : Bool) → option_map turned o ≡ Some (record { from = u; to = v; negated = b }) → o ≡ Some (record { from = v; to = u; negated = b })
-turn-some None u v b h = cc
-turn-some (Some x) u v b h =
-    let f : x.to ≡ u = ap (λ o. from_of o) h in
-    let t : x.from ≡ v = ap (λ o. to_of o) h in
-    let n : x.negated ≡ b = ap (λ o. negated_of o) h in
-    λ i. Some (record { from = t i; to = f i; negated = n i })
-  where
-    from_of : Option Edge → ℕ
-    from_of None = 0
-    from_of (Some y) = y.from
-
-    to_of : Option Edge → ℕ
-    to_of None = 0
-    to_of (Some y) = y.to
-
-    negated_of : Option Edge → Bool
-    negated_of None = false
-    negated_of (Some y) = y.negated
+turn edges u v b e = Contains-map turned edges (record { from = u; to = v; negated = b }) e
 
 pub turn-back : (edges : List Edge) (u v : ℕ) (b : Bool) → EdgeIn (map turned edges) u b v → EdgeIn edges v b u
-turn-back edges u v b e = (e.0, turn-some (slice_get edges e.0) u v b (sym (slice_get-map turned edges e.0) ∙ e.1))
+turn-back edges u v b e =
+    let h = Contains-from_map turned edges (record { from = u; to = v; negated = b }) e in
+    subst (Contains edges) (λ i. record { from = (h.2 i).to; to = (h.2 i).from; negated = (h.2 i).negated }) h.1
 
 -- each step of a walk leads to a marked node of `inside`
 pub untold : (edges : List Edge) (inside : Marks) {u v : ℕ} {b : Bool} → Walk (EdgeTo edges inside) u v b → Walk (EdgeIn edges) u v b
@@ -76,6 +57,9 @@ reach-edge size edges inside start marks found r p q b e m i =
 
 pub reach-below : (size : ℕ) (edges : List Edge) (inside : Marks) (start : ℕ) (marks : Marks) (found : List ℕ) → IsReach size edges inside start marks found → (v : ℕ) → is_marked marks v ≡ true → v < size
 reach-below size edges inside start marks found r v h = let b = marked-below marks v h in let s = r.sized in omega (arith, b, s)
+
+pub listed-marked : (size : ℕ) (edges : List Edge) (inside : Marks) (start : ℕ) (marks : Marks) (found : List ℕ) → IsReach size edges inside start marks found → (v : ℕ) → Contains found v → is_marked marks v ≡ true
+listed-marked size edges inside start marks found r v l = ap (is_marked marks) (sym (place-of found v l)) ∙ r.marked l.0 l.1
 
 -- all that leads to the start by nodes that may be visited is marked
 back-marked : (size : ℕ) (edges : List Edge) (free from : Marks) (leading : List ℕ) (start : ℕ) → EndsBelow size edges → IsReach size (map turned edges) free start from leading → {u s : ℕ} {b : Bool} → Walk (EdgeIn edges) u s b → is_marked from s ≡ true → ((w : ℕ) → w < size → Reaches (EdgeIn edges) w s → Reaches (EdgeIn edges) s w → is_marked free w ≡ true) → Reaches (EdgeIn edges) s u → is_marked from u ≡ true
@@ -125,7 +109,7 @@ marked-fewer (m ∷ ms) (n ∷ ns) (suc i) l all k y =
     omega (arith, r, w, count-cons m ms, count-cons n ns)
 
 -- a search from a node that leads to the start, and not back, finds fewer nodes that lead there
-pub source-smaller : (size : ℕ) (edges : List Edge) (free from to after : Marks) (leading nodes later : List ℕ) (start next : ℕ) → IsReach size (map turned edges) free start from leading → IsReach size edges from start to nodes → IsReach size (map turned edges) free next after later → IsListed leading next → is_marked to next ≡ false → length later < length leading
+pub source-smaller : (size : ℕ) (edges : List Edge) (free from to after : Marks) (leading nodes later : List ℕ) (start next : ℕ) → IsReach size (map turned edges) free start from leading → IsReach size edges from start to nodes → IsReach size (map turned edges) free next after later → Contains leading next → is_marked to next ≡ false → length later < length leading
 source-smaller size edges free from to after leading nodes later start next r a n l not-to =
     let fewer = marked-fewer after from start (n.sized ∙ sym r.sized) subset lacks (ap is_some r.started) in
     let x = r.counted in
@@ -133,7 +117,7 @@ source-smaller size edges free from to after leading nodes later start next r a 
     omega (arith, fewer, x, y)
   where
     here : is_marked from next ≡ true
-    here = ap (is_marked from) (sym l.1.1) ∙ r.marked l.0 l.1.0
+    here = listed-marked size (map turned edges) free start from leading r next l
 
     walk : (v : ℕ) → is_marked after v ≡ true → (b : Bool) × Walk (EdgeTo (map turned edges) free) next v b
     walk v h = let s = some-is (mark_of after v) h in (s.0, n.sound v s.0 s.1)
@@ -215,11 +199,11 @@ module _ (size : ℕ) (edges : List Edge) (ends : EndsBelow size edges) (members
   both u x y = back-marked size edges free from source.leading source.start ends source.back y.1 started all-free x
 
   -- the nodes of the component are listed
-  is-listed : (u : ℕ) → is_marked from u ≡ true → IsListed nodes u
+  is-listed : (u : ℕ) → is_marked from u ≡ true → Contains nodes u
   is-listed u h = source.ahead.listed u (source.all u h)
 
-  from-listed : (u : ℕ) → IsListed nodes u → is_marked from u ≡ true
-  from-listed u l = to-from u (ap (is_marked to) (sym l.1.1) ∙ source.ahead.marked l.0 l.1.0)
+  from-listed : (u : ℕ) → Contains nodes u → is_marked from u ≡ true
+  from-listed u l = to-from u (ap (is_marked to) (sym (place-of nodes u l)) ∙ source.ahead.marked l.0 l.1)
 
   root-from : is_marked from made.root ≡ true
   root-from = from-listed made.root made.listed
@@ -230,7 +214,7 @@ module _ (size : ℕ) (edges : List Edge) (ends : EndsBelow size edges) (members
   taken : (u : ℕ) → is_marked from u ≡ true → is_marked rest u ≡ false
   taken u h = (made.each u (is-listed u h)).1
 
-  unlisted : (u : ℕ) → is_marked from u ≡ false → IsListed nodes u → ⊥
+  unlisted : (u : ℕ) → is_marked from u ≡ false → Contains nodes u → ⊥
   unlisted u h l = false≢true (sym h ∙ from-listed u l)
 
   old : (u : ℕ) → is_marked from u ≡ false → member_at after u ≡ member_at members u
@@ -409,7 +393,7 @@ source-found size edges free from to leading nodes s h =
       leading = leading;
       back = s.back;
       ahead = s.ahead;
-      all = λ v m. let k = s.back.listed v m in ap (is_marked to) (sym k.1.1) ∙ h k.0 k.1.0;
+      all = λ v m. let k = s.back.listed v m in ap (is_marked to) (sym (place-of leading v k)) ∙ h k.0 k.1;
     }
 
 -- the nodes found are nodes

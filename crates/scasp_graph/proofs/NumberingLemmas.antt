@@ -1,9 +1,11 @@
 -- Predicates and their places in a list without repeats.
 use Rattle.std.proofs.Common.{◌≡◌, ◌∙◌, ◌∷◌, ◌++◌, ℕ, zero, suc, ◌+◌, ◌<◌, Bool, true, false, ◌&&◌, ◌||◌, not, List, [], length, get_or, Option, Some, None, slice_get, refl, ap, sym, subst, inl, inr, arith, add-one}
 use Rattle.std.specs.Prelude.{filter}
-use Rattle.std.specs.List.{list_any, list_all, flat_map}
+use Rattle.std.specs.List.{Contains, list_any, list_all, flat_map}
 use Rattle.std.proofs.lemmas.Bool.{cases_Bool, false≢true, and_parts, and_from, or_left, or_right, cond-true, cond-false, not-true}
 use Rattle.std.proofs.lemmas.List.Folds.{list_any-append, list_all-append}
+use Rattle.std.proofs.lemmas.Option.{get_or_from_slice_get, slice_get_within}
+use Rattle.scasp_list.proofs.MemberLemmas.{Contains-flat_map, Contains-here, Contains-there, list_all-member}
 use Rattle.scasp_syntax.specs.Programs.{pred_of, body_preds, clause_preds, head_preds, first_occurrences, predicates}
 use Rattle.scasp_syntax.specs.Same.{same_pred}
 use Rattle.scasp_syntax.specs.declared.atom.Atom.{Atom}
@@ -145,35 +147,9 @@ before-at (x ∷ xs) (suc i) (suc j) d l h =
     cond-false (same_pred (pred_at xs j) x) false (same_pred (pred_at xs i) x || comes_before xs (pred_at xs i) (pred_at xs j)) (differs-at x xs j p.0 (omega (arith, h)))
     ∙ or_right (same_pred (pred_at xs i) x) (comes_before xs (pred_at xs i) (pred_at xs j)) (before-at xs i j p.1 (omega (arith, l)) (omega (arith, h)))
 
--- an element of a list, by its place
-abbrev pub In : {X : Type 0} → X → List X → Type 0
-In x xs = (e : ℕ) × (slice_get xs e ≡ Some x)
-
-pub in-left : {X : Type 0} (xs ys : List X) (x : X) → In x xs → In x (xs ++ ys)
-in-left {X} xs ys x h = (h.0, by xs h.0 h.1)
-  where
-    by : (zs : List X) (e : ℕ) → slice_get zs e ≡ Some x → slice_get (zs ++ ys) e ≡ Some x
-    by [] e k = cc
-    by (z ∷ zs) zero k = k
-    by (z ∷ zs) (suc e) k = by zs e k
-
-pub in-right : {X : Type 0} (xs ys : List X) (x : X) → In x ys → In x (xs ++ ys)
-in-right [] ys x h = h
-in-right (z ∷ zs) ys x h = let r = in-right zs ys x h in (suc r.0, r.1)
-
-pub in-flat_map : {X Y : Type 0} (f : X → List Y) (xs : List X) (i : ℕ) (x : X) (y : Y) → slice_get xs i ≡ Some x → In y (f x) → In y (flat_map f xs)
-in-flat_map {X} {Y} f [] i x y h k = cc
-in-flat_map {X} {Y} f (z ∷ zs) zero x y h k =
-    let e : z ≡ x = cc in
-    let P = λ (w : X). In y (f w ++ flat_map f zs) in
-    subst P (sym e) (in-left (f x) (flat_map f zs) y k)
-in-flat_map {X} {Y} f (z ∷ zs) (suc i) x y h k = in-right (f z) (flat_map f zs) y (in-flat_map f zs i x y h k)
-
-pub all-at : {X : Type 0} (f : X → Bool) (xs : List X) (e : ℕ) (x : X) → list_all f xs ≡ true → slice_get xs e ≡ Some x → f x ≡ true
-all-at f [] e x a h = cc
-all-at f (z ∷ zs) zero x a h =
-    let k : z ≡ x = cc in let p = and_parts (f z) (list_all f zs) a in ap f (sym k) ∙ p.0
-all-at f (z ∷ zs) (suc e) x a h = let p = and_parts (f z) (list_all f zs) a in all-at f zs e x p.1 h
+-- what stands at a place is a member
+pub Contains-from_get : {X : Type 0} → (xs : List X) (i : ℕ) (x : X) → slice_get xs i ≡ Some x → Contains xs x
+Contains-from_get xs i x h = (i, slice_get_within xs i x h, get_or_from_slice_get xs i x x h)
 
 -- both predicates of the dependency are in the list
 abbrev ends_among : List Pred → Dependency → Bool
@@ -211,32 +187,34 @@ depends-among program p q b e =
     let all = clauses-ends (predicates program) program.clauses
     (λ r m. among-first (cs ++ qs) r (list_any-append (same_pred r) cs qs ∙ or_left (among cs r) (among qs r) m)) in
     let d : Dependency = record { from = p; to = q; negated = b } in
-    let t = all-at (ends_among (predicates program)) (dependencies program) e.0 d all e.1 in
+    let t = list_all-member (ends_among (predicates program)) (dependencies program) d all e in
     and_parts (among (predicates program) p) (among (predicates program) q) t
 
-body-depends : (p q : Pred) (body : List Item) → among (body_preds body) q ≡ true → (b : Bool) × In (record { from = p; to = q; negated = b }) (flat_map (item_dependencies p) body)
+body-depends : (p q : Pred) (body : List Item) → among (body_preds body) q ≡ true → (b : Bool) × Contains (flat_map (item_dependencies p) body) (record { from = p; to = q; negated = b })
 body-depends p q [] h = absurd (false≢true h)
 body-depends p q (Call l ∷ items) h =
+    let first : Dependency = record { from = p; to = pred_of l.atom; negated = not l.positive } in
     elim (cases_Bool (same_pred q (pred_of l.atom))) [
       | inl s ↦
           (let e = pred_is q (pred_of l.atom) s in
-          (not l.positive, (0, ap (λ z. Some (record { from = p; to = z; negated = not l.positive })) (sym e))))
+          (not l.positive, subst (λ z. Contains (first ∷ flat_map (item_dependencies p) items) (record { from = p; to = z; negated = not l.positive })) (sym e) (Contains-here first (flat_map (item_dependencies p) items))))
       | inr s ↦
           (let rest : among (body_preds items) q ≡ true = sym (ap (λ z. z || among (body_preds items) q) s) ∙ h in
-          let r = body-depends p q items rest in (r.0, (suc r.1.0, r.1.1)))
+          let r = body-depends p q items rest in
+          (r.0, Contains-there first (flat_map (item_dependencies p) items) (record { from = p; to = q; negated = r.0 }) r.1))
     ]
 body-depends p q (Equal t s ∷ items) h = body-depends p q items h
 body-depends p q (Differ t s ∷ items) h = body-depends p q items h
 body-depends p q (Linear l ∷ items) h = body-depends p q items h
 
 -- what a rule's body makes, the program has
-pub clause-depends : (program : Program) (i : ℕ) (c : Clause) (a : Atom) (d : Dependency) → slice_get program.clauses i ≡ Some c → c.head ≡ Some a → In d (flat_map (item_dependencies (pred_of a)) c.body) → In d (dependencies program)
-clause-depends program i c a d s h k =
-    let P : Option Atom → Type 0 = λ o. In d (body_dependencies o c.body) in
-    in-flat_map clause_dependencies program.clauses i c d s (subst P (sym h) k)
+pub clause-depends : (program : Program) (c : Clause) (a : Atom) (d : Dependency) → Contains program.clauses c → c.head ≡ Some a → Contains (flat_map (item_dependencies (pred_of a)) c.body) d → Contains (dependencies program) d
+clause-depends program c a d i h k =
+    let P : Option Atom → Type 0 = λ o. Contains (body_dependencies o c.body) d in
+    Contains-flat_map clause_dependencies program.clauses c d i (subst P (sym h) k)
 
 -- the head's predicate depends on each of the body
 pub rule-depends : (program : Program) (i : ℕ) (c : Clause) (a : Atom) (q : Pred) → slice_get program.clauses i ≡ Some c → c.head ≡ Some a → among (body_preds c.body) q ≡ true → (b : Bool) × Depends program (pred_of a) b q
 rule-depends program i c a q s h m =
     let r = body-depends (pred_of a) q c.body m in
-    (r.0, clause-depends program i c a (record { from = pred_of a; to = q; negated = r.0 }) s h r.1)
+    (r.0, clause-depends program c a (record { from = pred_of a; to = q; negated = r.0 }) (Contains-from_get program.clauses i c s) h r.1)

@@ -4,10 +4,12 @@ use Rattle.std.proofs.Math.ListN.{set}
 use Rattle.std.specs.Prelude.{is_some}
 use Rattle.std.proofs.lemmas.List.{length-set}
 use Rattle.scasp_graph.specs.Inside.Components.{member_at}
-use Rattle.scasp_graph.specs.Inside.Graphs.{Marks, mark_of, is_marked, IsListed}
+use Rattle.scasp_graph.specs.Inside.Graphs.{Marks, mark_of, is_marked}
 use Rattle.scasp_graph.specs.Inside.Partitions.{placed, ArePlaced}
 use Rattle.scasp_graph.specs.declared.components.Member.{Member}
 use Rattle.scasp_graph.proofs.GraphLemmas.{same_or_not, last_or_below}
+use Rattle.scasp_graph.proofs.ReachLemmas.{member-at, place-of}
+use Rattle.std.specs.List.{Contains}
 
 abbrev IsNew : ℕ → ℕ → Marks → Marks → List Member → Marks → ℕ → Type 0
 IsNew root rank from to after rest u = (member_at after u ≡ placed root rank from to u) × (is_marked rest u ≡ false)
@@ -20,7 +22,7 @@ pub record Placing (members : List Member) (free : Marks) (root rank : ℕ) (nod
   pub sized : length after ≡ length members
   pub freed : length rest ≡ length free
   pub done : (k : ℕ) → k < n → IsNew root rank from to after rest (get_or nodes k 0)
-  pub others : (u : ℕ) → IsListed nodes u ⊎ IsOld members free after rest u
+  pub others : (u : ℕ) → Contains nodes u ⊎ IsOld members free after rest u
 
 pub placing-first : (members : List Member) (free : Marks) (root rank : ℕ) (nodes : List ℕ) (from to : Marks) → Placing members free root rank nodes from to members free 0
 placing-first members free root rank nodes from to =
@@ -51,7 +53,7 @@ placing-more members free root rank nodes from to after rest n node m p more is 
       others =
           λ u.
           elim (same_or_not u node) [
-            | inl s ↦ inl (n, (more, sym is ∙ sym s))
+            | inl s ↦ inl (member-at nodes n u more (sym is ∙ sym s))
             | inr d ↦
                 elim (p.others u) [
                   | inl l ↦ inl l
@@ -67,17 +69,17 @@ placing-more members free root rank nodes from to after rest n node m p more is 
       ap (is_marked (set rest node None)) s ∙ ap is_some (get_or-set_same rest node None None in-free),
     )
 
-pub placing-all : (members : List Member) (free : Marks) (root rank : ℕ) (nodes : List ℕ) (from to : Marks) (after : List Member) (rest : Marks) (n : ℕ) → Placing members free root rank nodes from to after rest n → length nodes ≤ n → IsListed nodes root → ((k : ℕ) → k < length nodes → root ≤ get_or nodes k 0) → ArePlaced members free rank nodes from to after rest
+pub placing-all : (members : List Member) (free : Marks) (root rank : ℕ) (nodes : List ℕ) (from to : Marks) (after : List Member) (rest : Marks) (n : ℕ) → Placing members free root rank nodes from to after rest n → length nodes ≤ n → Contains nodes root → ((k : ℕ) → k < length nodes → root ≤ get_or nodes k 0) → ArePlaced members free rank nodes from to after rest
 placing-all members free root rank nodes from to after rest n p h listed least =
     record {
       sized = p.sized;
       freed = p.freed;
       root = root;
       listed = listed;
-      least = λ u l. let b = least l.0 l.1.0 in let e = l.1.1 in omega (arith, b, e);
+      least = λ u l. let b = least l.0 l.1 in let e = place-of nodes u l in omega (arith, b, e);
       each =
           λ u l.
-          let k : l.0 < n = let b = l.1.0 in omega (arith, b, h) in
-          subst (λ v. IsNew root rank from to after rest v) l.1.1 (p.done l.0 k);
+          let k : l.0 < n = let b = l.1 in omega (arith, b, h) in
+          subst (λ v. IsNew root rank from to after rest v) (place-of nodes u l) (p.done l.0 k);
       others = λ u no. elim (p.others u) [ inl l ↦ absurd (no l) | inr q ↦ q ];
     }

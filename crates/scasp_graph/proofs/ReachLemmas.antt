@@ -5,21 +5,29 @@ use Rattle.std.proofs.Math.ListN.{set}
 use Rattle.std.proofs.lemmas.Bool.{cases_Bool, cond-true, cond-false, false≢true, and_parts, and_from, not-true}
 use Rattle.std.proofs.lemmas.List.{get_or_append_left, length-set, get_or_default, get_or_past}
 use Rattle.std.proofs.lemmas.List.Sums.{sum_by-set, sum_by-le}
-use Rattle.std.proofs.lemmas.Option.{slice_get-get_or}
 use Rattle.std.proofs.Math.Seq.{get_or-append_seam}
-use Rattle.scasp_graph.specs.Inside.Graphs.{edge_at, EdgeIn, EdgeTo, Marks, mark_of, is_marked, marked_count, AreClear, IsListed, IsReach, IsLastFrom, EndsBelow}
+use Rattle.scasp_graph.specs.Inside.Graphs.{edge_at, EdgeIn, EdgeTo, Marks, mark_of, is_marked, marked_count, AreClear, IsReach, IsLastFrom, EndsBelow}
 use Rattle.scasp_graph.specs.Inside.Searching.{is_new, with_mark, with_node}
 use Rattle.scasp_graph.specs.Walks.{Walk, stays}
 use Rattle.scasp_graph.specs.declared.graph.Edge.{Edge}
 use Rattle.scasp_graph.proofs.WalkLemmas.{differ, walk-edge}
 use Rattle.scasp_graph.proofs.GraphLemmas.{same_or_not, last_or_below, below_or_not}
+use Rattle.std.proofs.lemmas.List.Elements.{Contains-get_or, Contains-append_left, Contains-push}
+use Rattle.std.specs.List.{Contains}
+
+-- a member stands at a place of the list
+pub member-at : (nodes : List ℕ) (k v : ℕ) → k < length nodes → get_or nodes k 0 ≡ v → Contains nodes v
+member-at nodes k v lt e = (k, lt, get_or_default nodes k v 0 lt ∙ e)
+
+pub place-of : (nodes : List ℕ) (v : ℕ) (c : Contains nodes v) → get_or nodes c.0 0 ≡ v
+place-of nodes v c = get_or_default nodes c.0 0 v c.1 ∙ c.2
 
 -- walks lead to the marked nodes, which are those of the queue
 pub record Found (size : ℕ) (edges : List Edge) (inside : Marks) (start : ℕ) (marks : Marks) (queue : List ℕ) : Type 0 where
   pub sized : length marks ≡ size
   pub within : (v : ℕ) → is_marked marks v ≡ true → is_marked inside v ≡ true
   pub sound : (v : ℕ) (b : Bool) → mark_of marks v ≡ Some b → Walk (EdgeTo edges inside) start v b
-  pub queued : (v : ℕ) → is_marked marks v ≡ true → IsListed queue v
+  pub queued : (v : ℕ) → is_marked marks v ≡ true → Contains queue v
   pub marked : (k : ℕ) → k < length queue → is_marked marks (get_or queue k 0) ≡ true
   pub counted : length queue ≡ marked_count marks
 
@@ -115,12 +123,10 @@ found-new size edges inside start marks queue v b f below walk allowed new =
       queued =
           λ w e.
           elim (same_or_not w v) [
-            | inl s ↦ (length queue, (let l = length-append queue (v ∷ []) in omega (arith, l), get_or-append_seam queue v [] 0 ∙ sym s))
+            | inl s ↦ subst (Contains (queue ++ v ∷ [])) (sym s) (Contains-push queue v)
             | inr d ↦
                 (let old : is_marked marks w ≡ true = ap is_some (sym (get_or-set_other marks v w (Some b) None d)) ∙ e in
-                let q = f.queued w old in
-                let l = length-append queue (v ∷ []) in
-                (q.0, (omega (arith, q.1.0, l), get_or_append_left queue (v ∷ []) 0 q.0 q.1.0 ∙ q.1.1)))
+                Contains-append_left queue (v ∷ []) w (f.queued w old))
           ];
       marked =
           λ k h.
@@ -251,11 +257,8 @@ going-more size edges inside start marks queue done node parity at v z =
     }
 
 edge-here : (edges : List Edge) (e u : ℕ) → e < length edges → (edge_at edges e).from ≡ u → EdgeIn edges u (edge_at edges e).negated (edge_at edges e).to
-edge-here edges e u h f = (
-  e,
-  slice_get-get_or edges e (record { from = 0; to = 0; negated = false }) h
-      ∙ ap (λ z. Some (record { from = z; to = (edge_at edges e).to; negated = (edge_at edges e).negated })) f,
-)
+edge-here edges e u h f =
+    subst (λ z. EdgeIn edges z (edge_at edges e).negated (edge_at edges e).to) f (Contains-get_or edges e (record { from = 0; to = 0; negated = false }) h)
 
 pub visiting-more : (size : ℕ) (edges : List Edge) (inside : Marks) (start : ℕ) (marks after : Marks) (queue queued : List ℕ) (done node : ℕ) (parity : Bool) (at next : ℕ) → EndsBelow size edges → Visiting size edges inside start marks queue done node parity at → 0 < at → after ≡ with_mark inside marks (edge_at edges (at - 1)).to (differ parity (edge_at edges (at - 1)).negated) → queued ≡ with_node inside marks queue (edge_at edges (at - 1)).to → IsLastFrom edges (edge_at edges (at - 1)).from (at - 1) next → Visiting size edges inside start after queued done node parity next
 visiting-more size edges inside start marks after queue queued done node parity at next ends v pos a q l =
@@ -329,8 +332,8 @@ reach-found size edges inside start marks queue done g h =
       closed =
           λ e b m i.
           let q = g.found.queued (edge_at edges e).from m in
-          let lt : q.0 < done = let w = q.1.0 in omega (arith, h, w) in
-          g.closed q.0 e lt b (sym q.1.1) i;
+          let lt : q.0 < done = let w = q.1 in omega (arith, h, w) in
+          g.closed q.0 e lt b (sym (place-of queue (edge_at edges e).from q)) i;
       listed = g.found.queued;
       marked = g.found.marked;
       counted = g.found.counted;
@@ -341,11 +344,11 @@ pub record Clearing (size : ℕ) (marks : Marks) (nodes : List ℕ) (n : ℕ) : 
   pub sized : length marks ≡ size
   pub left : (v : ℕ) → is_marked marks v ≡ true → (k : ℕ) × ((n ≤ k) × ((k < length nodes) × (get_or nodes k 0 ≡ v)))
 
-pub clearing-first : (size : ℕ) (marks : Marks) (nodes : List ℕ) → length marks ≡ size → ((v : ℕ) → is_marked marks v ≡ true → IsListed nodes v) → Clearing size marks nodes 0
+pub clearing-first : (size : ℕ) (marks : Marks) (nodes : List ℕ) → length marks ≡ size → ((v : ℕ) → is_marked marks v ≡ true → Contains nodes v) → Clearing size marks nodes 0
 clearing-first size marks nodes l h =
     record {
       sized = l;
-      left = λ v e. let k = h v e in (k.0, (omega arith, k.1));
+      left = λ v e. let k = h v e in (k.0, (omega arith, (k.1, place-of nodes v k)));
     }
 
 pub clearing-more : (size : ℕ) (marks : Marks) (nodes : List ℕ) (n node : ℕ) → Clearing size marks nodes n → node < length marks → node ≡ get_or nodes n 0 → Clearing size (set marks node None) nodes (n + 1)

@@ -1,6 +1,6 @@
 -- Small cases of the definitions, computed.
 use Rattle.std.specs.Prelude.{◌≡◌, ℕ, Bool, true, false, List, [], ◌∷◌, Some, None}
-use Rattle.std.proofs.Common.{refl}
+use Rattle.std.proofs.Common.{lit<, refl}
 use Rattle.scasp_syntax.specs.Programs.{pred_of, predicates}
 use Rattle.scasp_syntax.specs.Tm.{nil}
 use Rattle.scasp_syntax.specs.declared.atom.Atom.{Atom}
@@ -97,7 +97,7 @@ odd_by_itself =
       below = pred_of p;
       in_body = refl;
       back = (false, stays (pred_of p));
-      odd = goes (pred_of p) (pred_of p) (pred_of p) true false (0, refl) (stays (pred_of p));
+      odd = goes (pred_of p) (pred_of p) (pred_of p) true false (0, lit< tt, refl) (stays (pred_of p));
     }
 
 abbrev r : Atom
@@ -119,11 +119,11 @@ odd_by_a_long_walk =
       head_is = refl;
       below = pred_of q;
       in_body = refl;
-      back = (false, goes (pred_of q) (pred_of s) (pred_of p) false false (2, refl) (goes (pred_of s) (pred_of p) (pred_of p) false false (4, refl) (stays (pred_of p))));
+      back = (false, goes (pred_of q) (pred_of s) (pred_of p) false false (2, lit< tt, refl) (goes (pred_of s) (pred_of p) (pred_of p) false false (4, lit< tt, refl) (stays (pred_of p))));
       odd =
-          goes (pred_of p) (pred_of q) (pred_of p) false true (0, refl)
-          (goes (pred_of q) (pred_of r) (pred_of p) false true (1, refl)
-          (goes (pred_of r) (pred_of q) (pred_of p) true false (3, refl)
-          (goes (pred_of q) (pred_of s) (pred_of p) false false (2, refl)
-          (goes (pred_of s) (pred_of p) (pred_of p) false false (4, refl) (stays (pred_of p))))));
+          goes (pred_of p) (pred_of q) (pred_of p) false true (0, lit< tt, refl)
+          (goes (pred_of q) (pred_of r) (pred_of p) false true (1, lit< tt, refl)
+          (goes (pred_of r) (pred_of q) (pred_of p) true false (3, lit< tt, refl)
+          (goes (pred_of q) (pred_of s) (pred_of p) false false (2, lit< tt, refl)
+          (goes (pred_of s) (pred_of p) (pred_of p) false false (4, lit< tt, refl) (stays (pred_of p))))));
     }

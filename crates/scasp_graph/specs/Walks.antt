@@ -1,6 +1,6 @@
 -- How predicates depend on one another, and walks along these dependencies.
-use Rattle.std.specs.Prelude.{◌≡◌, ℕ, Bool, false, not, List, [], ◌∷◌, Option, None, Some, slice_get}
-use Rattle.std.specs.List.{flat_map}
+use Rattle.std.specs.Prelude.{Bool, false, not, List, [], ◌∷◌, Option, None, Some}
+use Rattle.std.specs.List.{Contains, flat_map}
 use Rattle.scasp_syntax.specs.Programs.{pred_of}
 use Rattle.scasp_syntax.specs.Same.{same_bool}
 use Rattle.scasp_syntax.specs.declared.atom.Atom.{Atom}
@@ -35,7 +35,7 @@ dependencies program = flat_map clause_dependencies program.clauses
 
 -- an edge from p to q: some rule of p has a literal of q, which is negated or not
 abbrev pub Depends : Program → Pred → Bool → Pred → Type 0
-Depends program p negated q = (e : ℕ) × (slice_get (dependencies program) e ≡ Some (record { from = p; to = q; negated = negated }))
+Depends program p negated q = Contains (dependencies program) (record { from = p; to = q; negated = negated })
 
 -- a walk along edges, and whether an odd number of them is negated
 pub data Walk {N : Type 0} (Edge : N → Bool → N → Type 0) : N → N → Bool → Type 0 where

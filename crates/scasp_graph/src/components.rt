@@ -1,8 +1,9 @@
 //! Strong components of a graph, each found by a search backwards and a search forwards from one of its nodes
 //! (Sharir 1981), among the nodes whose component is not known yet.
 ghost use Rattle.std.specs.Prelude.{◌≡◌, ◌<◌, ◌≤◌, ℕ, List, true, false, length, map, slice_index_or, MatchOption, IfOk, OnOk};
+ghost use Rattle.std.specs.List.{Contains};
 ghost use Rattle.scasp_graph.specs.Inside.Components.{turned, AreComponents};
-ghost use Rattle.scasp_graph.specs.Inside.Graphs.{AreBelow, AreClear, IsGraph, IsListed, is_marked};
+ghost use Rattle.scasp_graph.specs.Inside.Graphs.{AreBelow, AreClear, IsGraph, is_marked};
 ghost use Rattle.scasp_graph.specs.Inside.Partitions.{ArePlaced, IsPartition, IsSource};
 ghost use Rattle.scasp_graph.specs.declared.graph.Edge.{Edge as ThisEdge};
 
@@ -54,7 +55,7 @@ impl Partition {
 /// The first of the nodes that is not marked.
 fn first_unmarked(nodes: &[usize], marks: &[Option<bool>]) -> Option<usize>
     requires { AreBelow (length marks.now) nodes.now }
-    ensures { MatchOption result ((k : ℕ) → k < length nodes.now → is_marked marks.now (slice_index_or nodes.now k 0) ≡ true) (λ v. IsListed nodes.now v × (is_marked marks.now v ≡ false)) }
+    ensures { MatchOption result ((k : ℕ) → k < length nodes.now → is_marked marks.now (slice_index_or nodes.now k 0) ≡ true) (λ v. Contains nodes.now v × (is_marked marks.now v ≡ false)) }
 {
     for node in nodes {
         if marks[*node].is_none() {
@@ -67,7 +68,7 @@ fn first_unmarked(nodes: &[usize], marks: &[Option<bool>]) -> Option<usize>
 /// The least of the nodes.
 fn least(nodes: &[usize]) -> usize
     requires { 0 < length nodes.now }
-    ensures listed { IsListed nodes.now result }
+    ensures listed { Contains nodes.now result }
     ensures least { (k : ℕ) → k < length nodes.now → result ≤ slice_index_or nodes.now k 0 }
 {
     let mut least = nodes[0];

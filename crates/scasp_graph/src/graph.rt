@@ -1,6 +1,7 @@
 //! Graphs whose nodes are numbers, and what can be reached in them.
 ghost use Rattle.std.specs.Prelude.{◌≡◌, ℕ, true, Some, not, ◌<◌, ◌≤◌, length, IfOk, OnOk};
-ghost use Rattle.scasp_graph.specs.Inside.Graphs.{AreBelow, AreClear, EndsBelow, IsGraph, IsListed, IsReach, is_marked, mark_of, odd_of};
+ghost use Rattle.std.specs.List.{Contains};
+ghost use Rattle.scasp_graph.specs.Inside.Graphs.{AreBelow, AreClear, EndsBelow, IsGraph, IsReach, is_marked, mark_of, odd_of};
 ghost use Rattle.scasp_syntax.specs.Same.{same_bool};
 ghost use Rattle.scasp_graph.specs.Inside.Searching.{with_mark, with_node};
 
@@ -129,7 +130,7 @@ fn mark(
 /// Takes the marks away, all of which are at these nodes.
 pub fn clear(marks: &mut Vec<Option<bool>>, nodes: &[usize])
     requires within { AreBelow (length marks.old.items) nodes.now }
-    requires listed { (v : ℕ) → is_marked marks.old.items v ≡ true → IsListed nodes.now v }
+    requires listed { (v : ℕ) → is_marked marks.old.items v ≡ true → Contains nodes.now v }
     ensures { AreClear (length marks.old.items) marks.new.items }
 {
     for node in nodes {

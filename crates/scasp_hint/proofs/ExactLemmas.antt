@@ -26,7 +26,6 @@ use Rattle.scasp_unify.specs.Parts.{Part, parts}
 use Rattle.scasp_unify.specs.Resolver.{unifies, resolver}
 use Rattle.scasp_unify.specs.Unification.{Absorbs}
 use Rattle.scasp_unify.specs.Numbers.{number_var, is_number_term, is_num_of, is_among_numbers}
-use Rattle.scasp_unify.specs.Sorted.{In}
 use Rattle.scasp_unify.specs.Points.{read_as, through}
 use Rattle.scasp_unify.specs.PointMeets.{PointMeets, PartsDiffer}
 use Rattle.scasp_syntax.specs.declared.con.Con.{Con}
@@ -34,9 +33,10 @@ use Rattle.scasp_syntax.specs.declared.con.Con.TheVariants as con
 use Rattle.scasp_syntax.proofs.SameLemmas.{tm_decided}
 use Rattle.scasp_unify.proofs.UnificationLemmas.{resolved-twice}
 use Rattle.scasp_unify.proofs.ResolverLemmas.{idempotent}
-use Rattle.scasp_unify.proofs.Members.{any-out}
 use Rattle.scasp_unify.proofs.PointLemmas.{holds-same}
 use Rattle.scasp_hint.specs.ExactRows.{difference, row_by, bindings, con_rows, rows_under, differences, if_among, disequation_by, con_differs, differing_in}
+use Rattle.std.specs.List.{Contains}
+use Rattle.scasp_list.proofs.MemberLemmas.{list_any-member}
 
 -- ---- a variable compared with what it stands for
 
@@ -81,8 +81,8 @@ difference-holds p x (app f ts) = ((λ h. refl), (λ h. omega (arith, ints)))
 pub unbound : (cs : List Con) → unifies cs ≡ true → (y : ℕ) → number_var cs y ≡ true → resolver cs y ≡ var y
 unbound cs u y e = by d.0 d.2
   where
-    d : (c : Con) × In c cs × (is_num_of (resolver cs) (var y) c ≡ true)
-    d = any-out (is_num_of (resolver cs) (var y)) cs e
+    d : (c : Con) × Contains cs c × (is_num_of (resolver cs) (var y) c ≡ true)
+    d = list_any-member (is_num_of (resolver cs) (var y)) cs e
 
     by : (c : Con) → is_num_of (resolver cs) (var y) c ≡ true → resolver cs y ≡ var y
     by (con.Num t) f =

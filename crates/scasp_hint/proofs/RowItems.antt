@@ -1,6 +1,6 @@
 -- A row each of whose variables was assumed to be a number in a part of the list leaves the list sorted.
 use Rattle.std.proofs.Common.{◌≡◌, ◌⊎◌, inl, inr, Bool, true, false, List, [], ◌∷◌, ◌++◌, refl, sym, ◌∙◌}
-use Rattle.std.specs.List.{list_any, list_all}
+use Rattle.std.specs.List.{list_any, list_all, Contains}
 use Rattle.std.proofs.lemmas.Bool.{true≢false, and_from}
 use Rattle.scasp_num.specs.declared.linear.Coeff.{Coeff}
 use Rattle.scasp_num.specs.Linear.{Linear, negation}
@@ -8,7 +8,7 @@ use Rattle.scasp_list.specs.Each.{Each}
 use Rattle.scasp_syntax.specs.Constraints.{Sat, Entails}
 use Rattle.scasp_unify.specs.Resolver.{unifies}
 use Rattle.scasp_unify.specs.Numbers.{counts}
-use Rattle.scasp_unify.specs.Sorted.{In, Sorted}
+use Rattle.scasp_unify.specs.Sorted.{Sorted}
 use Rattle.scasp_unify.specs.TermFailures.{is_refuted}
 use Rattle.scasp_syntax.specs.declared.con.Con.{Con}
 use Rattle.scasp_syntax.specs.declared.con.Con.TheVariants as con
@@ -27,7 +27,7 @@ Assumed some ks = Each (λ (k : Coeff). (counts some k.x ≡ true) ⊎ Entails s
 abbrev BothSorted : List Con → Linear → Type 0
 BothSorted cs r = Sorted (cs ++ con.Row r ∷ []) × Sorted (cs ++ con.Row (negation r) ∷ [])
 
-all-counted : (some cs : List Con) (ks : List Coeff) → Each (λ c. In c cs) some → unifies cs ≡ true → Sorted some → Sat some → Assumed some ks → list_all (λ k. counts cs k.x) ks ≡ true
+all-counted : (some cs : List Con) (ks : List Coeff) → Each (Contains cs) some → unifies cs ≡ true → Sorted some → Sat some → Assumed some ks → list_all (λ k. counts cs k.x) ks ≡ true
 all-counted some cs [] within u s m a = refl
 all-counted some cs (k ∷ ks) within u s m a = and_from _ _ (counting some cs k.x within u (by a.0)) (all-counted some cs ks within u s m a.1)
   where
@@ -38,7 +38,7 @@ all-counted some cs (k ∷ ks) within u s m a = and_from _ _ (counting some cs k
 unmet-sorted : (cs : List Con) (r : Linear) → Sorted cs → (Sat cs → ⊥) → BothSorted cs r
 unmet-sorted cs r s none = (without-valuation cs (con.Row r ∷ []) s none, without-valuation cs (con.Row (negation r) ∷ []) s none)
 
-pub item-sorted : (some cs : List Con) (r : Linear) → Each (λ c. In c cs) some → Sorted some → Sorted cs → Assumed some r.coeffs → BothSorted cs r
+pub item-sorted : (some cs : List Con) (r : Linear) → Each (Contains cs) some → Sorted some → Sorted cs → Assumed some r.coeffs → BothSorted cs r
 item-sorted some cs r within s t a = by (sat some) refl
   where
     met : Sat some → (b : Bool) → unifies cs ≡ b → BothSorted cs r

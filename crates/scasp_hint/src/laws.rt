@@ -1,6 +1,6 @@
 //! What holds of hints, and of the lists of constraints that they show to have no valuation.
 ghost use Rattle.std.specs.Prelude.{◌≡◌, ◌≢◌, ◌↔◌, ◌⊎◌, ℕ, true, false, List, ◌++◌, ◌∷◌, [], None};
-ghost use Rattle.std.specs.List.{list_all};
+ghost use Rattle.std.specs.List.{Contains, list_all};
 ghost use Rattle.scasp_list.specs.Each.{Each};
 ghost use Rattle.scasp_num.specs.Linear.{Linear, negation};
 ghost use Rattle.scasp_num.specs.declared.hints.Step.{Step as ThisStep};
@@ -12,7 +12,7 @@ ghost use Rattle.scasp_syntax.specs.declared.hint.Hint.TheVariants as hints;
 ghost use Rattle.scasp_syntax.specs.declared.term.Term.TheVariants.{Var as TermVar};
 ghost use Rattle.scasp_unify.specs.Negations.{is_con_below, negated};
 ghost use Rattle.scasp_unify.specs.Numbers.{counts};
-ghost use Rattle.scasp_unify.specs.Sorted.{In, Sorted};
+ghost use Rattle.scasp_unify.specs.Sorted.{Sorted};
 ghost use Rattle.scasp_hint.specs.AskedRows.{RowsNormal};
 ghost use Rattle.scasp_hint.specs.Finding.{found, hint, nothing, overflows_in, unknown_list};
 ghost use Rattle.scasp_hint.specs.Satisfying.{HasPoint, sat};
@@ -61,5 +61,5 @@ pub fn multipliers_are_in_range()
 /// A row, and its negation, leave a list sorted where a part of it counts each of the row's variables as a number, or
 /// entails that it is one.
 pub fn rows_of_items_are_sorted()
-    ensures { (part cs : List ThisCon) (r : Linear) → Each (λ c. In c cs) part → Sorted part → Sorted cs → Each (λ k. (counts part k.x ≡ true) ⊎ Entails part (con.Num (TermVar k.x))) r.coeffs → Sorted (cs ++ con.Row r ∷ []) × Sorted (cs ++ con.Row (negation r) ∷ []) }
+    ensures { (part cs : List ThisCon) (r : Linear) → Each (Contains cs) part → Sorted part → Sorted cs → Each (λ k. (counts part k.x ≡ true) ⊎ Entails part (con.Num (TermVar k.x))) r.coeffs → Sorted (cs ++ con.Row r ∷ []) × Sorted (cs ++ con.Row (negation r) ∷ []) }
 {}

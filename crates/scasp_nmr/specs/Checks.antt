@@ -1,5 +1,6 @@
 -- The list of checks: denials and odd rules by clause number.
-use Rattle.std.specs.Prelude.{◌≡◌, ℕ, ◌+◌, Bool, is_some, List, [], ◌∷◌, None, Some, slice_get, if◌then◌else◌}
+use Rattle.std.specs.Prelude.{◌≡◌, ℕ, ◌+◌, Bool, is_some, List, [], ◌∷◌, None, Some, if◌then◌else◌}
+use Rattle.std.specs.List.{Contains}
 use Rattle.scasp_syntax.specs.Programs.{numbered}
 use Rattle.scasp_syntax.specs.declared.clause.Clause.{Clause}
 use Rattle.scasp_syntax.specs.declared.program.Program.{Program}
@@ -27,4 +28,4 @@ pub record IsDenial (program : Program) (number : ℕ) : Type 0 where
 
 -- the list has a check of this clause
 abbrev pub HasCheck : List CheckItem → ℕ → Bool → Type 0
-HasCheck items number head = (e : ℕ) × (slice_get items e ≡ Some (record { clause = number; head = head }))
+HasCheck items number head = Contains items (record { clause = number; head = head })

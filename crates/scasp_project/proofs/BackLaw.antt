@@ -1,7 +1,7 @@
 -- A valuation that meets one of the lists to which a sorted list projects can be extended to meet that list.
 use Rattle.std.proofs.Common.{◌≡◌, ◌↔◌, ◌⊎◌, inl, inr, ℕ, Bool, true, false, not, ◌&&◌, Some, None, Option, List, [], ◌∷◌, ◌++◌, append_assoc, append-nil, refl, sym, ap, subst, ◌∙◌}
 use Rattle.std.specs.Prelude.{if◌then◌else◌, ◌||◌, nat_eq}
-use Rattle.std.specs.List.{list_all, list_any}
+use Rattle.std.specs.List.{list_all, list_any, Contains}
 use Rattle.std.proofs.lemmas.Bool.{and_parts, eqb-true, or_cases, or_parts, true≢false}
 use Rattle.std.proofs.lemmas.Bool.Decides.{Decides-eqb}
 use Rattle.std.proofs.lemmas.List.Folds.{list_all-append}
@@ -28,10 +28,9 @@ use Rattle.scasp_unify.specs.PointMeets.{PartsDiffer, PointMeets}
 use Rattle.scasp_unify.specs.Points.{read_as, through}
 use Rattle.scasp_unify.specs.Resolver.{Equal, resolver, unifies}
 use Rattle.scasp_unify.specs.SimpleForm.{differ, term_with}
-use Rattle.scasp_unify.specs.Sorted.{In, Sorted}
+use Rattle.scasp_unify.specs.Sorted.{Sorted}
 use Rattle.scasp_unify.specs.TermFailures.{fails_by_terms, is_compound, is_identity, is_refuted}
 use Rattle.scasp_unify.specs.Unification.{Absorbs, term_vars}
-use Rattle.scasp_unify.proofs.Members.{any-in, any-out, none-in}
 use Rattle.scasp_unify.proofs.PointLemmas.{bridge, holds-same}
 use Rattle.scasp_unify.proofs.ResolverLemmas.{complete-list, resolver-equal}
 use Rattle.scasp_unify.proofs.SimpleLemmas.{viewed}
@@ -49,7 +48,10 @@ use Rattle.scasp_project.proofs.ForwardLemmas.{is_met_by}
 use Rattle.scasp_project.proofs.KeptLemmas.{con-same}
 use Rattle.scasp_project.proofs.MetLaw.{absorbs-any, met, no-equations, number-con, projects, resolved-var}
 use Rattle.scasp_project.proofs.OpenParts.{Absent, no-var, options-open, parts-absent, parts-open, under-var, valued, valued-kept, valued-number}
-use Rattle.scasp_project.proofs.SourceLemmas.{Source, any-none, asked-holds, each-by, in-asked, in-parts, left-holds, only-asked, options-are, passing, row-meets, row-met, source-of, sources}
+use Rattle.scasp_project.proofs.SourceLemmas.{Source, asked-holds, in-asked, left-holds, only-asked, options-are, passing, row-meets, row-met, source-of, sources}
+use Rattle.std.proofs.lemmas.List.Elements.{Contains-append_cases}
+use Rattle.scasp_list.proofs.MemberLemmas.{Contains-none, Contains-cases, list_any-from, list_any-none_from, list_any-none_member, list_any-member}
+use Rattle.scasp_unify.proofs.Members.{Each-from}
 
 -- ---- equations that fix the kept variables
 
@@ -92,10 +94,13 @@ fixing-at v r (y ∷ xs) x h e = by (λ k. fixing-at v r xs x h.1 k) (or_cases (
     by later (inl k) = subst (λ z. r z ≡ v.of z) (sym (eqb-true x y k)) (h.0 ∙ fixed-value v r y)
     by later (inr k) = later k
 
-fixing-num : (v : Sub) (xs : List ℕ) (s : Sub) (t : Tm) (c : Con) → In c (fixing v xs) → is_num_of s t c ≡ true → ⊥
-fixing-num v [] s t c i e = i
-fixing-num v (x ∷ xs) s t c (inl k) e = true≢false (sym e ∙ ap (is_num_of s t) k)
-fixing-num v (x ∷ xs) s t c (inr i) e = fixing-num v xs s t c i e
+fixing-num : (v : Sub) (xs : List ℕ) (s : Sub) (t : Tm) (c : Con) → Contains (fixing v xs) c → is_num_of s t c ≡ true → ⊥
+fixing-num v [] s t c i e = Contains-none c i
+fixing-num v (x ∷ xs) s t c i e =
+    elim (Contains-cases (con.Eq (Var x) (term_with (v x))) (fixing v xs) c i) [
+      | inl k ↦ true≢false (sym e ∙ ap (is_num_of s t) (sym k))
+      | inr j ↦ fixing-num v xs s t c j e
+    ]
 
 members : (xs : List ℕ) → Each (λ x. list_any (nat_eq x) xs ≡ true) xs
 members [] = tt
@@ -112,13 +117,13 @@ not-false-is false e = absurd (true≢false e)
 -- ---- the extension
 
 module _ (cs : List Con) (keep : List ℕ) (v : Valuation) (plain : Each IsNoEquation cs) (few : are_too_many (reading_of cs keep) cs ≡ false) (list : List Con) (x : Source (reading_of cs keep) cs list) (listed : is_met_by v.of list ≡ true) (q : RationalPoint) (met : MeetsAll q (inequalities (given_rows x.choice))) (same : (y : ℕ) → is_dropped keep y ≡ false → q y ≡ point v.of y) where
-  alone-asked : (c : Con) → In c cs → options (reading_of cs keep) c ≡ Some (c ∷ []) → stays keep c ≡ true → In c (remaining keep x.choice x.rows)
+  alone-asked : (c : Con) → Contains cs c → options (reading_of cs keep) c ≡ Some (c ∷ []) → stays keep c ≡ true → Contains (remaining keep x.choice x.rows) c
   alone-asked = only-asked (reading_of cs keep) cs list x
 
-  passes : (c : Con) → In c (remaining keep x.choice x.rows) → is_refuted (remaining keep x.choice x.rows) c ≡ false
+  passes : (c : Con) → Contains (remaining keep x.choice x.rows) c → is_refuted (remaining keep x.choice x.rows) c ≡ false
   passes = passing (reading_of cs keep) cs list x
 
-  kept-holds : (c : Con) → In c cs → options (reading_of cs keep) c ≡ Some (c ∷ []) → stays keep c ≡ true → con_has (reading_of cs keep) (is_dropped keep) c ≡ false → holds v.of c ≡ true
+  kept-holds : (c : Con) → Contains cs c → options (reading_of cs keep) c ≡ Some (c ∷ []) → stays keep c ≡ true → con_has (reading_of cs keep) (is_dropped keep) c ≡ false → holds v.of c ≡ true
   kept-holds c i e k h = asked-holds (reading_of cs keep) cs list x v.of listed c (alone-asked c i e k) h
 
   -- ---- numbers
@@ -142,7 +147,7 @@ module _ (cs : List Con) (keep : List ℕ) (v : Valuation) (plain : Each IsNoEqu
 
   -- ---- disequations
 
-  differ-holds : (t u : Tm) → In (differ t u) x.choice → parts_have (is_dropped keep) (parts t u) ≡ false → holds v.of (differ t u) ≡ true
+  differ-holds : (t u : Tm) → Contains x.choice (differ t u) → parts_have (is_dropped keep) (parts t u) ≡ false → holds v.of (differ t u) ≡ true
   differ-holds t u i e = asked-holds (reading_of cs keep) cs list x v.of listed (differ t u) (in-asked (reading_of cs keep) cs list x (differ t u) i refl) (ap (parts_have (is_dropped keep)) is ∙ e)
     where
       side : (z : Tm) → under (resolver cs) (tm_of (term_with z)) ≡ z
@@ -154,7 +159,7 @@ module _ (cs : List Con) (keep : List ℕ) (v : Valuation) (plain : Each IsNoEqu
   side-is : (r : Sub) (t : Term) → under r (under (resolver cs) (tm_of t)) ≡ under r (tm_of t)
   side-is r t = ap (under r) (ap (λ (k : Sub). under k (tm_of t)) (resolved-var cs plain) ∙ under-var (tm_of t))
 
-  differs : (t u : Term) → In (con.Neq t u) cs → under (valued (reading_of cs keep) v.of q) (tm_of t) ≡ under (valued (reading_of cs keep) v.of q) (tm_of u) → ⊥
+  differs : (t u : Term) → Contains cs (con.Neq t u) → under (valued (reading_of cs keep) v.of q) (tm_of t) ≡ under (valued (reading_of cs keep) v.of q) (tm_of u) → ⊥
   differs t u i e =
       by (parts_in (reading_of cs keep) t u) refl (parts-absent (under (resolver cs) (tm_of t)) (under (resolver cs) (tm_of u))) (parts-say w (under (resolver cs) (tm_of t)) (under (resolver cs) (tm_of u)))
     where
@@ -165,7 +170,7 @@ module _ (cs : List Con) (keep : List ℕ) (v : Valuation) (plain : Each IsNoEqu
       equal = side-is w t ∙ e ∙ sym (side-is w u)
 
       mixed : has_mixed (reading_of cs keep) (con.Neq t u) ≡ false
-      mixed = none-in (has_mixed (reading_of cs keep)) (con.Neq t u) cs i (or_parts (list_any (has_mixed (reading_of cs keep)) cs) _ few).0
+      mixed = list_any-none_member (has_mixed (reading_of cs keep)) cs (con.Neq t u) (or_parts (list_any (has_mixed (reading_of cs keep)) cs) _ few).0 i
 
       by : (o : Option (List Part)) → parts_in (reading_of cs keep) t u ≡ o → IfParts o Absent → Says w o (under w (under (resolver cs) (tm_of t)) ≡ under w (under (resolver cs) (tm_of u))) → ⊥
       by None k a says = says equal
@@ -230,19 +235,19 @@ module _ (cs : List Con) (keep : List ℕ) (v : Valuation) (plain : Each IsNoEqu
   resolver-fixed i y = resolver-is y i
 
   all-number : (y : ℕ) → number_var (cs ++ fixing v.of keep) y ≡ true → (number_var cs y ≡ true) × (is_dropped keep y ≡ true)
-  all-number y e = let c = any-out (is_num_of (resolver (cs ++ fixing v.of keep)) (var y)) (cs ++ fixing v.of keep) e in place c.0 (in-parts c.0 cs (fixing v.of keep) c.1) c.2
+  all-number y e = let c = list_any-member (is_num_of (resolver (cs ++ fixing v.of keep)) (var y)) (cs ++ fixing v.of keep) e in place c.0 (Contains-append_cases cs (fixing v.of keep) c.0 c.1) c.2
     where
-      by : (c : Con) → In c cs → is_num_of (resolver (cs ++ fixing v.of keep)) (var y) c ≡ true → (number_var cs y ≡ true) × (is_dropped keep y ≡ true)
+      by : (c : Con) → Contains cs c → is_num_of (resolver (cs ++ fixing v.of keep)) (var y) c ≡ true → (number_var cs y ≡ true) × (is_dropped keep y ≡ true)
       by (con.Num t) i e =
           let is = fixed-var (tm_of t) y (ap (λ (r : Sub). under r (tm_of t)) (sym resolver-fixed) ∙ (tm_decided (under (resolver (cs ++ fixing v.of keep)) (tm_of t)) (var y)).0 e) in
-          (any-in (is_num_of (resolver cs) (var y)) (con.Num t) cs i ((tm_decided (under (resolver cs) (tm_of t)) (var y)).1 (ap (λ (r : Sub). under r (tm_of t)) (resolved-var cs plain) ∙ under-var (tm_of t) ∙ is.0)), is.1)
+          (list_any-from (is_num_of (resolver cs) (var y)) cs (con.Num t) i ((tm_decided (under (resolver cs) (tm_of t)) (var y)).1 (ap (λ (r : Sub). under r (tm_of t)) (resolved-var cs plain) ∙ under-var (tm_of t) ∙ is.0)), is.1)
       by (con.Eq t u) i e = absurd (true≢false (sym e))
       by (con.Neq t u) i e = absurd (true≢false (sym e))
       by (con.NotShape z f n) i e = absurd (true≢false (sym e))
       by (con.NotNum t) i e = absurd (true≢false (sym e))
       by (con.Row r) i e = absurd (true≢false (sym e))
 
-      place : (c : Con) → In c cs ⊎ In c (fixing v.of keep) → is_num_of (resolver (cs ++ fixing v.of keep)) (var y) c ≡ true → (number_var cs y ≡ true) × (is_dropped keep y ≡ true)
+      place : (c : Con) → Contains cs c ⊎ Contains (fixing v.of keep) c → is_num_of (resolver (cs ++ fixing v.of keep)) (var y) c ≡ true → (number_var cs y ≡ true) × (is_dropped keep y ≡ true)
       place c (inl i) e = by c i e
       place c (inr i) e = absurd (fixing-num v.of keep (resolver (cs ++ fixing v.of keep)) (var y) c i e)
 
@@ -273,7 +278,7 @@ module _ (cs : List Con) (keep : List ℕ) (v : Valuation) (plain : Each IsNoEqu
       by (num r) b k = ap num k
       by (app f ts) b k = absurd (true≢false (sym b))
 
-  parts-differ : (t u : Term) → In (con.Neq t u) cs → PartsDiffer (cs ++ fixing v.of keep) q (parts (under (resolver (cs ++ fixing v.of keep)) (tm_of t)) (under (resolver (cs ++ fixing v.of keep)) (tm_of u)))
+  parts-differ : (t u : Term) → Contains cs (con.Neq t u) → PartsDiffer (cs ++ fixing v.of keep) q (parts (under (resolver (cs ++ fixing v.of keep)) (tm_of t)) (under (resolver (cs ++ fixing v.of keep)) (tm_of u)))
   parts-differ t u i = by (parts (under (resolver (cs ++ fixing v.of keep)) (tm_of t)) (under (resolver (cs ++ fixing v.of keep)) (tm_of u))) (parts-say (valued (reading_of cs keep) v.of q) (under (resolver (cs ++ fixing v.of keep)) (tm_of t)) (under (resolver (cs ++ fixing v.of keep)) (tm_of u)))
     where
       by : (o : Option (List Part)) → Says (valued (reading_of cs keep) v.of q) o (under (valued (reading_of cs keep) v.of q) (under (resolver (cs ++ fixing v.of keep)) (tm_of t)) ≡ under (valued (reading_of cs keep) v.of q) (under (resolver (cs ++ fixing v.of keep)) (tm_of u))) → PartsDiffer (cs ++ fixing v.of keep) q o
@@ -284,7 +289,7 @@ module _ (cs : List Con) (keep : List ℕ) (v : Valuation) (plain : Each IsNoEqu
   same-at [] e = tt
   same-at (k ∷ ks) e = let parts = or_parts (is_dropped keep k.x) (list_any (λ k. is_dropped keep k.x) ks) e in (sym (same k.x parts.0), same-at ks parts.1)
 
-  row-holds : (r : Linear) → In (con.Row r) cs → Holds q r
+  row-holds : (r : Linear) → Contains cs (con.Row r) → Holds q r
   row-holds = row-meets (reading_of cs keep) cs list x q met (λ r i d. holds-same (point v.of) q r (same-at r.coeffs d) ((bridge v.of r).0 (asked-holds (reading_of cs keep) cs list x v.of listed (con.Row r) i d)))
 
   through-same : (y : ℕ) → q y ≡ through (resolver (cs ++ fixing v.of keep)) q y
@@ -303,7 +308,7 @@ module _ (cs : List Con) (keep : List ℕ) (v : Valuation) (plain : Each IsNoEqu
   all-same [] = tt
   all-same (k ∷ ks) = (through-same k.x, all-same ks)
 
-  point-meets : (c : Con) → In c cs → PointMeets (cs ++ fixing v.of keep) q c
+  point-meets : (c : Con) → Contains cs c → PointMeets (cs ++ fixing v.of keep) q c
   point-meets (con.Row r) i = holds-same q (through (resolver (cs ++ fixing v.of keep)) q) r (all-same r.coeffs) (row-holds r i)
   point-meets (con.Neq t u) i = parts-differ t u i
   point-meets (con.Eq t u) i = tt
@@ -313,7 +318,7 @@ module _ (cs : List Con) (keep : List ℕ) (v : Valuation) (plain : Each IsNoEqu
 
   -- ---- it does not fail by terms
 
-  num-passes : (t : Term) → In (con.Num t) cs → (z : Tm) → tm_of t ≡ z → is_compound (under (resolver (cs ++ fixing v.of keep)) z) ≡ false
+  num-passes : (t : Term) → Contains cs (con.Num t) → (z : Tm) → tm_of t ≡ z → is_compound (under (resolver (cs ++ fixing v.of keep)) z) ≡ false
   num-passes t i (num r) e = refl
   num-passes t i (app f ts) e = absurd (true≢false (sym (ap (λ (z : Tm). is_compound (under (resolver (remaining keep x.choice x.rows)) z)) e) ∙ passes (con.Num t) (alone-asked (con.Num t) i refl refl)))
   num-passes t i (var y) e = ap is_compound (resolver-is y) ∙ by (is_dropped keep y) refl
@@ -330,7 +335,7 @@ module _ (cs : List Con) (keep : List ℕ) (v : Valuation) (plain : Each IsNoEqu
           let h = kept-holds (con.Num t) i refl refl lacks in
           ap is_compound (fixed-kept y d) ∙ plain-number (v.of y) (sym (ap (λ (z : Tm). is_number (under v.of z)) e) ∙ h)
 
-  both-asked : (y : ℕ) (t u : Term) → In (con.Num t) cs → In (con.NotNum u) cs → tm_of t ≡ var y → tm_of u ≡ var y → ⊥
+  both-asked : (y : ℕ) (t u : Term) → Contains cs (con.Num t) → Contains cs (con.NotNum u) → tm_of t ≡ var y → tm_of u ≡ var y → ⊥
   both-asked y t u i j e f = by (resolver ds y) refl
     where
       ds : List Con
@@ -345,11 +350,11 @@ module _ (cs : List Con) (keep : List ℕ) (v : Valuation) (plain : Each IsNoEqu
       by : (z : Tm) → resolver ds y ≡ z → ⊥
       by (var n) k =
           let is : under (resolver ds) (tm_of t) ≡ var n = ap (under (resolver ds)) e ∙ k in
-          true≢false (sym (any-in (is_num_of (resolver ds) (var n)) (con.Num t) ds (alone-asked (con.Num t) i refl refl) ((tm_decided (under (resolver ds) (tm_of t)) (var n)).1 is)) ∙ ap (is_number_term ds) (sym k) ∙ second)
+          true≢false (sym (list_any-from (is_num_of (resolver ds) (var n)) ds (con.Num t) (alone-asked (con.Num t) i refl refl) ((tm_decided (under (resolver ds) (tm_of t)) (var n)).1 is)) ∙ ap (is_number_term ds) (sym k) ∙ second)
       by (num r) k = true≢false (ap (is_number_term ds) (sym k) ∙ second)
       by (app f ts) k = true≢false (ap is_compound (sym k) ∙ first)
 
-  other-passes : (t : Term) → In (con.NotNum t) cs → (z : Tm) → tm_of t ≡ z → is_number_term (cs ++ fixing v.of keep) (under (resolver (cs ++ fixing v.of keep)) z) ≡ false
+  other-passes : (t : Term) → Contains cs (con.NotNum t) → (z : Tm) → tm_of t ≡ z → is_number_term (cs ++ fixing v.of keep) (under (resolver (cs ++ fixing v.of keep)) z) ≡ false
   other-passes t i (num r) e = absurd (true≢false (sym (ap (λ (z : Tm). is_number_term (remaining keep x.choice x.rows) (under (resolver (remaining keep x.choice x.rows)) z)) e) ∙ passes (con.NotNum t) (alone-asked (con.NotNum t) i refl refl)))
   other-passes t i (app f ts) e = refl
   other-passes t i (var y) e = ap (is_number_term (cs ++ fixing v.of keep)) (resolver-is y) ∙ by (is_dropped keep y) refl
@@ -370,7 +375,7 @@ module _ (cs : List Con) (keep : List ℕ) (v : Valuation) (plain : Each IsNoEqu
           let h = kept-holds (con.NotNum t) i refl refl lacks in
           ap (is_number_term (cs ++ fixing v.of keep)) (fixed-kept y d) ∙ value (v.of y) refl (sym (ap (λ (z : Tm). not (is_number (under v.of z))) e) ∙ h)
 
-  unrefuted : (c : Con) → In c cs → is_refuted (cs ++ fixing v.of keep) c ≡ false
+  unrefuted : (c : Con) → Contains cs c → is_refuted (cs ++ fixing v.of keep) c ≡ false
   unrefuted (con.Eq t u) i = refl
   unrefuted (con.Row r) i = refl
   unrefuted (con.Num t) i = num-passes t i (tm_of t) refl
@@ -391,15 +396,18 @@ module _ (cs : List Con) (keep : List ℕ) (v : Valuation) (plain : Each IsNoEqu
       by (Some []) h = absurd (h refl tt)
       by (Some (p ∷ ps)) h = refl
 
-  fixing-passes : (ds : List Con) (xs : List ℕ) (c : Con) → In c (fixing v.of xs) → (is_refuted ds c ≡ false) × PointMeets ds q c
-  fixing-passes ds [] c i = absurd i
-  fixing-passes ds (y ∷ xs) c (inl k) = subst (λ (d : Con). (is_refuted ds d ≡ false) × PointMeets ds q d) (sym k) (refl, tt)
-  fixing-passes ds (y ∷ xs) c (inr i) = fixing-passes ds xs c i
+  fixing-passes : (ds : List Con) (xs : List ℕ) (c : Con) → Contains (fixing v.of xs) c → (is_refuted ds c ≡ false) × PointMeets ds q c
+  fixing-passes ds [] c i = absurd (Contains-none c i)
+  fixing-passes ds (y ∷ xs) c i =
+      elim (Contains-cases (con.Eq (Var y) (term_with (v.of y))) (fixing v.of xs) c i) [
+        | inl k ↦ subst (λ (d : Con). (is_refuted ds d ≡ false) × PointMeets ds q d) k (refl, tt)
+        | inr j ↦ fixing-passes ds xs c j
+      ]
 
-  meets-each : (c : Con) → In c (cs ++ fixing v.of keep) → (is_refuted (cs ++ fixing v.of keep) c ≡ false) × PointMeets (cs ++ fixing v.of keep) q c
-  meets-each c i = by (in-parts c cs (fixing v.of keep) i)
+  meets-each : (c : Con) → Contains (cs ++ fixing v.of keep) c → (is_refuted (cs ++ fixing v.of keep) c ≡ false) × PointMeets (cs ++ fixing v.of keep) q c
+  meets-each c i = by (Contains-append_cases cs (fixing v.of keep) c i)
     where
-      by : In c cs ⊎ In c (fixing v.of keep) → (is_refuted (cs ++ fixing v.of keep) c ≡ false) × PointMeets (cs ++ fixing v.of keep) q c
+      by : Contains cs c ⊎ Contains (fixing v.of keep) c → (is_refuted (cs ++ fixing v.of keep) c ≡ false) × PointMeets (cs ++ fixing v.of keep) q c
       by (inl j) = (unrefuted c j, point-meets c j)
       by (inr j) = fixing-passes (cs ++ fixing v.of keep) keep c j
 
@@ -416,8 +424,8 @@ module _ (cs : List Con) (keep : List ℕ) (v : Valuation) (plain : Each IsNoEqu
 
   pub extended : Sorted cs → Extends keep v cs
   extended sorted =
-      let none : fails_by_terms (cs ++ fixing v.of keep) ≡ false = ap (λ b. not b || list_any (is_refuted (cs ++ fixing v.of keep)) (cs ++ fixing v.of keep)) unified.0 ∙ any-none (is_refuted (cs ++ fixing v.of keep)) (cs ++ fixing v.of keep) (λ c i. (meets-each c i).0) in
-      let found = sorted-met (cs ++ fixing v.of keep) q (sorted-fixed v.of keep cs sorted) none (each-by (PointMeets (cs ++ fixing v.of keep) q) (cs ++ fixing v.of keep) (λ c i. (meets-each c i).1)) in
+      let none : fails_by_terms (cs ++ fixing v.of keep) ≡ false = ap (λ b. not b || list_any (is_refuted (cs ++ fixing v.of keep)) (cs ++ fixing v.of keep)) unified.0 ∙ list_any-none_from (is_refuted (cs ++ fixing v.of keep)) (cs ++ fixing v.of keep) (λ c i. (meets-each c i).0) in
+      let found = sorted-met (cs ++ fixing v.of keep) q (sorted-fixed v.of keep cs sorted) none (Each-from (PointMeets (cs ++ fixing v.of keep) q) (cs ++ fixing v.of keep) (λ c i. (meets-each c i).1)) in
       let both = and_parts (list_all (holds found.by.of) cs) (list_all (holds found.by.of) (fixing v.of keep)) (sym (list_all-append (holds found.by.of) cs (fixing v.of keep)) ∙ found.meets) in
       (found.by, (λ y d. fixing-held found.by.of keep y both.1 (not-false-is (list_any (nat_eq y) keep) d)), both.0)
 

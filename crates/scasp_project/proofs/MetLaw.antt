@@ -16,9 +16,7 @@ use Rattle.scasp_syntax.specs.declared.term.Term.{Term}
 use Rattle.scasp_syntax.proofs.SameLemmas.{tm_decided}
 use Rattle.scasp_unify.specs.Numbers.{is_num_of, number_var}
 use Rattle.scasp_unify.specs.Resolver.{Equal, resolver, resolver_after}
-use Rattle.scasp_unify.specs.Sorted.{In}
 use Rattle.scasp_unify.specs.Unification.{Absorbs}
-use Rattle.scasp_unify.proofs.Members.{all-in, any-out}
 use Rattle.scasp_unify.proofs.UnificationLemmas.{resolved-twice}
 use Rattle.scasp_hint.specs.AskedRows.{RowsNormal}
 use Rattle.scasp_project.specs.Choices.{are_too_many, choices}
@@ -30,6 +28,8 @@ use Rattle.scasp_project.specs.declared.projecting.Projected.TheVariants as proj
 use Rattle.scasp_project.proofs.ForwardLemmas.{Counts, chosen-met}
 use Rattle.scasp_project.proofs.KeptLemmas.{all-kept-met, chosen-normal, normal-cons}
 use Rattle.scasp_project.proofs.OpenParts.{under-var}
+use Rattle.std.specs.List.{Contains}
+use Rattle.scasp_list.proofs.MemberLemmas.{list_all-member, list_any-member}
 
 -- without equations each variable stands for itself
 resolved-after : (s : Sub) (cs : List Con) → Each IsNoEquation cs → resolver_after s cs ≡ s
@@ -57,13 +57,13 @@ no-equations (con.NotNum t ∷ cs) r h = (tt, no-equations cs r h.1)
 no-equations (con.Row r ∷ cs) q h = (tt, no-equations cs q h.1)
 
 -- a variable that counts as a number has a num
-pub number-con : (cs : List Con) → Each IsNoEquation cs → (y : ℕ) → number_var cs y ≡ true → (t : Term) × In (con.Num t) cs × (tm_of t ≡ var y)
-number-con cs plain y e = let c = any-out (is_num_of (resolver cs) (var y)) cs e in by c.0 c.1 c.2
+pub number-con : (cs : List Con) → Each IsNoEquation cs → (y : ℕ) → number_var cs y ≡ true → (t : Term) × Contains cs (con.Num t) × (tm_of t ≡ var y)
+number-con cs plain y e = let c = list_any-member (is_num_of (resolver cs) (var y)) cs e in by c.0 c.1 c.2
   where
     is : (t : Term) → is_num_of (resolver cs) (var y) (con.Num t) ≡ true → tm_of t ≡ var y
     is t e = sym (under-var (tm_of t)) ∙ ap (λ (r : Sub). under r (tm_of t)) (sym (resolved-var cs plain)) ∙ (tm_decided (under (resolver cs) (tm_of t)) (var y)).0 e
 
-    by : (c : Con) → In c cs → is_num_of (resolver cs) (var y) c ≡ true → (t : Term) × In (con.Num t) cs × (tm_of t ≡ var y)
+    by : (c : Con) → Contains cs c → is_num_of (resolver cs) (var y) c ≡ true → (t : Term) × Contains cs (con.Num t) × (tm_of t ≡ var y)
     by (con.Num t) i e = (t, i, is t e)
     by (con.Eq t u) i e = absurd (true≢false (sym e))
     by (con.Neq t u) i e = absurd (true≢false (sym e))
@@ -88,7 +88,7 @@ num-held s w y (con.NotNum t) a e h = absurd (true≢false (sym e))
 num-held s w y (con.Row r) a e h = absurd (true≢false (sym e))
 
 pub counts-met : (cs : List Con) (w : Sub) → Absorbs w (resolver cs) → Meets w cs → Counts w (number_var cs)
-counts-met cs w a m y e = let c = any-out (is_num_of (resolver cs) (var y)) cs e in num-held (resolver cs) w y c.0 a c.2 (all-in (holds w) cs m c.0 c.1)
+counts-met cs w a m y e = let c = list_any-member (is_num_of (resolver cs) (var y)) cs e in num-held (resolver cs) w y c.0 a c.2 (list_all-member (holds w) cs c.0 m c.1)
 
 -- how the alternatives come about
 pub record Projects (cs : List Con) (keep : List ℕ) (lists : List (List Con)) : Type 0 where

@@ -1,7 +1,7 @@
 -- Where the dropped variables that are no numbers stand for themselves, no disequation of them fails.
 use Rattle.std.proofs.Common.{◌≡◌, ◌≢◌, ◌⊎◌, inl, inr, ℕ, Bool, true, false, not, ◌&&◌, Some, None, Option, List, [], ◌∷◌, ◌++◌, refl, sym, ap, subst, ◌∙◌}
 use Rattle.std.specs.Prelude.{if◌then◌else◌, ◌||◌, nat_eq}
-use Rattle.std.specs.List.{list_any}
+use Rattle.std.specs.List.{list_any, Contains}
 use Rattle.std.proofs.lemmas.Bool.{and_parts, eqb-true, or_cases, or_parts, true≢false}
 use Rattle.std.proofs.lemmas.Bool.Decides.{Decides-eqb}
 use Rattle.std.proofs.lemmas.List.Folds.{list_any-append}
@@ -24,7 +24,6 @@ use Rattle.scasp_syntax.proofs.ValueLemmas.{differ_decided}
 use Rattle.scasp_unify.specs.Parts.{Part, left_side, occurs, occurs_among, parts, right_side}
 use Rattle.scasp_unify.specs.Points.{read_as}
 use Rattle.scasp_unify.specs.SimpleForm.{differ, term_with}
-use Rattle.scasp_unify.specs.Sorted.{In}
 use Rattle.scasp_unify.specs.Unification.{term_vars, terms_vars}
 use Rattle.scasp_unify.proofs.SimpleLemmas.{viewed}
 use Rattle.scasp_unify.proofs.UnificationLemmas.{Fair, Fits, IfParts, Within, WithinEach, equation-fair, has}
@@ -37,6 +36,8 @@ use Rattle.scasp_hint.proofs.SidesLemmas.{less-holds, more-holds}
 use Rattle.scasp_project.specs.Choices.{is_mixed, part_options, part_rows, parts_options}
 use Rattle.scasp_project.specs.Dropped.{Reading, is_between, is_dropped, is_dropped_number, is_number_by, part_has, parts_have}
 use Rattle.scasp_project.proofs.KeptLemmas.{under-same}
+use Rattle.std.proofs.lemmas.List.Elements.{Contains-append_cases}
+use Rattle.scasp_list.proofs.MemberLemmas.{Contains-none, Contains-single, Contains-cases}
 
 and-right : (a b : Bool) → (a && b) ≡ false → a ≡ true → b ≡ false
 and-right true b e f = e
@@ -172,8 +173,8 @@ side-apart v p row e = by p.turned e
     by false (inr e) = high e
 
 -- where both sides of a part are the same number, no row of it stands among rows that the point meets
-pub rows-open : (v : RationalPoint) (ds : List Con) → ((r : Linear) → In (con.Row r) ds → r.op ≢ op.Ne → Holds v r) → (p : Part) (os : List Con) → v p.at ≡ read_as v p.at p.term → part_rows p ≡ Some os → (o : Con) → In o os → In o ds → ⊥
-rows-open v ds rows p os equal e o i j = which (subst (λ (cs : List Con). In o cs) same i)
+pub rows-open : (v : RationalPoint) (ds : List Con) → ((r : Linear) → Contains ds (con.Row r) → r.op ≢ op.Ne → Holds v r) → (p : Part) (os : List Con) → v p.at ≡ read_as v p.at p.term → part_rows p ≡ Some os → (o : Con) → Contains os o → Contains ds o → ⊥
+rows-open v ds rows p os equal e o i j = which (subst (λ (cs : List Con). Contains cs o) same i)
   where
     f : (a : Linear) × (Some a ≡ left_below p) × (Some os ≡ (left_above p >>= (λ b. Some (con.Row a ∷ con.Row b ∷ []))))
     f = bind-some (left_below p) (λ a. left_above p >>= (λ b. Some (con.Row a ∷ con.Row b ∷ []))) os (sym e)
@@ -184,13 +185,15 @@ rows-open v ds rows p os equal e o i j = which (subst (λ (cs : List Con). In o 
     same : os ≡ con.Row f.0 ∷ con.Row g.0 ∷ []
     same = let k = g.2 in cc
 
-    row : (r : Linear) → (Some r ≡ left_below p) ⊎ (Some r ≡ left_above p) → In (con.Row r) ds → ⊥
+    row : (r : Linear) → (Some r ≡ left_below p) ⊎ (Some r ≡ left_above p) → Contains ds (con.Row r) → ⊥
     row r e j = let side = side-apart v p r e in side.1 (rows r j side.0) equal
 
-    which : In o (con.Row f.0 ∷ con.Row g.0 ∷ []) → ⊥
-    which (inl k) = row f.0 (inl f.1) (subst (λ (c : Con). In c ds) k j)
-    which (inr (inl k)) = row g.0 (inr g.1) (subst (λ (c : Con). In c ds) k j)
-    which (inr (inr k)) = k
+    which : Contains (con.Row f.0 ∷ con.Row g.0 ∷ []) o → ⊥
+    which k =
+        elim (Contains-cases (con.Row f.0) (con.Row g.0 ∷ []) o k) [
+          | inl first ↦ row f.0 (inl f.1) (subst (Contains ds) (sym first) j)
+          | inr second ↦ row g.0 (inr g.1) (subst (Contains ds) (sym (Contains-single (con.Row g.0) o second)) j)
+        ]
 
 -- ---- values of the kept variables, numbers for the dropped ones, and each other variable itself
 
@@ -266,9 +269,9 @@ module _ (s : Reading) (v : Valuation) (p : ℕ → Number) where
       by later (inr h) = later h lacks.1
 
   -- what the point and the valuation meet
-  module _ (ds : List Con) (counts : (x : ℕ) → s.number x ≡ true → valued s v.of p x ≡ num (p x)) (plain : s.resolver ≡ var) (rows : (r : Linear) → In (con.Row r) ds → r.op ≢ op.Ne → Holds p r) (holding : (t u : Tm) → In (differ t u) ds → parts_have (is_dropped s.keep) (parts t u) ≡ false → holds v.of (differ t u) ≡ true) where
+  module _ (ds : List Con) (counts : (x : ℕ) → s.number x ≡ true → valued s v.of p x ≡ num (p x)) (plain : s.resolver ≡ var) (rows : (r : Linear) → Contains ds (con.Row r) → r.op ≢ op.Ne → Holds p r) (holding : (t u : Tm) → Contains ds (differ t u) → parts_have (is_dropped s.keep) (parts t u) ≡ false → holds v.of (differ t u) ≡ true) where
     -- of parts that fit no option stands in the list
-    option-open : (q : Part) (os : List Con) → Fits (valued s v.of p) q → Absent q → is_mixed s q ≡ false → part_options s.number q ≡ Some os → (o : Con) → In o os → In o ds → ⊥
+    option-open : (q : Part) (os : List Con) → Fits (valued s v.of p) q → Absent q → is_mixed s q ≡ false → part_options s.number q ≡ Some os → (o : Con) → Contains os o → Contains ds o → ⊥
     option-open q os fits absent mixed e o i j = by (is_between s.number q) refl e
       where
         equal : (t : Tm) → s.number q.at ≡ true → is_number_by s.number t ≡ true → valued s v.of p q.at ≡ under (valued s v.of p) t → p q.at ≡ read_as p q.at t
@@ -276,7 +279,7 @@ module _ (s : Reading) (v : Valuation) (p : ℕ → Number) where
         equal (num r) a b same = num-is (p q.at) r (sym (counts q.at a) ∙ same)
         equal (app g ts) a b same = absurd (true≢false (sym b))
 
-        apart : part_has (is_dropped s.keep) q ≡ false → In (differ (left_side q) (right_side q)) ds → ⊥
+        apart : part_has (is_dropped s.keep) q ≡ false → Contains ds (differ (left_side q) (right_side q)) → ⊥
         apart none j =
             let lacks = or_parts (is_dropped s.keep q.at) (list_any (is_dropped s.keep) (term_vars q.term)) none in
             let here = valued-kept q.at lacks.0 in
@@ -284,11 +287,11 @@ module _ (s : Reading) (v : Valuation) (p : ℕ → Number) where
             let same : v.of q.at ≡ under v.of q.term = sym here ∙ fits ∙ there in
             turned q.turned lacks.0 lacks.1 same j
           where
-            turned : (t : Bool) → is_dropped s.keep q.at ≡ false → list_any (is_dropped s.keep) (term_vars q.term) ≡ false → v.of q.at ≡ under v.of q.term → In (differ (if t then q.term else var q.at) (if t then var q.at else q.term)) ds → ⊥
+            turned : (t : Bool) → is_dropped s.keep q.at ≡ false → list_any (is_dropped s.keep) (term_vars q.term) ≡ false → v.of q.at ≡ under v.of q.term → Contains ds (differ (if t then q.term else var q.at) (if t then var q.at else q.term)) → ⊥
             turned true a b same j = (differ_decided (under v.of (tm_of (term_with q.term))) (under v.of (tm_of (term_with (var q.at))))).0 (holding q.term (var q.at) j (parts-lack (is_dropped s.keep) q.term (var q.at) b (ap (λ t. t || false) a))) (ap (under v.of) (viewed q.term) ∙ sym same)
             turned false a b same j = (differ_decided (under v.of (tm_of (term_with (var q.at)))) (under v.of (tm_of (term_with q.term)))).0 (holding (var q.at) q.term j (parts-lack (is_dropped s.keep) (var q.at) q.term (ap (λ t. t || false) a) b)) (same ∙ sym (ap (under v.of) (viewed q.term)))
 
-        differs : (b : Bool) → part_has (is_dropped s.keep) q ≡ b → is_between s.number q ≡ false → In (differ (left_side q) (right_side q)) ds → ⊥
+        differs : (b : Bool) → part_has (is_dropped s.keep) q ≡ b → is_between s.number q ≡ false → Contains ds (differ (left_side q) (right_side q)) → ⊥
         differs true h n j = part-open q absent h (and-left (part_has (is_dropped_number s) q) (not (is_between s.number q)) mixed (ap not n)) fits
           where
             and-left : (a b : Bool) → (a && b) ≡ false → b ≡ true → a ≡ false
@@ -300,22 +303,19 @@ module _ (s : Reading) (v : Valuation) (p : ℕ → Number) where
         by true b e = let both = and_parts (s.number q.at) (is_number_by s.number q.term) b in rows-open p ds rows q os (equal q.term both.0 both.1 fits) e o i j
         by false b e =
             let same : os ≡ differ (left_side q) (right_side q) ∷ [] = cc in
-            which (subst (λ (cs : List Con). In o cs) same i)
+            which (subst (λ (cs : List Con). Contains cs o) same i)
           where
-            which : In o (differ (left_side q) (right_side q) ∷ []) → ⊥
-            which (inl k) = differs (part_has (is_dropped s.keep) q) refl b (subst (λ (c : Con). In c ds) k j)
-            which (inr k) = k
+            which : Contains (differ (left_side q) (right_side q) ∷ []) o → ⊥
+            which k = differs (part_has (is_dropped s.keep) q) refl b (subst (Contains ds) (sym (Contains-single (differ (left_side q) (right_side q)) o k)) j)
 
-    pub options-open : (qs : List Part) (os : List Con) → Each (Fits (valued s v.of p)) qs → Each Absent qs → list_any (is_mixed s) qs ≡ false → parts_options s.number qs ≡ Some os → (o : Con) → In o os → In o ds → ⊥
-    options-open [] os fits a m e o i j = let same : os ≡ [] = cc in subst (λ (cs : List Con). In o cs) same i
+    pub options-open : (qs : List Part) (os : List Con) → Each (Fits (valued s v.of p)) qs → Each Absent qs → list_any (is_mixed s) qs ≡ false → parts_options s.number qs ≡ Some os → (o : Con) → Contains os o → Contains ds o → ⊥
+    options-open [] os fits a m e o i j = let same : os ≡ [] = cc in Contains-none o (subst (λ (cs : List Con). Contains cs o) same i)
     options-open (q ∷ qs) os fits a m e o i j =
         let lacks = or_parts (is_mixed s q) (list_any (is_mixed s) qs) m in
         let f = bind-some (part_options s.number q) (λ os. parts_options s.number qs >>= (λ rest. Some (os ++ rest))) os (sym e) in
         let g = bind-some (parts_options s.number qs) (λ rest. Some (f.0 ++ rest)) os f.2 in
         let same : os ≡ f.0 ++ g.0 = cc in
-        by f.0 g.0 (subst (λ (cs : List Con). In o cs) same i) (λ k. option-open q f.0 fits.0 a.0 lacks.0 (sym f.1) o k j) (λ k. options-open qs g.0 fits.1 a.1 lacks.1 (sym g.1) o k j)
+        by f.0 g.0 (subst (λ (cs : List Con). Contains cs o) same i) (λ k. option-open q f.0 fits.0 a.0 lacks.0 (sym f.1) o k j) (λ k. options-open qs g.0 fits.1 a.1 lacks.1 (sym g.1) o k j)
       where
-        by : (first rest : List Con) → In o (first ++ rest) → (In o first → ⊥) → (In o rest → ⊥) → ⊥
-        by [] rest i h k = k i
-        by (c ∷ first) rest (inl same) h k = h (inl same)
-        by (c ∷ first) rest (inr i) h k = by first rest i (λ m. h (inr m)) k
+        by : (first rest : List Con) → Contains (first ++ rest) o → (Contains first o → ⊥) → (Contains rest o → ⊥) → ⊥
+        by first rest i h k = elim (Contains-append_cases first rest o i) [ inl j ↦ h j | inr j ↦ k j ]

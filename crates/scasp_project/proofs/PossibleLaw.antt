@@ -1,7 +1,7 @@
 -- Each list to which a sorted list projects has a valuation.
 use Rattle.std.proofs.Common.{◌≡◌, ◌⊎◌, inl, inr, ℕ, Bool, true, false, not, ◌&&◌, ◌+◌, Some, None, Option, List, [], ◌∷◌, ◌++◌, refl, sym, ap, subst, ◌∙◌}
 use Rattle.std.specs.Prelude.{if◌then◌else◌, ◌||◌, filter, map, ⊤}
-use Rattle.std.specs.List.{list_any}
+use Rattle.std.specs.List.{list_any, Contains}
 use Rattle.std.proofs.lemmas.Bool.{and_from, and_parts, or_parts, true≢false}
 use Rattle.std.proofs.lemmas.List.Folds.{list_all-append}
 use Rattle.scasp_num.specs.declared.linear.Coeff.{Coeff}
@@ -30,10 +30,9 @@ use Rattle.scasp_unify.specs.PointMeets.{PartsDiffer, PointMeets}
 use Rattle.scasp_unify.specs.Points.{read_as, through}
 use Rattle.scasp_unify.specs.Resolver.{resolver, unifies}
 use Rattle.scasp_unify.specs.SimpleForm.{differ}
-use Rattle.scasp_unify.specs.Sorted.{In, Sorted, apart, is_typed, is_typed_con, partly, typed}
+use Rattle.scasp_unify.specs.Sorted.{Sorted, apart, is_typed, is_typed_con, partly, typed}
 use Rattle.scasp_unify.specs.TermFailures.{fails_by_terms, is_compound, is_identity, is_refuted}
 use Rattle.scasp_unify.specs.Unification.{term_vars}
-use Rattle.scasp_unify.proofs.Members.{all-from, all-in, any-in, each-in, each-self, in-front}
 use Rattle.scasp_unify.proofs.PointLemmas.{bridge, holds-same}
 use Rattle.scasp_unify.proofs.ResolverLemmas.{complete-list}
 use Rattle.scasp_unify.proofs.SortedLemmas.{sat-some}
@@ -55,7 +54,10 @@ use Rattle.scasp_project.proofs.KeptLemmas.{held-rows}
 use Rattle.scasp_project.proofs.MetLaw.{no-equations, number-con, resolved-var}
 use Rattle.scasp_project.proofs.OpenParts.{rows-open}
 use Rattle.scasp_project.proofs.RowLaw.{points-same}
-use Rattle.scasp_project.proofs.SourceLemmas.{IsOption, Source, any-none, each-by, filter-in, filter-passes, in-filter, in-parts, left-asked, only-asked, options-are, passing, row-meets, row-met, sources}
+use Rattle.scasp_project.proofs.SourceLemmas.{IsOption, Source, left-asked, only-asked, options-are, passing, row-meets, row-met, sources}
+use Rattle.std.proofs.lemmas.List.Elements.{Contains-append_left, Contains-append_cases}
+use Rattle.scasp_list.proofs.MemberLemmas.{Contains-none, list_all-from, list_all-member, list_any-from, list_any-none_from, Contains-filter, Contains-from_filter}
+use Rattle.scasp_unify.proofs.Members.{Each-member, Each-from, Each-self}
 
 -- ---- rows that speak of some variables alone
 
@@ -181,8 +183,8 @@ module _ (s : Reading) (n : ℕ → Bool) (wider : (y : ℕ) → s.number y ≡ 
       by None e = single-plain (con.Neq t u) os h e
       by (Some ps) e = of ps (speak_of_dropped s ps) e
 
-  choice-plain : (cs list : List Con) (x : Source s cs list) → ((c : Con) → In c cs → Given n c) → Each (Plain n) x.choice
-  choice-plain cs list x given = Each-map (λ d. (c : Con) × In c cs × IsOption s c d) (Plain n) (λ d k. each-in (Plain n) d k.2.0 (options-plain k.0 k.2.0 k.2.1 (given k.0 k.1)) k.2.2) x.choice x.chooses.1
+  choice-plain : (cs list : List Con) (x : Source s cs list) → ((c : Con) → Contains cs c → Given n c) → Each (Plain n) x.choice
+  choice-plain cs list x given = Each-map (λ d. (c : Con) × Contains cs c × IsOption s c d) (Plain n) (λ d k. Each-member (Plain n) k.2.0 d (options-plain k.0 k.2.0 k.2.1 (given k.0 k.1)) k.2.2) x.choice x.chooses.1
 
 plain-rows : (n : ℕ → Bool) (ds : List Con) → Each (Plain n) ds → Each (Speaks n) (given_rows ds)
 plain-rows n [] h = tt
@@ -252,8 +254,8 @@ module _ (cs : List Con) (keep : List ℕ) (list : List Con) (plain : Each IsNoE
   abbrev p : RationalPoint
   p = x.asked.1.0
 
-  given : (c : Con) → In c cs → Given (λ y. true) c
-  given c i = by c (each-in IsNoEquation c cs plain i)
+  given : (c : Con) → Contains cs c → Given (λ y. true) c
+  given c i = by c (Each-member IsNoEquation cs c plain i)
     where
       by : (c : Con) → IsNoEquation c → Given (λ y. true) c
       by (con.Eq t u) h = h
@@ -275,14 +277,14 @@ module _ (cs : List Con) (keep : List ℕ) (list : List Con) (plain : Each IsNoE
   parts-asked : (t u : Term) → parts_in s t u ≡ parts (under (resolver asked) (tm_of t)) (under (resolver asked) (tm_of u))
   parts-asked t u i = parts (read-asked t i) (read-asked u i)
 
-  in-asked-list : (c : Con) → In c cs → options s c ≡ Some (c ∷ []) → stays keep c ≡ true → In c asked
+  in-asked-list : (c : Con) → Contains cs c → options s c ≡ Some (c ∷ []) → stays keep c ≡ true → Contains asked c
   in-asked-list = only-asked s cs list x
 
   number-asked : (y : ℕ) → number_var cs y ≡ true → number_var asked y ≡ true
   number-asked y e =
       let c = number-con cs plain y e in
       let is : under (resolver asked) (tm_of c.0) ≡ var y = ap (under (resolver asked)) c.2 ∙ (λ i. unbound i y) in
-      any-in (is_num_of (resolver asked) (var y)) (con.Num c.0) asked (in-asked-list (con.Num c.0) c.1 refl refl) ((tm_decided (under (resolver asked) (tm_of c.0)) (var y)).1 is)
+      list_any-from (is_num_of (resolver asked) (var y)) asked (con.Num c.0) (in-asked-list (con.Num c.0) c.1 refl refl) ((tm_decided (under (resolver asked) (tm_of c.0)) (var y)).1 is)
 
   -- ---- the point of what is asked
 
@@ -290,11 +292,11 @@ module _ (cs : List Con) (keep : List ℕ) (list : List Con) (plain : Each IsNoE
   unread r q e [] = tt
   unread r q e (k ∷ ks) = (ap (λ (r : Sub). through r q k.x) e, unread r q e ks)
 
-  asked-row : (r : Linear) → In (con.Row r) asked → Holds p r
-  asked-row r i = holds-same (through (resolver asked) p) p r (unread (resolver asked) p unbound r.coeffs) (each-in (PointMeets asked p) (con.Row r) asked x.asked.1.1 i)
+  asked-row : (r : Linear) → Contains asked (con.Row r) → Holds p r
+  asked-row r i = holds-same (through (resolver asked) p) p r (unread (resolver asked) p unbound r.coeffs) (Each-member (PointMeets asked p) asked (con.Row r) x.asked.1.1 i)
 
   left-met-there : MeetsAll p x.rows
-  left-met-there = Each-map (λ (r : Linear). In (con.Row r) asked) (Holds p) asked-row x.rows (left-asked s cs list x)
+  left-met-there = Each-map (λ (r : Linear). Contains asked (con.Row r)) (Holds p) asked-row x.rows (left-asked s cs list x)
 
   -- ---- where each variable of a row counts, the point gives a valuation of what is asked
 
@@ -307,7 +309,7 @@ module _ (cs : List Con) (keep : List ℕ) (list : List Con) (plain : Each IsNoE
       sym ((λ i. number_of (under (chosen asked p k) (unbound i y))) ∙ (λ i. number_of (if number-asked y e i then num (p y) else app (k + y) nil)))
 
   no-rows-typed : is_typed (filter is_no_row asked) ≡ true
-  no-rows-typed = all-from (is_typed_con some) some (λ c i. by c (filter-passes is_no_row c asked i))
+  no-rows-typed = list_all-from (is_typed_con some) some (λ c i. by c ((Contains-from_filter is_no_row asked c i).1))
     where
       some : List Con
       some = filter is_no_row asked
@@ -321,10 +323,10 @@ module _ (cs : List Con) (keep : List ℕ) (list : List Con) (plain : Each IsNoE
       by (con.NotNum t) e = refl
 
   no-rows-met : Meets w.of (filter is_no_row asked)
-  no-rows-met = some-meets (filter is_no_row asked) asked p (Each-filter (λ c. In c asked) is_no_row asked (each-self asked)) no-rows-typed x.asked.0 x.asked.1.1
+  no-rows-met = some-meets (filter is_no_row asked) asked p (Each-filter (Contains asked) is_no_row asked (Each-self asked)) no-rows-typed x.asked.0 x.asked.1.1
 
-  other-met : (c : Con) → In c asked → is_no_row c ≡ true → holds w.of c ≡ true
-  other-met c i e = all-in (holds w.of) (filter is_no_row asked) no-rows-met c (in-filter is_no_row c asked i e)
+  other-met : (c : Con) → Contains asked c → is_no_row c ≡ true → holds w.of c ≡ true
+  other-met c i e = list_all-member (holds w.of) (filter is_no_row asked) c no-rows-met (Contains-filter is_no_row asked c i e)
 
   asked-sat : Each (Plain (number_var cs)) x.choice → Sat asked
   asked-sat h = record {
@@ -332,7 +334,7 @@ module _ (cs : List Con) (keep : List ℕ) (list : List Con) (plain : Each IsNoE
     meets = list_all-append (holds w.of) (filter (stays keep) x.choice) (map con.Row (filter (is_new x.choice) x.rows)) ∙ and_from (is_met_by w.of (filter (stays keep) x.choice)) (is_met_by w.of (map con.Row (filter (is_new x.choice) x.rows))) front (held-rows w.of (filter (is_new x.choice) x.rows) (Each-filter (Holds (point w.of)) (is_new x.choice) x.rows (left-speaks s cs list x (number_var cs) h p (point w.of) valued-number left-met-there)));
   }
     where
-      one : (c : Con) → In c asked → Plain (number_var cs) c → holds w.of c ≡ true
+      one : (c : Con) → Contains asked c → Plain (number_var cs) c → holds w.of c ≡ true
       one (con.Row r) i k = (bridge w.of r).1 (k p (point w.of) valued-number (asked-row r i))
       one (con.Eq t u) i k = other-met (con.Eq t u) i refl
       one (con.Neq t u) i k = other-met (con.Neq t u) i refl
@@ -341,13 +343,13 @@ module _ (cs : List Con) (keep : List ℕ) (list : List Con) (plain : Each IsNoE
       one (con.NotNum t) i k = other-met (con.NotNum t) i refl
 
       front : is_met_by w.of (filter (stays keep) x.choice) ≡ true
-      front = all-from (holds w.of) (filter (stays keep) x.choice) (λ c i. one c (in-front c (filter (stays keep) x.choice) (map con.Row (filter (is_new x.choice) x.rows)) i) (each-in (Plain (number_var cs)) c x.choice h (filter-in (stays keep) c x.choice i)))
+      front = list_all-from (holds w.of) (filter (stays keep) x.choice) (λ c i. one c (Contains-append_left (filter (stays keep) x.choice) (map con.Row (filter (is_new x.choice) x.rows)) c i) (Each-member (Plain (number_var cs)) x.choice c h ((Contains-from_filter (stays keep) x.choice c i).0)))
 
   counts-as : (y : ℕ) → counts cs y ≡ true → number_var cs y ≡ true
   counts-as y e = sym (ap (λ (r : Sub). is_number (r y) || list_any (is_num_of (resolver cs) (r y)) cs) (resolved-var cs plain)) ∙ e
 
   typed-sat : is_typed cs ≡ true → Sat list
-  typed-sat e = subst Sat x.kept_is (sat-some (kept s asked) asked (Each-filter (λ c. In c asked) (λ c. not (con_has s (is_dropped keep) c)) asked (each-self asked)) (asked-sat (choice-plain s (number_var cs) (λ y k. k) cs list x (λ c i. by c (each-in IsNoEquation c cs plain i) (all-in (is_typed_con cs) cs e c i)))))
+  typed-sat e = subst Sat x.kept_is (sat-some (kept s asked) asked (Each-filter (Contains asked) (λ c. not (con_has s (is_dropped keep) c)) asked (Each-self asked)) (asked-sat (choice-plain s (number_var cs) (λ y k. k) cs list x (λ c i. by c (Each-member IsNoEquation cs c plain i) (list_all-member (is_typed_con cs) cs c e i)))))
     where
       by : (c : Con) → IsNoEquation c → is_typed_con cs c ≡ true → Given (number_var cs) c
       by (con.Eq t u) h k = h
@@ -365,7 +367,7 @@ module _ (cs : List Con) (keep : List ℕ) (list : List Con) (plain : Each IsNoE
   abbrev q : RationalPoint
   q = extension.0
 
-  rows-met : (r : Linear) → In (con.Row r) cs → Holds q r
+  rows-met : (r : Linear) → Contains cs (con.Row r) → Holds q r
   rows-met = row-meets s cs list x q extension.1 (λ r i d. holds-same p q r (Each-map (λ k. q k.x ≡ p k.x) (λ k. p k.x ≡ q k.x) (λ k e. sym e) r.coeffs (points-same keep p q extension.2 r.coeffs d)) (asked-row r i))
 
   kept-number : (y : ℕ) → number_var cs y ≡ true → is_dropped_number s y ≡ false → q y ≡ p y
@@ -402,13 +404,13 @@ module _ (cs : List Con) (keep : List ℕ) (list : List Con) (plain : Each IsNoE
       term (app f ts) k d = absurd (true≢false (sym k))
 
   -- of parts between equal numbers no row stands in the choice
-  among-open : (ps : List Part) (os : List Con) → is_among_numbers cs ps ≡ true → Each (λ (a : Part). q a.at ≡ read_as q a.at a.term) ps → parts_options (number_var cs) ps ≡ Some os → (o : Con) → In o os → In o x.choice → ⊥
-  among-open [] os e h k o i j = let same : os ≡ [] = cc in subst (λ (ds : List Con). In o ds) same i
+  among-open : (ps : List Part) (os : List Con) → is_among_numbers cs ps ≡ true → Each (λ (a : Part). q a.at ≡ read_as q a.at a.term) ps → parts_options (number_var cs) ps ≡ Some os → (o : Con) → Contains os o → Contains x.choice o → ⊥
+  among-open [] os e h k o i j = let same : os ≡ [] = cc in Contains-none o (subst (λ (ds : List Con). Contains ds o) same i)
   among-open (a ∷ ps) os e h k o i j =
       let f = bind-some (part_options (number_var cs) a) (λ os. parts_options (number_var cs) ps >>= (λ rest. Some (os ++ rest))) os (sym k) in
       let g = bind-some (parts_options (number_var cs) ps) (λ rest. Some (f.0 ++ rest)) os f.2 in
       let same : os ≡ f.0 ++ g.0 = cc in
-      by f.0 g.0 (sym f.1) (λ i. among-open ps g.0 both.1 h.1 (sym g.1) o i j) (in-parts o f.0 g.0 (subst (λ (ds : List Con). In o ds) same i))
+      by f.0 g.0 (sym f.1) (λ i. among-open ps g.0 both.1 h.1 (sym g.1) o i j) (Contains-append_cases f.0 g.0 o (subst (λ (ds : List Con). Contains ds o) same i))
     where
       both : ((number_var cs a.at && is_number_term cs a.term) ≡ true) × (is_among_numbers cs ps ≡ true)
       both = and_parts (number_var cs a.at && is_number_term cs a.term) (is_among_numbers cs ps) e
@@ -424,11 +426,11 @@ module _ (cs : List Con) (keep : List ℕ) (list : List Con) (plain : Each IsNoE
       rows : (first : List Con) → part_options (number_var cs) a ≡ Some first → part_rows a ≡ Some first
       rows first k = sym (ap (λ b. if b then part_rows a else Some (differ (left_side a) (right_side a) ∷ [])) between) ∙ k
 
-      by : (first rest : List Con) → part_options (number_var cs) a ≡ Some first → (In o rest → ⊥) → In o first ⊎ In o rest → ⊥
+      by : (first rest : List Con) → part_options (number_var cs) a ≡ Some first → (Contains rest o → ⊥) → Contains first o ⊎ Contains rest o → ⊥
       by first rest k later (inl i) = rows-open q x.choice (row-met q x.choice extension.1) a first h.0 (rows first k) o i j
       by first rest k later (inr i) = later i
 
-  parts-differ : (t u : Term) → In (con.Neq t u) cs → PartsDiffer cs q (parts_in s t u)
+  parts-differ : (t u : Term) → Contains cs (con.Neq t u) → PartsDiffer cs q (parts_in s t u)
   parts-differ t u i = by (parts_in s t u) refl
     where
       by : (o : Option (List Part)) → parts_in s t u ≡ o → PartsDiffer cs q o
@@ -441,10 +443,10 @@ module _ (cs : List Con) (keep : List ℕ) (list : List Con) (plain : Each IsNoE
               among-open ps c.2.0 among equal (sym (options-are s t u ps true k d) ∙ c.2.1) c.0 c.2.2 c.1
           test false d among equal =
               let j = in-asked-list (con.Neq t u) i (options-are s t u ps false k d) refl in
-              let m = subst (PartsDiffer asked p) (sym (parts-asked t u) ∙ k) (each-in (PointMeets asked p) (con.Neq t u) asked x.asked.1.1 j) in
+              let m = subst (PartsDiffer asked p) (sym (parts-asked t u) ∙ k) (Each-member (PointMeets asked p) asked (con.Neq t u) x.asked.1.1 j) in
               m (among-asked ps among) (equal-asked ps among d equal)
 
-  point-meets : (c : Con) → In c cs → PointMeets cs q c
+  point-meets : (c : Con) → Contains cs c → PointMeets cs q c
   point-meets (con.Row r) i = holds-same q (through (resolver cs) q) r (Each-map (λ k. through (resolver cs) q k.x ≡ q k.x) (λ k. q k.x ≡ through (resolver cs) q k.x) (λ k e. sym e) r.coeffs (unread (resolver cs) q (resolved-var cs plain) r.coeffs)) (rows-met r i)
   point-meets (con.Neq t u) i = parts-differ t u i
   point-meets (con.Eq t u) i = tt
@@ -454,7 +456,7 @@ module _ (cs : List Con) (keep : List ℕ) (list : List Con) (plain : Each IsNoE
 
   -- ---- the list does not fail by terms
 
-  passes : (c : Con) → In c cs → options s c ≡ Some (c ∷ []) → stays keep c ≡ true → is_refuted asked c ≡ false
+  passes : (c : Con) → Contains cs c → options s c ≡ Some (c ∷ []) → stays keep c ≡ true → is_refuted asked c ≡ false
   passes c i e k = passing s cs list x c (in-asked-list c i e k)
 
   no-number : (z : Tm) → is_number_term asked z ≡ false → is_number_term cs z ≡ false
@@ -466,7 +468,7 @@ module _ (cs : List Con) (keep : List ℕ) (list : List Con) (plain : Each IsNoE
       by true k = absurd (true≢false (sym (number-asked y k) ∙ e))
       by false k = refl
 
-  unrefuted : (c : Con) → In c cs → is_refuted cs c ≡ false
+  unrefuted : (c : Con) → Contains cs c → is_refuted cs c ≡ false
   unrefuted (con.Eq t u) i = refl
   unrefuted (con.Row r) i = refl
   unrefuted (con.Num t) i = ap is_compound (read-asked t) ∙ passes (con.Num t) i refl refl
@@ -484,8 +486,8 @@ module _ (cs : List Con) (keep : List ℕ) (list : List Con) (plain : Each IsNoE
 
   whole-sat : Sorted cs → Sat cs
   whole-sat sorted =
-      let none : fails_by_terms cs ≡ false = ap (λ b. not b || list_any (is_refuted cs) cs) unified ∙ any-none (is_refuted cs) cs unrefuted in
-      sorted-met cs q sorted none (each-by (PointMeets cs q) cs point-meets)
+      let none : fails_by_terms cs ≡ false = ap (λ b. not b || list_any (is_refuted cs) cs) unified ∙ list_any-none_from (is_refuted cs) cs unrefuted in
+      sorted-met cs q sorted none (Each-from (PointMeets cs q) cs point-meets)
 
   list-sat : Sorted cs → Sat list
   list-sat (apart e) = absurd (true≢false (sym unified ∙ e))

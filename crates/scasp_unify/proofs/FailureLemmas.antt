@@ -1,6 +1,6 @@
 -- What a list's terms decide: a list that fails by terms has no valuation, and another has one, but for its rows.
 use Rattle.std.proofs.Common.{◌≡◌, ◌⊎◌, inl, inr, ℕ, suc, ◌<◌, Bool, true, false, ◌&&◌, ◌||◌, not, nat_eq, nat_lt, if◌then◌else◌, List, [], ◌∷◌, length, Option, None, Some, refl, sym, ap, subst, ◌∙◌, arith}
-use Rattle.std.specs.List.{list_any}
+use Rattle.std.specs.List.{list_any, Contains}
 use Rattle.std.proofs.lemmas.Bool.{or_cases, and_parts, eqb-true, eqb-false, ltb-true, true≢false}
 use Rattle.scasp_list.specs.Each.{Each}
 use Rattle.scasp_list.proofs.EachLemmas.{Each-map}
@@ -14,7 +14,6 @@ use Rattle.scasp_unify.specs.Unification.{then_by, Absorbs}
 use Rattle.scasp_unify.specs.Resolver.{unifies, resolver, Equal}
 use Rattle.scasp_unify.specs.Numbers.{counts, is_num_of, number_var, is_number_term, is_among_numbers}
 use Rattle.scasp_unify.specs.TermFailures.{is_refuted, fails_by_terms, is_identity, is_compound}
-use Rattle.scasp_unify.specs.Sorted.{In}
 use Rattle.scasp_unify.proofs.Choices.{is_named_below, are_named_below, Named, Apart, IfParts-apart, TermsHold, Choice}
 use Rattle.scasp_syntax.specs.declared.con.Con.{Con}
 use Rattle.scasp_syntax.specs.declared.con.Con.TheVariants as con
@@ -22,7 +21,8 @@ use Rattle.scasp_syntax.proofs.SameLemmas.{tm_decided}
 use Rattle.scasp_syntax.proofs.ValueLemmas.{under-under, differ_decided}
 use Rattle.scasp_unify.proofs.UnificationLemmas.{Fits, Says, IfParts, both-fair, parts-say, resolved-twice}
 use Rattle.scasp_unify.proofs.ResolverLemmas.{complete-list, resolver-equal}
-use Rattle.scasp_unify.proofs.Members.{or-left, or-right, any-in, none-in, not-false, each-in, any-out}
+use Rattle.scasp_unify.proofs.Members.{or-left, or-right, not-false, Each-member}
+use Rattle.scasp_list.proofs.MemberLemmas.{list_any-from, list_any-none_member, list_any-member}
 
 -- ---- a part between terms that are not both numbers
 
@@ -112,15 +112,15 @@ under-length : (w : Sub) (us : Tms) → length (items (all_under w us)) ≡ leng
 under-length w nil = refl
 under-length w (cons u us) = ap suc (under-length w us)
 
-pub complete : (cs : List Con) (k : ℕ) (w : Sub) → fails_by_terms cs ≡ false → Each (Named k (resolver cs)) cs → Choice cs k w → Each (Apart cs w) cs → (c : Con) → In c cs → TermsHold (then_by (resolver cs) w) c
-complete cs k w e names choice differ c i = by c i (each-in (Named k (resolver cs)) c cs names i) (each-in (Apart cs w) c cs differ i) (none-in (is_refuted cs) c cs i parts-of.1)
+pub complete : (cs : List Con) (k : ℕ) (w : Sub) → fails_by_terms cs ≡ false → Each (Named k (resolver cs)) cs → Choice cs k w → Each (Apart cs w) cs → (c : Con) → Contains cs c → TermsHold (then_by (resolver cs) w) c
+complete cs k w e names choice differ c i = by c i (Each-member (Named k (resolver cs)) cs c names i) (Each-member (Apart cs w) cs c differ i) (list_any-none_member (is_refuted cs) cs c parts-of.1 i)
   where
     parts-of : (unifies cs ≡ true) × (list_any (is_refuted cs) cs ≡ false)
     parts-of = not-false (unifies cs) (list_any (is_refuted cs) cs) e
 
-    by : (c : Con) → In c cs → Named k (resolver cs) c → Apart cs w c → is_refuted cs c ≡ false → TermsHold (then_by (resolver cs) w) c
+    by : (c : Con) → Contains cs c → Named k (resolver cs) c → Apart cs w c → is_refuted cs c ≡ false → TermsHold (then_by (resolver cs) w) c
     by (con.Eq t u) i n d r =
-        let equal = each-in (Equal (resolver cs)) (con.Eq t u) cs (resolver-equal cs parts-of.0) i in
+        let equal = Each-member (Equal (resolver cs)) cs (con.Eq t u) (resolver-equal cs parts-of.0) i in
         (tm_decided (under (then_by (resolver cs) w) (tm_of t)) (under (then_by (resolver cs) w) (tm_of u))).1
         (sym (under-under w (resolver cs) (tm_of t)) ∙ ap (under w) equal ∙ under-under w (resolver cs) (tm_of u))
     by (con.Neq t u) i n d r =
@@ -158,7 +158,7 @@ complete cs k w e names choice differ c i = by c i (each-in (Named k (resolver c
       where
         number : (z : Tm) → under (resolver cs) (tm_of t) ≡ z → is_compound z ≡ false → is_number (under (then_by (resolver cs) w) (tm_of t)) ≡ true
         number (var y) same h =
-            let stands = any-in (is_num_of (resolver cs) (var y)) (con.Num t) cs i ((tm_decided (under (resolver cs) (tm_of t)) (var y)).1 same) in
+            let stands = list_any-from (is_num_of (resolver cs) (var y)) cs (con.Num t) i ((tm_decided (under (resolver cs) (tm_of t)) (var y)).1 same) in
             ap is_number (sym (under-under w (resolver cs) (tm_of t)) ∙ ap (under w) same) ∙ choice.numbers y stands
         number (num q) same h = ap is_number (sym (under-under w (resolver cs) (tm_of t)) ∙ ap (under w) same)
         number (app g us) same h = cc
@@ -172,11 +172,11 @@ complete cs k w e names choice differ c i = by c i (each-in (Named k (resolver c
 
 -- ---- what holds does not fail by terms
 
-none-of : (p : Con → Bool) (cs : List Con) → ((c : Con) → In c cs → p c ≡ true → ⊥) → list_any p cs ≡ false
+none-of : (p : Con → Bool) (cs : List Con) → ((c : Con) → Contains cs c → p c ≡ true → ⊥) → list_any p cs ≡ false
 none-of p cs h = by (list_any p cs) refl
   where
     by : (b : Bool) → list_any p cs ≡ b → b ≡ false
-    by true e = let k = any-out p cs e in absurd (h k.0 k.1 k.2)
+    by true e = let k = list_any-member p cs e in absurd (h k.0 k.1 k.2)
     by false e = refl
 
 -- a constraint that says that a term is a number
@@ -223,14 +223,14 @@ sound cs v h = neither (unifies cs) (list_any (is_refuted cs) cs) solved.0 (none
     neither true b e f = f
     neither false b e f = cc
 
-    refuted : (c : Con) → In c cs → is_refuted cs c ≡ true → ⊥
+    refuted : (c : Con) → Contains cs c → is_refuted cs c ≡ true → ⊥
     refuted (con.Eq t u) i e = cc
     refuted (con.Neq t u) i e = identity (parts (under (resolver cs) (tm_of t)) (under (resolver cs) (tm_of u))) (parts-say v (under (resolver cs) (tm_of t)) (under (resolver cs) (tm_of u))) e
       where
         identity : (o : Option (List Part)) → Says v o (under v (under (resolver cs) (tm_of t)) ≡ under v (under (resolver cs) (tm_of u))) → is_identity o ≡ true → ⊥
         identity None says f = cc
         identity (Some []) says f =
-            (differ_decided (under v (tm_of t)) (under v (tm_of u))).0 (each-in (TermsHold v) (con.Neq t u) cs h i)
+            (differ_decided (under v (tm_of t)) (under v (tm_of u))).0 (Each-member (TermsHold v) cs (con.Neq t u) h i)
             (sym (resolved-twice v (resolver cs) (tm_of t) solved.1) ∙ says.1 tt ∙ resolved-twice v (resolver cs) (tm_of u) solved.1)
         identity (Some (p ∷ ps)) says f = cc
     refuted (con.NotShape x f n) i e = shape (resolver cs x) refl e
@@ -239,7 +239,7 @@ sound cs v h = neither (unifies cs) (list_any (is_refuted cs) cs) solved.0 (none
         shape (var y) same k = cc
         shape (num q) same k = cc
         shape (app g us) same k =
-            let here = each-in (TermsHold v) (con.NotShape x f n) cs h i in
+            let here = Each-member (TermsHold v) cs (con.NotShape x f n) h i in
             let value : v x ≡ app g (all_under v us) = sym (solved.1 x) ∙ ap (under v) same in
             let stays : has_shape f n (v x) ≡ true = ap (has_shape f n) value ∙ ap (λ m. nat_eq g f && nat_eq m n) (under-length v us) ∙ k in
             not-both (has_shape f n (v x)) stays here
@@ -249,20 +249,20 @@ sound cs v h = neither (unifies cs) (list_any (is_refuted cs) cs) solved.0 (none
         number (var y) same k = cc
         number (num q) same k = cc
         number (app g us) same k =
-            let here = each-in (TermsHold v) (con.Num t) cs h i in
+            let here = Each-member (TermsHold v) cs (con.Num t) h i in
             let value = ap is_number (sym (resolved-twice v (resolver cs) (tm_of t) solved.1) ∙ ap (under v) same) in
             true≢false (sym here ∙ value)
     refuted (con.NotNum t) i e = number (under (resolver cs) (tm_of t)) refl e
       where
         number : (z : Tm) → under (resolver cs) (tm_of t) ≡ z → is_number_term cs z ≡ true → ⊥
         number (var y) same k =
-            let d = any-out (is_num_of (resolver cs) (var y)) cs k in
-            let stays = num-of (resolver cs) (var y) d.0 d.2 v solved.1 (each-in (TermsHold v) d.0 cs h d.1) in
+            let d = list_any-member (is_num_of (resolver cs) (var y)) cs k in
+            let stays = num-of (resolver cs) (var y) d.0 d.2 v solved.1 (Each-member (TermsHold v) cs d.0 h d.1) in
             let value = ap is_number (sym (resolved-twice v (resolver cs) (tm_of t) solved.1) ∙ ap (under v) same) in
-            not-both (is_number (under v (tm_of t))) (value ∙ stays) (each-in (TermsHold v) (con.NotNum t) cs h i)
+            not-both (is_number (under v (tm_of t))) (value ∙ stays) (Each-member (TermsHold v) cs (con.NotNum t) h i)
         number (num q) same k =
             let value = ap is_number (sym (resolved-twice v (resolver cs) (tm_of t) solved.1) ∙ ap (under v) same) in
-            not-both (is_number (under v (tm_of t))) value (each-in (TermsHold v) (con.NotNum t) cs h i)
+            not-both (is_number (under v (tm_of t))) value (Each-member (TermsHold v) cs (con.NotNum t) h i)
         number (app g us) same k = cc
     refuted (con.Row r) i e = cc
 
@@ -278,11 +278,11 @@ num-again s r u (con.NotShape x f n) a e = cc
 num-again s r u (con.NotNum t) a e = cc
 num-again s r u (con.Row q) a e = cc
 
-pub counting : (some cs : List Con) (x : ℕ) → Each (λ c. In c cs) some → unifies cs ≡ true → counts some x ≡ true → counts cs x ≡ true
+pub counting : (some cs : List Con) (x : ℕ) → Each (Contains cs) some → unifies cs ≡ true → counts some x ≡ true → counts cs x ≡ true
 counting some cs x within e h = by (or_cases (is_number (resolver some x)) (list_any (is_num_of (resolver some) (resolver some x)) some) h)
   where
     absorbs : Absorbs (resolver cs) (resolver some)
-    absorbs = (complete-list (resolver cs) some (Each-map (λ c. In c cs) (Equal (resolver cs)) (λ c i. each-in (Equal (resolver cs)) c cs (resolver-equal cs e) i) some within)).1
+    absorbs = (complete-list (resolver cs) some (Each-map (Contains cs) (Equal (resolver cs)) (λ c i. Each-member (Equal (resolver cs)) cs c (resolver-equal cs e) i) some within)).1
 
     stays : (z : Tm) → resolver some x ≡ z → is_number z ≡ true → is_number (resolver cs x) ≡ true
     stays (var y) same k = cc
@@ -292,7 +292,7 @@ counting some cs x within e h = by (or_cases (is_number (resolver some x)) (list
     by : (is_number (resolver some x) ≡ true) ⊎ (list_any (is_num_of (resolver some) (resolver some x)) some ≡ true) → (is_number (resolver cs x) || list_any (is_num_of (resolver cs) (resolver cs x)) cs) ≡ true
     by (inl f) = or-left (is_number (resolver cs x)) (list_any (is_num_of (resolver cs) (resolver cs x)) cs) (stays (resolver some x) refl f)
     by (inr f) =
-        let d = any-out (is_num_of (resolver some) (resolver some x)) some f in
+        let d = list_any-member (is_num_of (resolver some) (resolver some x)) some f in
         let again = num-again (resolver some) (resolver cs) (resolver some x) d.0 absorbs d.2 in
         let here : is_num_of (resolver cs) (resolver cs x) d.0 ≡ true = subst (λ (z : Tm). is_num_of (resolver cs) z d.0 ≡ true) (absorbs x) again in
-        or-right (is_number (resolver cs x)) (list_any (is_num_of (resolver cs) (resolver cs x)) cs) (any-in (is_num_of (resolver cs) (resolver cs x)) d.0 cs (each-in (λ c. In c cs) d.0 some within d.1) here)
+        or-right (is_number (resolver cs x)) (list_any (is_num_of (resolver cs) (resolver cs x)) cs) (list_any-from (is_num_of (resolver cs) (resolver cs x)) cs d.0 (Each-member (Contains cs) some d.0 within d.1) here)

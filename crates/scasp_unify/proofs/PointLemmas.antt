@@ -1,8 +1,7 @@
 -- Rows under valuations and under rational points.
-use Rattle.std.proofs.Common.{◌≡◌, ◌↔◌, ◌⊎◌, inl, inr, ℕ, Bool, true, false, not, IsTrue, ℤ, ◌+ℤ◌, ◌*ℤ◌, List, [], ◌∷◌, refl, sym, ap, subst, ◌∙◌, arith}
-use Rattle.std.specs.List.{list_any}
+use Rattle.std.proofs.Common.{◌≡◌, ◌↔◌, ◌⊎◌, inl, inr, ℕ, Bool, true, false, not, IsTrue, ℤ, ◌+ℤ◌, ◌*ℤ◌, List, [], ◌∷◌, refl, sym, ap, subst, ◌∙◌}
+use Rattle.std.specs.List.{list_any, Contains}
 use Rattle.std.proofs.lemmas.Bool.{or_cases, true≢false}
-use Rattle.std.proofs.lemmas.Int.{ints}
 use Rattle.scasp_num.specs.declared.linear.Coeff.{Coeff}
 use Rattle.scasp_num.specs.Number.{Number}
 use Rattle.scasp_num.specs.Linear.{Linear, Compares, negation}
@@ -10,7 +9,6 @@ use Rattle.scasp_list.specs.Each.{Each}
 use Rattle.scasp_num.proofs.Valuations.{negation-holds}
 use Rattle.scasp_num.specs.Values.{row_sum, Holds}
 use Rattle.scasp_num.proofs.Comparing.{holds-decided}
-use Rattle.scasp_num.proofs.Integers.{*ℤ_assoc, +ℤ-*ℤ, *ℤ_right_comm}
 use Rattle.scasp_syntax.specs.Tm.{Tm, var, num, app}
 use Rattle.scasp_syntax.specs.Values.{Sub, under}
 use Rattle.scasp_syntax.specs.View.{tm_of}
@@ -20,13 +18,13 @@ use Rattle.scasp_unify.specs.Unification.{then_by}
 use Rattle.scasp_unify.specs.Resolver.{unifies, resolver}
 use Rattle.scasp_unify.specs.Numbers.{counts, is_num_of, number_var}
 use Rattle.scasp_unify.specs.TermFailures.{is_refuted, fails_by_terms, is_compound}
-use Rattle.scasp_unify.specs.Sorted.{In}
 use Rattle.scasp_syntax.specs.RowTruth.{number_of, point}
 use Rattle.scasp_unify.specs.Points.{read_as, through}
 use Rattle.scasp_syntax.specs.declared.con.Con.{Con}
 use Rattle.scasp_syntax.specs.declared.con.Con.TheVariants as con
 use Rattle.scasp_syntax.proofs.SameLemmas.{tm_decided}
-use Rattle.scasp_unify.proofs.Members.{any-out, none-in, not-false}
+use Rattle.scasp_unify.proofs.Members.{not-false}
+use Rattle.scasp_list.proofs.MemberLemmas.{list_any-none_member, list_any-member}
 
 -- ---- a row's truth under a valuation is that at its point
 
@@ -45,10 +43,10 @@ holds-same p q r h = subst (λ s. Compares r.op (s.0 +ℤ r.constant *ℤ s.1)) 
 -- ---- a row all of whose variables count
 
 -- no constraint says that a compound term is a number
-no-compound : (cs : List Con) (z : Tm) (c : Con) → In c cs → list_any (is_refuted cs) cs ≡ false → is_compound z ≡ true → is_num_of (resolver cs) z c ≡ true → ⊥
+no-compound : (cs : List Con) (z : Tm) (c : Con) → Contains cs c → list_any (is_refuted cs) cs ≡ false → is_compound z ≡ true → is_num_of (resolver cs) z c ≡ true → ⊥
 no-compound cs z (con.Num t) i e h g =
     let same = (tm_decided (under (resolver cs) (tm_of t)) z).0 g in
-    true≢false (sym h ∙ ap is_compound (sym same) ∙ none-in (is_refuted cs) (con.Num t) cs i e)
+    true≢false (sym h ∙ ap is_compound (sym same) ∙ list_any-none_member (is_refuted cs) cs (con.Num t) e i)
 no-compound cs z (con.Eq t u) i e h g = cc
 no-compound cs z (con.Neq t u) i e h g = cc
 no-compound cs z (con.NotShape x f n) i e h g = cc
@@ -69,7 +67,7 @@ value-counts cs w p e h x c = by (resolver cs x) refl (or_cases (is_number (reso
     by (num q) same f = ap (read_as p x) same ∙ sym (ap (λ z. number_of (under w z)) same)
     by (app g us) same (inl f) = absurd (true≢false (sym f ∙ ap is_number same))
     by (app g us) same (inr f) =
-        let d = any-out (is_num_of (resolver cs) (resolver cs x)) cs f in
+        let d = list_any-member (is_num_of (resolver cs) (resolver cs x)) cs f in
         absurd (no-compound cs (resolver cs x) d.0 d.1 plain (ap is_compound same) d.2)
 
 -- it is met by the valuation where it is met by the point, read through the resolver

@@ -1,6 +1,6 @@
 -- Lists that stay sorted.
 use Rattle.std.proofs.Common.{◌≡◌, ◌⊎◌, inl, inr, ℕ, Bool, true, false, ◌||◌, List, [], ◌∷◌, ◌++◌, refl, sym, ap, subst, ◌∙◌}
-use Rattle.std.specs.List.{list_all, list_any}
+use Rattle.std.specs.List.{list_all, list_any, Contains}
 use Rattle.std.proofs.lemmas.Bool.{and_from, and_parts, true≢false}
 use Rattle.scasp_num.specs.declared.linear.Coeff.{Coeff}
 use Rattle.scasp_num.specs.Linear.{Linear, negated, negation}
@@ -14,7 +14,7 @@ use Rattle.scasp_unify.specs.Resolver.{unifies, extended, resolver_after, resolv
 use Rattle.scasp_unify.specs.Unification.{unifier}
 use Rattle.scasp_unify.specs.Numbers.{counts, is_num_of, number_var}
 use Rattle.scasp_unify.specs.TermFailures.{is_refuted, fails_by_terms}
-use Rattle.scasp_unify.specs.Sorted.{In, Sorted, apart, typed, partly, is_typed, is_typed_con}
+use Rattle.scasp_unify.specs.Sorted.{Sorted, apart, typed, partly, is_typed, is_typed_con}
 use Rattle.scasp_syntax.specs.RowTruth.{point}
 use Rattle.scasp_unify.specs.PointMeets.{PointMeets}
 use Rattle.scasp_syntax.specs.declared.con.Con.{Con}
@@ -24,14 +24,16 @@ use Rattle.scasp_unify.proofs.ResolverLemmas.{complete-list, resolver-equal}
 use Rattle.scasp_unify.proofs.FailureLemmas.{counting}
 use Rattle.scasp_unify.proofs.ValuationLemmas.{valuation, chosen, chosen-name, list_bound, some-meets, meets-point}
 use Rattle.scasp_list.proofs.EachLemmas.{Each-append, Each-map}
-use Rattle.scasp_unify.proofs.Members.{or-left, or-right, each-in, not-false, each-self, all-from, all-in, in-front, in-last, in-either}
+use Rattle.scasp_unify.proofs.Members.{or-left, or-right, not-false, Each-member, Each-self}
+use Rattle.std.proofs.lemmas.List.Elements.{Contains-append_left, Contains-push, Contains-push_cases}
+use Rattle.scasp_list.proofs.MemberLemmas.{Contains-here, Contains-there, list_all-from, list_all-member}
 
-fronts : (cs ds some : List Con) → Each (λ c. In c cs) some → Each (λ c. In c (cs ++ ds)) some
-fronts cs ds some h = Each-map (λ c. In c cs) (λ c. In c (cs ++ ds)) (λ c i. in-front c cs ds i) some h
+fronts : (cs ds some : List Con) → Each (Contains cs) some → Each (Contains (cs ++ ds)) some
+fronts cs ds some h = Each-map (Contains cs) (Contains (cs ++ ds)) (λ c i. Contains-append_left cs ds c i) some h
 
 -- what unifies with more in it unifies
-pub superset : (some cs : List Con) → Each (λ c. In c cs) some → unifies cs ≡ true → unifies some ≡ true
-superset some cs within e = (complete-list (resolver cs) some (Each-map (λ c. In c cs) (Equal (resolver cs)) (λ c i. each-in (Equal (resolver cs)) c cs (resolver-equal cs e) i) some within)).0
+pub superset : (some cs : List Con) → Each (Contains cs) some → unifies cs ≡ true → unifies some ≡ true
+superset some cs within e = (complete-list (resolver cs) some (Each-map (Contains cs) (Equal (resolver cs)) (λ c i. Each-member (Equal (resolver cs)) cs c (resolver-equal cs e) i) some within)).0
 
 all-count : (some cs : List Con) (ks : List Coeff) → ((x : ℕ) → counts some x ≡ true → counts cs x ≡ true) → list_all (λ k. counts some k.x) ks ≡ true → list_all (λ k. counts cs k.x) ks ≡ true
 all-count some cs [] h e = refl
@@ -39,7 +41,7 @@ all-count some cs (k ∷ ks) h e =
     let a = and_parts (counts some k.x) (list_all (λ j. counts some j.x) ks) e in
     and_from (counts cs k.x) (list_all (λ j. counts cs j.x) ks) (h k.x a.0) (all-count some cs ks h a.1)
 
-still-typed : (some cs : List Con) (c : Con) → Each (λ c. In c cs) some → unifies cs ≡ true → is_typed_con some c ≡ true → is_typed_con cs c ≡ true
+still-typed : (some cs : List Con) (c : Con) → Each (Contains cs) some → unifies cs ≡ true → is_typed_con some c ≡ true → is_typed_con cs c ≡ true
 still-typed some cs (con.Row r) within e f = all-count some cs r.coeffs (λ x. counting some cs x within e) f
 still-typed some cs (con.Eq t u) within e f = refl
 still-typed some cs (con.Neq t u) within e f = refl
@@ -51,15 +53,15 @@ still-typed some cs (con.NotNum t) within e f = refl
 pub one-more : (cs : List Con) (c : Con) → Sorted cs → is_typed_con cs c ≡ true → Sorted (cs ++ c ∷ [])
 one-more cs c s t = by (unifies (cs ++ c ∷ [])) refl s
   where
-    within : Each (λ d. In d (cs ++ c ∷ [])) cs
-    within = fronts cs (c ∷ []) cs (each-self cs)
+    within : Each (Contains (cs ++ c ∷ [])) cs
+    within = fronts cs (c ∷ []) cs (Each-self cs)
 
     all : unifies (cs ++ c ∷ []) ≡ true → is_typed cs ≡ true → is_typed (cs ++ c ∷ []) ≡ true
-    all e f = all-from (is_typed_con (cs ++ c ∷ [])) (cs ++ c ∷ []) (λ d i. one d (in-either d c cs i))
+    all e f = list_all-from (is_typed_con (cs ++ c ∷ [])) (cs ++ c ∷ []) (λ d i. one d (Contains-push_cases cs c d i))
       where
-        one : (d : Con) → In d cs ⊎ (d ≡ c) → is_typed_con (cs ++ c ∷ []) d ≡ true
-        one d (inl i) = still-typed cs (cs ++ c ∷ []) d within e (all-in (is_typed_con cs) cs f d i)
-        one d (inr same) = still-typed cs (cs ++ c ∷ []) d within e (ap (is_typed_con cs) same ∙ t)
+        one : (d : Con) → Contains cs d ⊎ (c ≡ d) → is_typed_con (cs ++ c ∷ []) d ≡ true
+        one d (inl i) = still-typed cs (cs ++ c ∷ []) d within e (list_all-member (is_typed_con cs) cs d f i)
+        one d (inr same) = still-typed cs (cs ++ c ∷ []) d within e (ap (is_typed_con cs) (sym same) ∙ t)
 
     by : (b : Bool) → unifies (cs ++ c ∷ []) ≡ b → Sorted cs → Sorted (cs ++ c ∷ [])
     by false e s = apart e
@@ -72,20 +74,20 @@ pub without-valuation : (cs ds : List Con) → Sorted cs → (Sat cs → ⊥) �
 without-valuation cs ds (apart e) none = by (unifies (cs ++ ds)) refl
   where
     by : (b : Bool) → unifies (cs ++ ds) ≡ b → Sorted (cs ++ ds)
-    by true f = absurd (true≢false (sym (superset cs (cs ++ ds) (fronts cs ds cs (each-self cs)) f) ∙ e))
+    by true f = absurd (true≢false (sym (superset cs (cs ++ ds) (fronts cs ds cs (Each-self cs)) f) ∙ e))
     by false f = apart f
-without-valuation cs ds (typed f) none = partly cs (fronts cs ds cs (each-self cs)) f none
+without-valuation cs ds (typed f) none = partly cs (fronts cs ds cs (Each-self cs)) f none
 without-valuation cs ds (partly some i f unmet) none = partly some (fronts cs ds some i) f unmet
 
 -- some constraints of a list with a valuation have one
-pub sat-some : (some cs : List Con) → Each (λ c. In c cs) some → Sat cs → Sat some
-sat-some some cs within s = record { by = s.by; meets = all-from (holds s.by.of) some (λ c i. all-in (holds s.by.of) cs s.meets c (each-in (λ d. In d cs) c some within i)) }
+pub sat-some : (some cs : List Con) → Each (Contains cs) some → Sat cs → Sat some
+sat-some some cs within s = record { by = s.by; meets = list_all-from (holds s.by.of) some (λ c i. list_all-member (holds s.by.of) cs c s.meets (Each-member (Contains cs) some c within i)) }
 
 -- what a sorted list with a valuation entails to be a number counts as one in it
 pub entailed-counts : (cs : List Con) (x : ℕ) → Sorted cs → Sat cs → Entails cs (con.Num (Var x)) → counts cs x ≡ true
 entailed-counts cs x (apart e) s h = absurd (true≢false (sym (not-false (unifies cs) (list_any (is_refuted cs) cs) (meets-point cs s.by.of s.meets).0).0 ∙ e))
 entailed-counts cs x (partly some i f none) s h = absurd (none (sat-some some cs i s))
-entailed-counts cs x (typed f) s h = by (resolver cs x) refl (h (valuation cs p k) (some-meets cs cs p (each-self cs) f m.0 m.1))
+entailed-counts cs x (typed f) s h = by (resolver cs x) refl (h (valuation cs p k) (some-meets cs cs p (Each-self cs) f m.0 m.1))
   where
     p : ℕ → Number
     p = point s.by.of
@@ -138,13 +140,13 @@ negated-counts cs n (k ∷ ks) e =
 pub negation-added : (cs : List Con) (r : Linear) → Sorted cs → list_all (λ k. counts cs k.x) r.coeffs ≡ true → Sorted (cs ++ con.Row (negation r) ∷ [])
 negation-added cs r s e = one-more cs (con.Row (negation r)) s (negated-counts cs _ r.coeffs e)
 
-pub found-or-not : (d : Con) (cs some : List Con) → Each (λ c. In c (cs ++ d ∷ [])) some → In d some ⊎ Each (λ c. In c cs) some
+pub found-or-not : (d : Con) (cs some : List Con) → Each (Contains (cs ++ d ∷ [])) some → Contains some d ⊎ Each (Contains cs) some
 found-or-not d cs [] h = inr tt
-found-or-not d cs (c ∷ some) h = by (in-either c d cs h.0) (found-or-not d cs some h.1)
+found-or-not d cs (c ∷ some) h = by (Contains-push_cases cs d c h.0) (found-or-not d cs some h.1)
   where
-    by : In c cs ⊎ (c ≡ d) → In d some ⊎ Each (λ c. In c cs) some → In d (c ∷ some) ⊎ Each (λ c. In c cs) (c ∷ some)
-    by (inr e) rest = inl (inl (sym e))
-    by (inl i) (inl j) = inl (inr j)
+    by : Contains cs c ⊎ (d ≡ c) → Contains some d ⊎ Each (Contains cs) some → Contains (c ∷ some) d ⊎ Each (Contains cs) (c ∷ some)
+    by (inr e) rest = inl (subst (Contains (c ∷ some)) (sym e) (Contains-here c some))
+    by (inl i) (inl j) = inl (Contains-there c some d j)
     by (inl i) (inr j) = inr (i, j)
 
 pub unifies-row : (cs : List Con) (r : Linear) → unifies cs ≡ true → unifies (cs ++ con.Row r ∷ []) ≡ true
@@ -156,9 +158,9 @@ negation-sorted cs r s t = by (unifies cs) refl t
     by : (b : Bool) → unifies cs ≡ b → Sorted (cs ++ con.Row r ∷ []) → Sorted (cs ++ con.Row (negation r) ∷ [])
     by false u t = without-valuation cs (con.Row (negation r) ∷ []) s (λ k. true≢false (sym (not-false (unifies cs) (list_any (is_refuted cs) cs) (meets-point cs k.by.of k.meets).0).0 ∙ u))
     by true u (apart e) = absurd (true≢false (sym (unifies-row cs r u) ∙ e))
-    by true u (typed e) = negation-added cs r s (all-count (cs ++ con.Row r ∷ []) cs r.coeffs (counts-row cs r) (all-in (is_typed_con (cs ++ con.Row r ∷ [])) (cs ++ con.Row r ∷ []) e (con.Row r) (in-last (con.Row r) cs)))
+    by true u (typed e) = negation-added cs r s (all-count (cs ++ con.Row r ∷ []) cs r.coeffs (counts-row cs r) (list_all-member (is_typed_con (cs ++ con.Row r ∷ [])) (cs ++ con.Row r ∷ []) (con.Row r) e (Contains-push cs (con.Row r))))
     by true u (partly some within e none) = part (found-or-not (con.Row r) cs some within)
       where
-        part : In (con.Row r) some ⊎ Each (λ c. In c cs) some → Sorted (cs ++ con.Row (negation r) ∷ [])
-        part (inl i) = negation-added cs r s (all-count some cs r.coeffs (λ x c. counts-row cs r x (counting some (cs ++ con.Row r ∷ []) x within (unifies-row cs r u) c)) (all-in (is_typed_con some) some e (con.Row r) i))
+        part : Contains some (con.Row r) ⊎ Each (Contains cs) some → Sorted (cs ++ con.Row (negation r) ∷ [])
+        part (inl i) = negation-added cs r s (all-count some cs r.coeffs (λ x c. counts-row cs r x (counting some (cs ++ con.Row r ∷ []) x within (unifies-row cs r u) c)) (list_all-member (is_typed_con some) some (con.Row r) e i))
         part (inr j) = without-valuation cs (con.Row (negation r) ∷ []) s (λ k. none (sat-some some cs j k))

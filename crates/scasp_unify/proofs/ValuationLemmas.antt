@@ -1,6 +1,6 @@
 -- A sorted list has a valuation exactly where it does not fail by terms and some rational point meets what it says of numbers.
-use Rattle.std.proofs.Common.{◌≡◌, inl, inr, ℕ, suc, ◌+◌, ◌≤◌, Bool, true, false, ◌&&◌, nat_lt, if◌then◌else◌, List, [], ◌∷◌, Option, None, Some, refl, sym, ap, ◌∙◌, arith}
-use Rattle.std.specs.List.{list_all, list_any}
+use Rattle.std.proofs.Common.{◌≡◌, ℕ, suc, ◌+◌, ◌≤◌, Bool, true, false, ◌&&◌, nat_lt, if◌then◌else◌, List, [], ◌∷◌, Option, None, Some, refl, sym, ap, ◌∙◌, arith}
+use Rattle.std.specs.List.{list_all, list_any, Contains}
 use Rattle.std.proofs.lemmas.Bool.{and_from, and_parts, lt-ltb, true≢false}
 use Rattle.scasp_num.specs.declared.linear.Coeff.{Coeff}
 use Rattle.scasp_list.specs.Each.{Each}
@@ -15,7 +15,7 @@ use Rattle.scasp_unify.specs.Unification.{then_by, Absorbs}
 use Rattle.scasp_unify.specs.Resolver.{unifies, resolver}
 use Rattle.scasp_unify.specs.Numbers.{counts, is_num_of, number_var, is_number_term, is_among_numbers}
 use Rattle.scasp_unify.specs.TermFailures.{is_refuted, fails_by_terms}
-use Rattle.scasp_unify.specs.Sorted.{In, Sorted, apart, typed, partly, is_typed, is_typed_con}
+use Rattle.scasp_unify.specs.Sorted.{Sorted, apart, typed, partly, is_typed, is_typed_con}
 use Rattle.scasp_unify.proofs.Choices.{is_named_below, are_named_below, Named, Apart, IfParts-apart, TermsHold, Choice}
 use Rattle.scasp_syntax.specs.RowTruth.{number_of, point}
 use Rattle.scasp_unify.specs.Points.{read_as, through}
@@ -26,7 +26,8 @@ use Rattle.scasp_unify.proofs.UnificationLemmas.{Fits, Says, parts-say, resolved
 use Rattle.scasp_unify.proofs.FailureLemmas.{num-of, absorbed, complete, sound, counting}
 use Rattle.scasp_unify.proofs.PointLemmas.{bridge, holds-same, complete-row, point-through}
 use Rattle.scasp_syntax.proofs.ValueLemmas.{differ_decided}
-use Rattle.scasp_unify.proofs.Members.{each-in, any-out, not-false, all-from, all-in, each-self}
+use Rattle.scasp_unify.proofs.Members.{not-false, Each-member, Each-from, Each-self}
+use Rattle.scasp_list.proofs.MemberLemmas.{list_all-from, list_all-member, list_any-member}
 
 -- ---- a number above all names of a list, resolved
 
@@ -149,8 +150,8 @@ apart-by cs p k (con.NotNum t) m = tt
 apart-by cs p k (con.Row r) m = tt
 
 -- constraints of the list all of whose rows are typed among themselves are met
-pub some-meets : (some cs : List Con) (p : ℕ → Number) → Each (λ c. In c cs) some → is_typed some ≡ true → fails_by_terms cs ≡ false → Each (PointMeets cs p) cs → Meets (valuation cs p (list_bound (resolver cs) cs)).of some
-some-meets some cs p within types e met = all-from (holds v) some one
+pub some-meets : (some cs : List Con) (p : ℕ → Number) → Each (Contains cs) some → is_typed some ≡ true → fails_by_terms cs ≡ false → Each (PointMeets cs p) cs → Meets (valuation cs p (list_bound (resolver cs) cs)).of some
+some-meets some cs p within types e met = list_all-from (holds v) some one
   where
     k : ℕ
     k = list_bound (resolver cs) cs
@@ -158,7 +159,7 @@ some-meets some cs p within types e met = all-from (holds v) some one
     v : Sub
     v = then_by (resolver cs) (chosen cs p k)
 
-    terms : (c : Con) → In c cs → TermsHold v c
+    terms : (c : Con) → Contains cs c → TermsHold v c
     terms c i = complete cs k (chosen cs p k) e (named-list (resolver cs) k cs (omega arith)) (choice cs p k) (Each-map (PointMeets cs p) (Apart cs (chosen cs p k)) (apart-by cs p k) cs met) c i
 
     all-count : (ks : List Coeff) → list_all (λ k. counts some k.x) ks ≡ true → Each (λ k. counts cs k.x ≡ true) ks
@@ -167,23 +168,23 @@ some-meets some cs p within types e met = all-from (holds v) some one
         let a = and_parts (counts some j.x) (list_all (λ k. counts some k.x) js) f in
         (counting some cs j.x within (not-false (unifies cs) (list_any (is_refuted cs) cs) e).0 a.0, all-count js a.1)
 
-    one : (c : Con) → In c some → holds v c ≡ true
-    one c i = by c (each-in (λ c. In c cs) c some within i) (all-in (is_typed_con some) some types c i)
+    one : (c : Con) → Contains some c → holds v c ≡ true
+    one c i = by c (Each-member (Contains cs) some c within i) (list_all-member (is_typed_con some) some c types i)
       where
-        by : (c : Con) → In c cs → is_typed_con some c ≡ true → holds v c ≡ true
-        by (con.Row r) i f = complete-row cs (chosen cs p k) p e (λ y g. ap number_of (chosen-number cs p k y g)) r (all-count r.coeffs f) (each-in (PointMeets cs p) (con.Row r) cs met i)
+        by : (c : Con) → Contains cs c → is_typed_con some c ≡ true → holds v c ≡ true
+        by (con.Row r) i f = complete-row cs (chosen cs p k) p e (λ y g. ap number_of (chosen-number cs p k y g)) r (all-count r.coeffs f) (Each-member (PointMeets cs p) cs (con.Row r) met i)
         by (con.Eq t u) i f = terms (con.Eq t u) i
         by (con.Neq t u) i f = terms (con.Neq t u) i
         by (con.NotShape x g n) i f = terms (con.NotShape x g n) i
         by (con.Num t) i f = terms (con.Num t) i
         by (con.NotNum t) i f = terms (con.NotNum t) i
 
-some-met : (some cs : List Con) (p : ℕ → Number) → Each (λ c. In c cs) some → is_typed some ≡ true → fails_by_terms cs ≡ false → Each (PointMeets cs p) cs → Sat some
+some-met : (some cs : List Con) (p : ℕ → Number) → Each (Contains cs) some → is_typed some ≡ true → fails_by_terms cs ≡ false → Each (PointMeets cs p) cs → Sat some
 some-met some cs p within types e met = record { by = valuation cs p (list_bound (resolver cs) cs); meets = some-meets some cs p within types e met }
 
 pub sorted-met : (cs : List Con) (p : ℕ → Number) → Sorted cs → fails_by_terms cs ≡ false → Each (PointMeets cs p) cs → Sat cs
 sorted-met cs p (apart e) f met = absurd (true≢false (sym (not-false (unifies cs) (list_any (is_refuted cs) cs) f).0 ∙ e))
-sorted-met cs p (typed e) f met = some-met cs cs p (each-self cs) e f met
+sorted-met cs p (typed e) f met = some-met cs cs p (Each-self cs) e f met
 sorted-met cs p (partly some within e none) f met = absurd (none (some-met some cs p within e f met))
 
 -- ---- and the other way, for every list
@@ -195,8 +196,8 @@ num-value (app f ts) e = cc
 
 number-by : (cs : List Con) (v : Sub) → Each (TermsHold v) cs → Absorbs v (resolver cs) → (y : ℕ) → number_var cs y ≡ true → v y ≡ num (point v y)
 number-by cs v h a y e =
-    let d = any-out (is_num_of (resolver cs) (var y)) cs e in
-    num-value (v y) (num-of (resolver cs) (var y) d.0 d.2 v a (each-in (TermsHold v) d.0 cs h d.1))
+    let d = list_any-member (is_num_of (resolver cs) (var y)) cs e in
+    num-value (v y) (num-of (resolver cs) (var y) d.0 d.2 v a (Each-member (TermsHold v) cs d.0 h d.1))
 
 part-value : (cs : List Con) (v : Sub) → Each (TermsHold v) cs → Absorbs v (resolver cs) → (x : ℕ) (t : Tm) → (number_var cs x && is_number_term cs t) ≡ true → point v x ≡ read_as (point v) x t → v x ≡ under v t
 part-value cs v h a x (var y) e same =
@@ -219,22 +220,18 @@ terms-hold v (con.NotShape x f n) e = e
 terms-hold v (con.Num t) e = e
 terms-hold v (con.NotNum t) e = e
 
-each-by : (P : Con → Type 0) (cs : List Con) → ((c : Con) → In c cs → P c) → Each P cs
-each-by P [] h = tt
-each-by P (c ∷ cs) h = (h c (inl refl), each-by P cs (λ d i. h d (inr i)))
-
 pub meets-point : (cs : List Con) (v : Sub) → Meets v cs → (fails_by_terms cs ≡ false) × Each (PointMeets cs (point v)) cs
-meets-point cs v m = (sound cs v held, each-by (PointMeets cs (point v)) cs one)
+meets-point cs v m = (sound cs v held, Each-from (PointMeets cs (point v)) cs one)
   where
     held : Each (TermsHold v) cs
-    held = each-by (TermsHold v) cs (λ c i. terms-hold v c (all-in (holds v) cs m c i))
+    held = Each-from (TermsHold v) cs (λ c i. terms-hold v c (list_all-member (holds v) cs c m i))
 
     absorbs : Absorbs v (resolver cs)
     absorbs = absorbed cs v held
 
-    one : (c : Con) → In c cs → PointMeets cs (point v) c
+    one : (c : Con) → Contains cs c → PointMeets cs (point v) c
     one (con.Row r) i =
-        holds-same (point v) (through (resolver cs) (point v)) r (same r.coeffs) ((bridge v r).0 (all-in (holds v) cs m (con.Row r) i))
+        holds-same (point v) (through (resolver cs) (point v)) r (same r.coeffs) ((bridge v r).0 (list_all-member (holds v) cs (con.Row r) m i))
       where
         same : (ks : List Coeff) → Each (λ k. point v k.x ≡ through (resolver cs) (point v) k.x) ks
         same [] = tt
@@ -244,7 +241,7 @@ meets-point cs v m = (sound cs v held, each-by (PointMeets cs (point v)) cs one)
         by : (o : Option (List Part)) → Says v o (under v (under (resolver cs) (tm_of t)) ≡ under v (under (resolver cs) (tm_of u))) → PartsDiffer cs (point v) o
         by None says = tt
         by (Some ps) says = λ e f.
-            (differ_decided (under v (tm_of t)) (under v (tm_of u))).0 (all-in (holds v) cs m (con.Neq t u) i)
+            (differ_decided (under v (tm_of t)) (under v (tm_of u))).0 (list_all-member (holds v) cs (con.Neq t u) m i)
             (sym (resolved-twice v (resolver cs) (tm_of t) absorbs) ∙ says.1 (parts-value cs v held absorbs ps e f) ∙ resolved-twice v (resolver cs) (tm_of u) absorbs)
     one (con.Eq t u) i = tt
     one (con.NotShape x f n) i = tt

@@ -1,6 +1,6 @@
 -- The lists of constraints of which it is decided whether they have a valuation.
-use Rattle.std.specs.Prelude.{◌≡◌, ◌⊎◌, Bool, true, false, IsTrue, List, [], ◌∷◌}
-use Rattle.std.specs.List.{list_all}
+use Rattle.std.specs.Prelude.{◌≡◌, Bool, true, false, IsTrue, List}
+use Rattle.std.specs.List.{list_all, Contains}
 use Rattle.scasp_list.specs.Each.{Each}
 use Rattle.scasp_syntax.specs.Constraints.{Sat}
 use Rattle.scasp_syntax.specs.declared.con.Con.{Con}
@@ -20,12 +20,8 @@ is_typed_con cs (con.NotNum t) = true
 abbrev pub is_typed : List Con → Bool
 is_typed cs = list_all (is_typed_con cs) cs
 
-abbrev pub In : Con → List Con → Type 0
-In c [] = ⊥
-In c (d ∷ ds) = (c ≡ d) ⊎ In c ds
-
 -- the lists whose valuations are decided
 pub data Sorted (cs : List Con) : Type 0 where
   apart : unifies cs ≡ false → Sorted cs
   typed : IsTrue (is_typed cs) → Sorted cs
-  partly : (some : List Con) → Each (λ c. In c cs) some → IsTrue (is_typed some) → (Sat some → ⊥) → Sorted cs
+  partly : (some : List Con) → Each (Contains cs) some → IsTrue (is_typed some) → (Sat some → ⊥) → Sorted cs

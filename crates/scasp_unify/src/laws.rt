@@ -1,6 +1,6 @@
 //! What holds of unification, and of lists of constraints.
 ghost use Rattle.std.specs.Prelude.{◌≡◌, ◌↔◌, ℕ, true, false, not, IsTrue, List, [], ◌∷◌, ◌++◌, Some};
-ghost use Rattle.std.specs.List.{list_all};
+ghost use Rattle.std.specs.List.{Contains, list_all};
 ghost use Rattle.scasp_list.specs.Each.{Each};
 ghost use Rattle.scasp_num.specs.Linear.{IsNormal, Linear, negation};
 ghost use Rattle.scasp_num.specs.Number.{Number};
@@ -22,7 +22,7 @@ ghost use Rattle.scasp_unify.specs.ResolvedRows.{resolved_row};
 ghost use Rattle.scasp_unify.specs.Unification.{Absorbs, unifier};
 ghost use Rattle.scasp_unify.specs.Resolver.{Equal, resolver, unifies};
 ghost use Rattle.scasp_unify.specs.SimpleForm.{simple, term_with};
-ghost use Rattle.scasp_unify.specs.Sorted.{In, Sorted, is_typed_con};
+ghost use Rattle.scasp_unify.specs.Sorted.{Sorted, is_typed_con};
 ghost use Rattle.scasp_unify.specs.TermFailures.{fails_by_terms};
 
 /// The unifier of two terms makes them equal. And each substitution that makes them equal goes on from the unifier,
@@ -81,6 +81,6 @@ pub fn lists_stay_sorted()
     ensures kept { (cs : List ThisCon) (c : ThisCon) → Sorted cs → is_typed_con cs c ≡ true → Sorted (cs ++ c ∷ []) }
     ensures negated { (cs : List ThisCon) (r : Linear) → Sorted cs → Sorted (cs ++ con.Row r ∷ []) → Sorted (cs ++ con.Row (negation r) ∷ []) }
     ensures without { (cs ds : List ThisCon) → Sorted cs → (Sat cs → ⊥) → Sorted (cs ++ ds) }
-    ensures counting { (some cs : List ThisCon) (x : ℕ) → Each (λ c. In c cs) some → unifies cs ≡ true → counts some x ≡ true → counts cs x ≡ true }
+    ensures counting { (some cs : List ThisCon) (x : ℕ) → Each (Contains cs) some → unifies cs ≡ true → counts some x ≡ true → counts cs x ≡ true }
     ensures counts { (cs : List ThisCon) (x : ℕ) → Sorted cs → Sat cs → Entails cs (con.Num (TermVar x)) → counts cs x ≡ true }
 {}

@@ -1,5 +1,6 @@
 -- Graphs whose nodes are numbers, and what is known of them while they are searched.
-use Rattle.std.specs.Prelude.{◌≡◌, ◌≢◌, ℕ, ◌-◌, ◌<◌, ◌≤◌, Bool, true, false, cond, List, length, Option, None, Some, is_some, slice_get, slice_index_or, sum_by, unwrap_or}
+use Rattle.std.specs.Prelude.{◌≡◌, ◌≢◌, ℕ, ◌-◌, ◌<◌, ◌≤◌, Bool, true, false, cond, List, length, Option, None, Some, is_some, slice_index_or, sum_by, unwrap_or}
+use Rattle.std.specs.List.{Contains}
 use Rattle.scasp_graph.specs.Walks.{Walk}
 use Rattle.scasp_graph.specs.declared.graph.Edge.{Edge}
 use Rattle.scasp_graph.specs.declared.graph.Graph.{Graph}
@@ -9,7 +10,7 @@ edge_at edges e = slice_index_or edges e (record { from = 0; to = 0; negated = f
 
 -- an edge of the list from u to v
 abbrev pub EdgeIn : List Edge → ℕ → Bool → ℕ → Type 0
-EdgeIn edges u negated v = (e : ℕ) × (slice_get edges e ≡ Some (record { from = u; to = v; negated = negated }))
+EdgeIn edges u negated v = Contains edges (record { from = u; to = v; negated = negated })
 
 -- each edge joins nodes below the size
 pub record EndsBelow (size : ℕ) (edges : List Edge) : Type 0 where
@@ -52,10 +53,6 @@ marked_count marks = sum_by (λ m. cond (is_some m) 1 0) marks
 pub record AreBelow (size : ℕ) (nodes : List ℕ) : Type 0 where
   pub each : (k : ℕ) → k < length nodes → slice_index_or nodes k 0 < size
 
--- the node is in the list
-abbrev pub IsListed : List ℕ → ℕ → Type 0
-IsListed nodes v = (k : ℕ) × ((k < length nodes) × (slice_index_or nodes k 0 ≡ v))
-
 -- no node is marked
 pub record AreClear (size : ℕ) (marks : Marks) : Type 0 where
   pub sized : length marks ≡ size
@@ -72,6 +69,6 @@ pub record IsReach (size : ℕ) (edges : List Edge) (inside : Marks) (start : �
   pub within : (v : ℕ) → is_marked marks v ≡ true → is_marked inside v ≡ true
   pub sound : (v : ℕ) (b : Bool) → mark_of marks v ≡ Some b → Walk (EdgeTo edges inside) start v b
   pub closed : (e : ℕ) → e < length edges → is_marked marks (edge_at edges e).from ≡ true → is_marked inside (edge_at edges e).to ≡ true → is_marked marks (edge_at edges e).to ≡ true
-  pub listed : (v : ℕ) → is_marked marks v ≡ true → IsListed found v
+  pub listed : (v : ℕ) → is_marked marks v ≡ true → Contains found v
   pub marked : (k : ℕ) → k < length found → is_marked marks (slice_index_or found k 0) ≡ true
   pub counted : length found ≡ marked_count marks

@@ -2,11 +2,12 @@
 use Rattle.std.specs.Prelude.{◌≡◌, ◌⊎◌, ℕ, ◌<◌, ◌≤◌, Bool, true, false, not, ◌&&◌, nat_eq, List, length, map}
 use Rattle.scasp_syntax.specs.Same.{same_bool}
 use Rattle.scasp_graph.specs.Inside.Components.{turned, member_at, root_of}
-use Rattle.scasp_graph.specs.Inside.Graphs.{EdgeIn, Marks, is_marked, mark_of, odd_of, marked_count, AreClear, IsListed, IsReach}
+use Rattle.scasp_graph.specs.Inside.Graphs.{EdgeIn, Marks, is_marked, mark_of, odd_of, marked_count, AreClear, IsReach}
 use Rattle.scasp_graph.specs.Walks.{Walk, Reaches}
 use Rattle.scasp_graph.specs.declared.components.Member.{Member}
 use Rattle.scasp_graph.specs.declared.components.Partition.{Partition}
 use Rattle.scasp_graph.specs.declared.graph.Edge.{Edge}
+use Rattle.std.specs.List.{Contains}
 
 abbrev pub rank_of : List Member → ℕ → ℕ
 rank_of members u = (member_at members u).rank
@@ -53,7 +54,7 @@ pub record ArePlaced (members : List Member) (free : Marks) (rank : ℕ) (nodes 
   pub sized : length after ≡ length members
   pub freed : length rest ≡ length free
   pub root : ℕ
-  pub listed : IsListed nodes root
-  pub least : (u : ℕ) → IsListed nodes u → root ≤ u
-  pub each : (u : ℕ) → IsListed nodes u → (member_at after u ≡ placed root rank from to u) × (is_marked rest u ≡ false)
-  pub others : (u : ℕ) → ¬ IsListed nodes u → (member_at after u ≡ member_at members u) × (mark_of rest u ≡ mark_of free u)
+  pub listed : Contains nodes root
+  pub least : (u : ℕ) → Contains nodes u → root ≤ u
+  pub each : (u : ℕ) → Contains nodes u → (member_at after u ≡ placed root rank from to u) × (is_marked rest u ≡ false)
+  pub others : (u : ℕ) → ¬ Contains nodes u → (member_at after u ≡ member_at members u) × (mark_of rest u ≡ mark_of free u)

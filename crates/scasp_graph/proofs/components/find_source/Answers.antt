@@ -1,9 +1,10 @@
-use Rattle.std.proofs.Common.{◌≡◌, ℕ, false, List, map, subst}
+use Rattle.std.proofs.Common.{◌≡◌, ℕ, ◌<◌, true, false, List, length, get_or, map, subst, arith}
 use Rattle.scasp_graph.specs.Inside.Components.{turned}
-use Rattle.scasp_graph.specs.Inside.Graphs.{Marks, is_marked, IsListed, IsReach}
+use Rattle.scasp_graph.specs.Inside.Graphs.{Marks, is_marked, IsReach}
 use Rattle.scasp_graph.specs.declared.graph.Edge.{Edge}
-use Rattle.scasp_graph.proofs.ComponentLemmas.{searched, source-smaller}
+use Rattle.scasp_graph.proofs.ComponentLemmas.{listed-marked, reach-below, searched, source-found, source-smaller}
 use Rattle.scasp_graph.proofs.components.find_source.Goals as goal
+use Rattle.std.specs.List.{Contains}
 
 pub loop-next-init : goal.loop-next-init
 loop-next-init c =
@@ -35,7 +36,30 @@ loop-next-smaller c =
     let back : IsReach size (map turned edges) free c.in-Some.next after later =
     subst (λ z. IsReach size z free c.in-Some.next after later) c.requires.turned
     (subst (λ z. IsReach z c.args.behind.now.edges.items free c.in-Some.next after later) c.requires.sizes c.in_ok-leading-2.ensures) in
-    let listed : IsListed c.loop-next.leading.items c.in-Some.next = subst (λ z. IsListed z c.in-Some.next) c.deref-in-loop-next.ensures.value c.in-Some.ensures.0 in
+    let listed : Contains c.loop-next.leading.items c.in-Some.next = subst (λ z. Contains z c.in-Some.next) c.deref-in-loop-next.ensures.value c.in-Some.ensures.0 in
     let unmarked : is_marked c.loop-next.to.items c.in-Some.next ≡ false = subst (λ (z : Marks). is_marked z c.in-Some.next ≡ false) c.deref-in-loop-next-2.ensures.value c.in-Some.ensures.1 in
     source-smaller size edges free c.loop-next.from.items c.loop-next.to.items after c.loop-next.leading.items c.loop-next.nodes.items later
     c.loop-next.invariant.start c.in-Some.next c.loop-next.invariant.back c.loop-next.invariant.ahead back listed unmarked
+
+pub search-requires-in-Some-clause-start : goal.search-requires-in-Some-clause-start
+search-requires-in-Some-clause-start c =
+    let size : ℕ = c.args.ahead.now.size in
+    let edges : List Edge = map turned c.args.ahead.now.edges.items in
+    let listed : Contains c.loop-next.leading.items c.in-Some.next = subst (λ z. Contains z c.in-Some.next) c.deref-in-loop-next.ensures.value c.in-Some.ensures.0 in
+    let marked = listed-marked size edges c.args.free.now c.loop-next.invariant.start c.loop-next.from.items c.loop-next.leading.items c.loop-next.invariant.back c.in-Some.next listed in
+    let below = reach-below size edges c.args.free.now c.loop-next.invariant.start c.loop-next.from.items c.loop-next.leading.items c.loop-next.invariant.back c.in-Some.next marked in
+    omega (arith, below, c.requires.sizes)
+
+pub search-requires-in-Some-clause-inside : goal.search-requires-in-Some-clause-inside
+search-requires-in-Some-clause-inside c =
+    let size : ℕ = c.args.ahead.now.size in
+    let edges : List Edge = map turned c.args.ahead.now.edges.items in
+    let listed : Contains c.loop-next.leading.items c.in-Some.next = subst (λ z. Contains z c.in-Some.next) c.deref-in-loop-next.ensures.value c.in-Some.ensures.0 in
+    c.loop-next.invariant.back.within c.in-Some.next
+    (listed-marked size edges c.args.free.now c.loop-next.invariant.start c.loop-next.from.items c.loop-next.leading.items c.loop-next.invariant.back c.in-Some.next listed)
+
+pub returns : goal.returns
+returns c =
+    let all = subst (λ (z : Marks). (k : ℕ) → k < length c.deref-in-loop-next.result.now → is_marked z (get_or c.deref-in-loop-next.result.now k 0) ≡ true) c.deref-in-loop-next-2.ensures.value c.in_default.ensures in
+    source-found c.args.ahead.now.size c.args.ahead.now.edges.items c.args.free.now c.loop-next.from.items c.loop-next.to.items c.loop-next.leading.items c.loop-next.nodes.items c.loop-next.invariant
+    (subst (λ (z : List ℕ). (k : ℕ) → k < length z → is_marked c.loop-next.to.items (get_or z k 0) ≡ true) c.deref-in-loop-next.ensures.value all)
