@@ -7,6 +7,7 @@ mod backward;
 mod elimination;
 mod indexed;
 pub mod laws;
+mod left_rows;
 mod outlook;
 mod range;
 mod replacing;
@@ -16,6 +17,8 @@ mod state;
 mod steps;
 mod verdict;
 
+pub use elimination::variables;
+pub use left_rows::eliminate_variables;
 pub use rows::is_false;
 pub use samples::{Point, RowLists, are_disequations, sample};
 pub use steps::{StepErr, step};
