@@ -27,8 +27,8 @@ use Rattle.scasp_rows.proofs.Forward.{Met, Became, has, Fine, Lacks, and_then-ok
 use Rattle.scasp_rows.proofs.Extending.{Extends, solves-sized, equation-extends, became-extends, bounds-extend}
 use Rattle.scasp_rows.proofs.Completeness.{others-back, all-extended, Conditions, made_without-conditions, without-made, zeroed-met, variables-lack, all-among, given-rows, all_looked-ok, fraction}
 use Rattle.scasp_project.specs.Dropped.{is_dropped, row_has}
-use Rattle.scasp_project.specs.LeftRows.{elimination_of}
-use Rattle.scasp_project.proofs.PlainLemmas.{LeftMet, left-met, rows_of}
+use Rattle.scasp_project.specs.LeftRows.{elimination_dropping}
+use Rattle.scasp_project.proofs.StandingLemmas.{LeftMet, left-met, rows_of}
 
 -- ---- one variable
 
@@ -203,7 +203,7 @@ pub record LeftOf (keep : List ℕ) (rows left : List Linear) : Type 0 where
   pub met : (v : RationalPoint) → MeetsAll v rows → MeetsAll v left
   pub extends : (v : RationalPoint) → MeetsAll v left → (w : RationalPoint) × MeetsAll w rows × ((y : ℕ) → is_dropped keep y ≡ false → w y ≡ v y)
 
-pub left-extends : (keep : List ℕ) (rows : List Linear) (t : State) → Each IsNormal rows → NoDisequation rows → elimination_of keep rows ≡ Ok t → LeftOf keep rows (rows_of t.standing)
+pub left-extends : (keep : List ℕ) (rows : List Linear) (t : State) → Each IsNormal rows → NoDisequation rows → elimination_dropping keep rows ≡ Ok t → LeftOf keep rows (rows_of t.standing)
 left-extends keep rows t h n e = record {
   lack = Each-standing (λ (r : Linear). row_has (is_dropped keep) r ≡ false) t.standing (Each-map (Fine ys) (λ (r : Standing). row_has (is_dropped keep) r.row ≡ false) lacks t.standing fine.0);
   normal = Each-standing IsNormal t.standing (Each-map (Fine ys) (λ (r : Standing). IsNormal r.row) (λ r f. f.normal) t.standing fine.0);

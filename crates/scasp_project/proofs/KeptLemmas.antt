@@ -43,12 +43,13 @@ use Rattle.scasp_hint.proofs.FoundLemmas.{found-hint}
 use Rattle.scasp_hint.proofs.ShownLemmas.{shown-unsat}
 use Rattle.scasp_project.specs.Choices.{chosen, crossed, options, options_by, part_options, part_rows, parts_options, row_options, speak_of_dropped}
 use Rattle.scasp_project.specs.Dropped.{Reading, con_has, is_between, is_dropped, part_has, parts_have, parts_in, row_has}
-use Rattle.scasp_project.specs.LeftRows.{elimination_of, rows_left}
+use Rattle.scasp_rows.specs.LeftRows.{rows_left}
+use Rattle.scasp_project.specs.LeftRows.{elimination_dropping}
 use Rattle.scasp_project.specs.Meaning.{Agree}
 use Rattle.scasp_project.specs.Projection.{all_kept, asked_kept, choice_kept, found_kept, is_new, kept, left_kept, remaining, stays}
 use Rattle.scasp_project.proofs.ExtendLemmas.{left-extends}
 use Rattle.scasp_project.proofs.ForwardLemmas.{any-left, any-right, is_met_by}
-use Rattle.scasp_project.proofs.PlainLemmas.{LeftMet, left-met, rows_of}
+use Rattle.scasp_project.proofs.StandingLemmas.{LeftMet, left-met, rows_of}
 
 -- ---- rows in normal form
 
@@ -274,7 +275,7 @@ module _ (s : Reading) (v w : Valuation) (agree : Agree s.keep v.of w.of) (a : A
       by unknown_list i e = cc
 
   choice-met : (ds : List Con) (here : Option (List Con)) → AllNormal ds → choice_kept s ds ≡ Some here → is_met_by w.of ds ≡ true → list_any (is_met_by v.of) (option_to_list here) ≡ true
-  choice-met ds here n e m = by (elimination_of s.keep rows) refl (left-met (point w.of) s.keep rows plain met) e
+  choice-met ds here n e m = by (elimination_dropping s.keep rows) refl (left-met (point w.of) s.keep rows plain met) e
     where
       rows : List Linear
       rows = inequalities (given_rows ds)
@@ -285,7 +286,7 @@ module _ (s : Reading) (v w : Valuation) (agree : Agree s.keep v.of w.of) (a : A
       met : MeetsAll (point w.of) rows
       met = inequalities-each (Holds (point w.of)) (given_rows ds) (rows-held w.of ds m)
 
-      by : (o : Result State Halt) → elimination_of s.keep rows ≡ o → LeftMet (point w.of) o → left_kept s ds (rows_left o) ≡ Some here → list_any (is_met_by v.of) (option_to_list here) ≡ true
+      by : (o : Result State Halt) → elimination_dropping s.keep rows ≡ o → LeftMet (point w.of) o → left_kept s ds (rows_left o) ≡ Some here → list_any (is_met_by v.of) (option_to_list here) ≡ true
       by (Ok t) i h e =
           let left = left-extends s.keep rows t (inequalities-each IsNormal (given_rows ds) (normal-rows ds n)) plain i in
           asked-met (remaining s.keep ds (rows_of t.standing)) here (remaining-normal s.keep ds (rows_of t.standing) n left.normal) e (remaining-met w.of s.keep ds (rows_of t.standing) m h)

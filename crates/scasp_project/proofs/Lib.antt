@@ -4,7 +4,7 @@ pub mod ForwardLemmas
 pub mod KeptLemmas
 pub mod MetLaw
 pub mod OpenParts
-pub mod PlainLemmas
+pub mod StandingLemmas
 pub mod PossibleLaw
 pub mod RowLaw
 pub mod SourceLemmas

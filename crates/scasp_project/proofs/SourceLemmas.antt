@@ -36,14 +36,15 @@ use Rattle.scasp_hint.proofs.FoundLemmas.{found-nothing}
 use Rattle.scasp_hint.proofs.SatisfyingLemmas.{above-differs, below-differs, sat-point}
 use Rattle.scasp_project.specs.Choices.{chosen, crossed, options, options_by, parts_options, row_options, speak_of_dropped}
 use Rattle.scasp_project.specs.Dropped.{Reading, con_has, is_dropped, parts_in, reading_of, row_has}
-use Rattle.scasp_project.specs.LeftRows.{elimination_of, rows_left}
+use Rattle.scasp_rows.specs.LeftRows.{rows_left}
+use Rattle.scasp_project.specs.LeftRows.{elimination_dropping}
 use Rattle.scasp_project.specs.Projection.{all_kept, choice_kept, found_kept, is_new, kept, left_kept, projection, remaining, stays}
 use Rattle.scasp_project.specs.declared.projecting.Projected.TheVariants as projected
 use Rattle.scasp_project.proofs.ExtendLemmas.{LeftOf, left-extends}
 use Rattle.scasp_project.proofs.ForwardLemmas.{is_met_by}
 use Rattle.scasp_project.proofs.KeptLemmas.{AllNormal, chosen-normal, normal-cons, normal-rows, remaining-normal}
 use Rattle.scasp_project.proofs.MetLaw.{projects}
-use Rattle.scasp_project.proofs.PlainLemmas.{rows_of}
+use Rattle.scasp_project.proofs.StandingLemmas.{rows_of}
 use Rattle.std.proofs.lemmas.List.Elements.{Contains-append_left, Contains-append_right, Contains-push, Contains-push_cases}
 use Rattle.scasp_list.proofs.MemberLemmas.{Contains-none, Contains-here, Contains-there, Contains-single, Contains-cases, list_all-member, list_any-none_member, Contains-filter}
 
@@ -161,12 +162,12 @@ the-lists : (a b : List (List Con)) → ◌≡◌ {A = Option (List (List Con))}
 the-lists a b e = cc
 
 one-source : (s : Reading) (cs ds list : List Con) → Chooses s cs ds → AllNormal ds → choice_kept s ds ≡ Some (Some list) → Source s cs list
-one-source s cs ds list chooses n e = by (elimination_of s.keep rows) refl e
+one-source s cs ds list chooses n e = by (elimination_dropping s.keep rows) refl e
   where
     rows : List Linear
     rows = inequalities (given_rows ds)
 
-    asked : (t : State) → elimination_of s.keep rows ≡ Ok t → (f : Found) → found (remaining s.keep ds (rows_of t.standing)) ≡ f → found_kept s (remaining s.keep ds (rows_of t.standing)) f ≡ Some (Some list) → Source s cs list
+    asked : (t : State) → elimination_dropping s.keep rows ≡ Ok t → (f : Found) → found (remaining s.keep ds (rows_of t.standing)) ≡ f → found_kept s (remaining s.keep ds (rows_of t.standing)) f ≡ Some (Some list) → Source s cs list
     asked t i nothing j e =
         let left = left-extends s.keep rows t (inequalities-each IsNormal (given_rows ds) (normal-rows ds n)) (inequalities-plain (given_rows ds)) i in
         let all = remaining s.keep ds (rows_of t.standing) in
@@ -181,7 +182,7 @@ one-source s cs ds list chooses n e = by (elimination_of s.keep rows) refl e
     asked t i (hint h) j e = absurd (no-list list e)
     asked t i unknown_list j e = absurd (no-answer list e)
 
-    by : (o : Result State Halt) → elimination_of s.keep rows ≡ o → left_kept s ds (rows_left o) ≡ Some (Some list) → Source s cs list
+    by : (o : Result State Halt) → elimination_dropping s.keep rows ≡ o → left_kept s ds (rows_left o) ≡ Some (Some list) → Source s cs list
     by (Ok t) i e = asked t i (found (remaining s.keep ds (rows_of t.standing))) refl e
     by (Err (halt.Unsat steps)) i e = absurd (no-list list e)
     by (Err halt.Overflow) i e = absurd (no-answer list e)

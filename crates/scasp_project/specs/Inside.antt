@@ -1,3 +1,2 @@
 -- What private functions alone speak of.
 pub mod CodeReading
-pub mod PlainElimination

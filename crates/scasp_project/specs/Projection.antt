@@ -4,6 +4,7 @@ use Rattle.std.specs.List.{list_any}
 use Rattle.scasp_num.specs.Arithmetic.{◌>>=◌}
 use Rattle.scasp_num.specs.Linear.{Linear}
 use Rattle.scasp_num.specs.SameRow.{same_row}
+use Rattle.scasp_rows.specs.LeftRows.{rows_left}
 use Rattle.scasp_rows.specs.declared.verdict.LinErr.{LinErr}
 use Rattle.scasp_rows.specs.declared.verdict.LinErr.TheVariants as err
 use Rattle.scasp_syntax.specs.declared.con.Con.{Con}
@@ -11,10 +12,8 @@ use Rattle.scasp_syntax.specs.declared.con.Con.TheVariants as con
 use Rattle.scasp_hint.specs.AskedRows.{given_rows, inequalities}
 use Rattle.scasp_hint.specs.Finding.{Found, found, hint, nothing, unknown_list}
 use Rattle.scasp_project.specs.Choices.{are_too_many, choices}
-use Rattle.scasp_project.specs.LeftRows.{elimination_of, rows_left}
+use Rattle.scasp_project.specs.LeftRows.{elimination_dropping}
 use Rattle.scasp_project.specs.Dropped.{Reading, con_has, is_dropped, reading_of, row_has}
-use Rattle.scasp_project.specs.declared.ended.Ended.{Ended}
-use Rattle.scasp_project.specs.declared.ended.Ended.TheVariants as ended
 use Rattle.scasp_project.specs.declared.projecting.Projected.{Projected}
 use Rattle.scasp_project.specs.declared.projecting.Projected.TheVariants as projected
 
@@ -49,15 +48,15 @@ found_kept s ds unknown_list = None
 abbrev pub asked_kept : Reading → List Con → Option (Option (List Con))
 asked_kept s ds = found_kept s ds (found ds)
 
-abbrev pub left_kept : Reading → List Con → Result (List Linear) Ended → Option (Option (List Con))
-left_kept s ds (Ok rows) = asked_kept s (remaining s.keep ds rows)
-left_kept s ds (Err ended.Unsat) = Some None
-left_kept s ds (Err ended.Overflow) = None
-left_kept s ds (Err ended.Memory) = None
+abbrev pub left_kept : Reading → List Con → Result (Option (List Linear)) LinErr → Option (Option (List Con))
+left_kept s ds (Ok (Some rows)) = asked_kept s (remaining s.keep ds rows)
+left_kept s ds (Ok None) = Some None
+left_kept s ds (Err err.Overflow) = None
+left_kept s ds (Err err.Memory) = None
 
 -- the list that a choice leaves of kept variables, if it may have a valuation; none where the elimination or what is asked overflows
 abbrev pub choice_kept : Reading → List Con → Option (Option (List Con))
-choice_kept s ds = left_kept s ds (rows_left (elimination_of s.keep (inequalities (given_rows ds))))
+choice_kept s ds = left_kept s ds (rows_left (elimination_dropping s.keep (inequalities (given_rows ds))))
 
 -- ---- all choices
 

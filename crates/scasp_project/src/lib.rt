@@ -4,9 +4,7 @@
 mod choices;
 mod dropped;
 mod elimination;
-mod ended;
 pub mod laws;
-mod multipliers;
 mod part_rows;
 mod projecting;
 

@@ -18,7 +18,6 @@ ghost use Rattle.scasp_project.specs.Projection.{Projects, all_kept, alternative
 use crate::choices::{are_too_many, choices};
 use crate::dropped::{has_dropped_variable, row_has_dropped};
 use crate::elimination::{copied, eliminate_dropped};
-use crate::ended::Ended;
 use scasp_hint::find;
 use scasp_list::Memory;
 use scasp_num::{Row, RowErr, Rows};
@@ -170,14 +169,14 @@ fn choice_kept(
     ensures { Gives result (choice_kept (reading resolver.now keep.now) choice.now) }
 {
     let rows = inequalities(alloc, choice)?;
-    match eliminate_dropped(alloc, keep, rows.as_slice()) {
-        Ok(left) => {
+    match eliminate_dropped(alloc, keep, &rows) {
+        Ok(Some(left)) => {
             let asked = remaining(alloc, keep, choice, left.as_slice())?;
             asked_kept(alloc, keep, resolver, asked.as_slice())
         }
-        Err(Ended::Unsat) => Ok(None),
-        Err(Ended::Overflow) => Err(RowErr::Overflow),
-        Err(Ended::Memory) => Err(RowErr::Memory),
+        Ok(None) => Ok(None),
+        Err(LinErr::Overflow) => Err(RowErr::Overflow),
+        Err(LinErr::Memory) => Err(RowErr::Memory),
     }
 }
 

@@ -139,7 +139,7 @@ made-follows rows a p b q later s t f g m = by (row_sum a p.row b q.row) refl
 
 -- ---- one variable
 
-scale-above : (a : ℤ) (o : Op) → pos 0 <ℤ a → o ≢ op.Ne → may_scale a o ≡ true
+pub scale-above : (a : ℤ) (o : Op) → pos 0 <ℤ a → o ≢ op.Ne → may_scale a o ≡ true
 scale-above a op.Eq h n = by a h
   where
     by : (a : ℤ) → pos 0 <ℤ a → not (is_zero a) ≡ true
@@ -150,7 +150,7 @@ scale-above a op.Lt h n = grind (arith, ints)
 scale-above a op.Le h n = grind (arith, ints)
 scale-above a op.Ne h n = absurd (n refl)
 
-scale-equation : (a : ℤ) (o : Op) → a ≢ pos 0 → is_equation o ≡ true → may_scale a o ≡ true
+pub scale-equation : (a : ℤ) (o : Op) → a ≢ pos 0 → is_equation o ≡ true → may_scale a o ≡ true
 scale-equation (pos zero) op.Eq h e = absurd (h refl)
 scale-equation (pos (suc n)) op.Eq h e = refl
 scale-equation (negsuc n) op.Eq h e = refl

@@ -1,4 +1,5 @@
 pub mod Elimination
+pub mod LeftRows
 pub mod Examples
 pub mod Inside
 pub mod PlainRows

@@ -213,7 +213,7 @@ pub(crate) fn without(alloc: Global, x: u64, state: State) -> Result<State, Halt
 }
 
 /// Eliminates the variables in order.
-fn eliminated(alloc: Global, variables: &[u64], start: State) -> Result<State, Halt>
+pub(crate) fn eliminated(alloc: Global, variables: &[u64], start: State) -> Result<State, Halt>
     ensures { Ends result (eliminated variables.now start) }
 {
     let mut state = start;
@@ -292,7 +292,7 @@ fn with_terms(terms: &[Coeff], start: Vec<u64>) -> Result<Vec<u64>, Memory>
 }
 
 /// The variables of the rows, ascending.
-pub(crate) fn variables(alloc: Global, rows: &[Row]) -> Result<Vec<u64>, Memory>
+pub fn variables(alloc: Global, rows: &[Row]) -> Result<Vec<u64>, Memory>
     ensures value { IfOk result (λ all. all.items ≡ variables [] rows.now) }
     ensures normal { OnOk result (Each IsNormal rows.now) }
 {

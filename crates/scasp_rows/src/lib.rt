@@ -8,6 +8,7 @@ mod elimination;
 mod falsity;
 mod indexed;
 pub mod laws;
+mod left_rows;
 mod outlook;
 mod range;
 mod replacing;
@@ -17,6 +18,8 @@ mod state;
 mod steps;
 mod verdict;
 
+pub use elimination::variables;
+pub use left_rows::eliminate_variables;
 pub use rows::is_false;
 pub use samples::{Point, RowLists, are_disequations, sample};
 pub use steps::{StepErr, step};
