@@ -5,7 +5,7 @@ use Rattle.std.proofs.lemmas.Bool.{cond-true, cond-false}
 use Rattle.std.proofs.lemmas.Option.{some_pair_parts}
 use Rattle.scasp_acceptance.proofs.ApartLemmas.{shown-apart}
 use Rattle.scasp_acceptance.proofs.HintLemmas.{context-met}
-use Rattle.scasp_acceptance.proofs.ListLemmas.{Each-member}
+use Rattle.scasp_unify.proofs.Members.{Each-member}
 use Rattle.scasp_acceptance.proofs.NormalityLemmas.{OpenedNormal, context-normal, opened-normal}
 use Rattle.scasp_acceptance.specs.Normality.{AreRowsNormal, LineNormal}
 use Rattle.scasp_acceptance.specs.Pairs.{is_pair, told_on}

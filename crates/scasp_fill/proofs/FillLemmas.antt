@@ -31,7 +31,7 @@ use Rattle.scasp_acceptance.specs.Pairs.{all_pairs}
 use Rattle.scasp_acceptance.specs.Told.{Told, told_at, all_told}
 use Rattle.scasp_acceptance.specs.Wholes.{Whole, whole_of}
 use Rattle.scasp_acceptance.proofs.CaseLemmas.{line-holds, line-none}
-use Rattle.scasp_acceptance.proofs.ListLemmas.{Each-member}
+use Rattle.scasp_unify.proofs.Members.{Each-from, Each-member}
 use Rattle.scasp_acceptance.proofs.RenamedRows.{renamed-normal}
 use Rattle.scasp_acceptance.proofs.TestLemmas.{lt-is}
 use Rattle.scasp_acceptance.specs.LineFaults.{line_faults}
@@ -45,11 +45,7 @@ use Rattle.scasp_fill.proofs.OwnLemmas.{own, as-own}
 use Rattle.scasp_fill.proofs.LineLemmas.{whole, line-shown, line-serves, all_told-same}
 use Rattle.scasp_fill.proofs.ClashLemmas.{pair-serves, clash-paired, pairs-members}
 
--- ---- each member, and each
-
-each-from : {A : Type 0} → (P : A → Type 0) (xs : List A) → ((x : A) → Contains xs x → P x) → Each P xs
-each-from P [] f = tt
-each-from P (x ∷ xs) f = (f x (Contains-here x xs), each-from P xs (λ y h. f y (Contains-there x xs y h)))
+-- ---- each member of a mapped list
 
 each-map : {A B : Type 0} → (h : A → B) (P : B → Type 0) (xs : List A) → ((x : A) → Contains xs x → P (h x)) → Each P (map h xs)
 each-map h P [] f = tt
@@ -223,13 +219,13 @@ module _ (p : Program) (c : Certificate) (normal : AreRowsNormal p c) where
             (line-shown (setting p.clauses c) c.given positives (lines p c) f l (line-fault positives f ks h l i) cs m)))));
         apart =
             subst (λ (ts : List Told). Each (AreApart (filled p c)) (all_pairs ts)) (sym (told-same positives g found_clashes))
-            (each-from (AreApart (filled p c)) (all_pairs (all_told (lines p c)))
+            (Each-from (AreApart (filled p c)) (all_pairs (all_told (lines p c)))
             (λ ab i. pair-serves p c pairs-normal f g ks ab.0 ab.1 i (list_all-member (is_pair_known (free_of c) c.given) (all_pairs (all_told (lines p c))) ab each.1 i)
             (Each-member (AreApart (shown_by f ks c)) (all_pairs (all_told (lines p c))) ab
             (subst (λ (ts : List Told). Each (AreApart (shown_by f ks c)) (all_pairs ts)) (told-same positives f ks) h.apart) i)));
         clashes =
             subst (λ (ts : List Told). Each (IsOfPair ts) found_clashes) (sym (told-same positives g found_clashes))
-            (each-from (IsOfPair (all_told (lines p c))) found_clashes (clash-paired p c));
+            (Each-from (IsOfPair (all_told (lines p c))) found_clashes (clash-paired p c));
         sample_ground = h.sample_ground;
         sample_meets = h.sample_meets;
         map = h.map;

@@ -27,7 +27,7 @@ use Rattle.scasp_lines.proofs.FitLemmas.{lines-known}
 use Rattle.scasp_lines.proofs.SaidLemmas.{closed-from}
 use Rattle.scasp_acceptance.specs.Accepted.{AcceptsWhere, PartHolds, LineHolds}
 use Rattle.scasp_acceptance.specs.Wholes.{whole_of, scope}
-use Rattle.scasp_acceptance.proofs.ListLemmas.{Each-member}
+use Rattle.scasp_unify.proofs.Members.{Each-member}
 use Rattle.scasp_acceptance.proofs.ScopeLemmas.{scoped}
 use Rattle.scasp_soundness.specs.Good.{HasClosedDomains}
 use Rattle.scasp_soundness.proofs.ClauseLemmas.{below-same}

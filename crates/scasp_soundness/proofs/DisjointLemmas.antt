@@ -32,7 +32,7 @@ use Rattle.scasp_acceptance.specs.Pairs.{is_pair, all_pairs}
 use Rattle.scasp_acceptance.specs.Told.{Told, told, told_by_node, told_by_part, told_at, all_told}
 use Rattle.scasp_acceptance.proofs.ApartLemmas.{shown-apart}
 use Rattle.scasp_acceptance.proofs.HintLemmas.{context-met}
-use Rattle.scasp_acceptance.proofs.ListLemmas.{Each-member}
+use Rattle.scasp_unify.proofs.Members.{Each-member}
 use Rattle.scasp_acceptance.proofs.NodeLemmas.{pred-under, same-pred}
 use Rattle.scasp_acceptance.proofs.NormalityLemmas.{context-normal, opened-normal}
 use Rattle.scasp_soundness.specs.Premises.{Premises, IsAt}

@@ -42,7 +42,8 @@ use Rattle.scasp_acceptance.specs.Firm.{is_firm}
 use Rattle.scasp_acceptance.proofs.ApartLemmas.{under-alike}
 use Rattle.scasp_acceptance.specs.Wholes.{whole_of}
 use Rattle.scasp_acceptance.specs.Normality.{ItemNormal}
-use Rattle.scasp_acceptance.proofs.ListLemmas.{Each-member, numbered-contains}
+use Rattle.scasp_acceptance.proofs.ListLemmas.{numbered-contains}
+use Rattle.scasp_unify.proofs.Members.{Each-member}
 use Rattle.scasp_soundness.specs.Carriers.{negations, How, itself, looped, seen}
 use Rattle.scasp_soundness.specs.Premises.{Premises, IsAt}
 use Rattle.scasp_soundness.proofs.BodyLemmas.{call-in_flat, literal-from, atom-of, tests-true}

@@ -32,7 +32,7 @@ use Rattle.scasp_acceptance.proofs.NormalityLemmas.{opened-normal}
 use Rattle.scasp_acceptance.proofs.ScopeLemmas.{scoped}
 use Rattle.scasp_hint.specs.AskedRows.{RowsNormal}
 use Rattle.scasp_soundness.specs.Premises.{Premises, IsAt}
-use Rattle.scasp_acceptance.proofs.ListLemmas.{Each-member}
+use Rattle.scasp_unify.proofs.Members.{Each-member}
 
 -- where two tests agree on what passes a third, what passes all passes all
 all-agree : {A : Type 0} → (test f g : A → Bool) → ((x : A) → test x ≡ true → g x ≡ f x) → (xs : List A) → list_all test xs ≡ true → list_all f xs ≡ true → list_all g xs ≡ true

@@ -18,10 +18,10 @@ use Rattle.scasp_cert.specs.Certificate.{Certificate}
 use Rattle.scasp_cert.specs.Trees.{Tree, Branch, pos_tree, neg_tree, loop_tree, seen_tree, test_tree, split, void, leaf, head, listed}
 use Rattle.scasp_hint.specs.AskedRows.{RowsNormal}
 use Rattle.scasp_lines.specs.Lines.{lines}
-use Rattle.scasp_lines.specs.Walk.{Line}
 use Rattle.scasp_acceptance.specs.Normality.{AreRowsNormal, ItemNormal, LineNormal, on_node, on_case, on_part}
 use Rattle.scasp_soundness.specs.OwnRows.{constraints_by, constraints_below, constraints_at, constraints_in, is_con_normal, has_normal_rows}
 use Rattle.scasp_soundness.proofs.GatherLemmas.{Gathers, lines-passed}
+use Rattle.scasp_unify.proofs.Members.{Each-from}
 
 -- ---- lists of constraints
 
@@ -97,10 +97,6 @@ constraints-gather =
       other_covers = λ k b bs c i. Contains-append_right (constraints_at b) (constraints_in bs) c i;
     }
 
-each-from : (P : Line → Type 0) (ls : List Line) → ((l : Line) → Contains ls l → P l) → Each P ls
-each-from P [] f = tt
-each-from P (l ∷ ls) f = (f l (Contains-here l ls), each-from P ls (λ k i. f k (Contains-there l ls k i)))
-
 pub rows-normal : (p : Program) (c : Certificate) → has_normal_rows c ≡ true → AreRowsNormal p c
 rows-normal p c h =
     let within : List Con = constraints_below (listed c.trees) ++ flat_map (λ k. constraints_at k.1) c.checks in
@@ -111,5 +107,5 @@ rows-normal p c h =
       clauses = Each-map (λ k. Each HasNormalRow k.body) _ (λ k n. body-normal [] k.body n) p.clauses (clause-rows p);
       queries = Each-map (λ q. Each HasNormalRow q.body) _ (λ q n. body-normal [] q.body n) p.queries (query-rows p);
       given = from-members c.given (λ k i. each k (Contains-append_left c.given within k i));
-      lines_normal = each-from LineNormal (lines p c) (λ l i. from-members (on_part l.part) (passed.at l i));
+      lines_normal = Each-from LineNormal (lines p c) (λ l i. from-members (on_part l.part) (passed.at l i));
     }

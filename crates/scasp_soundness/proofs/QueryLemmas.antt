@@ -29,7 +29,8 @@ use Rattle.scasp_lines.specs.Places.{Place, start}
 use Rattle.scasp_lines.specs.Said.{atoms_of, false_atoms, true_atoms}
 use Rattle.scasp_lines.proofs.BelowLemmas.{has-query}
 use Rattle.scasp_acceptance.specs.Normality.{ItemNormal}
-use Rattle.scasp_acceptance.proofs.ListLemmas.{Each-member, numbered-contains}
+use Rattle.scasp_acceptance.proofs.ListLemmas.{numbered-contains}
+use Rattle.scasp_unify.proofs.Members.{Each-member}
 use Rattle.scasp_soundness.specs.Good.{holds_by, query_values}
 use Rattle.scasp_soundness.specs.Premises.{Premises, IsAt}
 use Rattle.scasp_soundness.proofs.BodyLemmas.{call-in_flat, tests-true}

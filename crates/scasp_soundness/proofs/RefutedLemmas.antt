@@ -53,7 +53,8 @@ use Rattle.scasp_lines.proofs.SubWalkLemmas.{certificate-whole}
 use Rattle.scasp_acceptance.specs.Normality.{ItemNormal}
 use Rattle.scasp_acceptance.proofs.ApartLemmas.{under-alike}
 use Rattle.scasp_acceptance.proofs.DeterminedLemmas.{is_basic}
-use Rattle.scasp_acceptance.proofs.ListLemmas.{Each-member, numbered-contains}
+use Rattle.scasp_acceptance.proofs.ListLemmas.{numbered-contains}
+use Rattle.scasp_unify.proofs.Members.{Each-member}
 use Rattle.scasp_acceptance.proofs.NodeLemmas.{pred-under}
 use Rattle.scasp_acceptance.proofs.NormalityLemmas.{negated-normal}
 use Rattle.scasp_soundness.specs.Premises.{Premises, IsAt}

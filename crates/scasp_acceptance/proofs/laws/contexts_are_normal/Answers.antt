@@ -1,6 +1,6 @@
 use Rattle.scasp_lines.specs.Lines.{lines}
 use Rattle.scasp_acceptance.specs.Normality.{LineNormal}
-use Rattle.scasp_acceptance.proofs.ListLemmas.{Each-member}
+use Rattle.scasp_unify.proofs.Members.{Each-member}
 use Rattle.scasp_acceptance.proofs.NormalityLemmas.{context-normal, opened-normal}
 use Rattle.scasp_acceptance.proofs.laws.contexts_are_normal.Goals as goal
 
