@@ -83,11 +83,7 @@ ended_holds head items s r h =
     Post_expect IsPart s r sign.Stop _
     (Post_give IsPart (behind s) _ (reader_behind s r) (λ fine. clause-part head items (known s) (r.limit fine) (h fine)))
 
--- a head, behind which so many variables are known; none behind none
-record IsHead (head : Option Atom) (k : Style) : Type 0 where
-  fit : (w : Style) → Covers w k → parts_fit w head [] ≡ true
-  counted : (w : Style) → Covers w k → count_head w 0 head ≡ Some (length k.variables)
-
+-- the head fits, and its variables are numbered; without one no variable is known yet
 abbrev IsSomeHead : Option Atom → Style → Type 0
 IsSomeHead None k = length k.variables ≡ 0
 IsSomeHead (Some a) k = IsAtom 0 a k
