@@ -75,3 +75,25 @@ its_text = refl
 is_within : nat_le (length (program_text reading.names reading.clauses reading.queries)) BYTE_LIMIT ≡ true
 unfolding program_text clause_text query_text atom_text lit_text linear_text digits
 is_within = refl
+
+-- ---- a print that is longer than its text
+
+abbrev short : Reading
+short = record {
+  clauses =
+      record {
+        head = Some (atom_of false 2 nil);
+        body = form.Linear (record { vars = 0 ∷ []; row = record { coeffs = record { x = 0; c = negsuc 0 } ∷ []; constant = pos 1; op = op.Lt } }) ∷ [];
+        vars = 1;
+      } ∷ [];
+  queries = [];
+  names = codes "[]" ∷ codes "[|]" ∷ codes "p" ∷ [];
+}
+
+it_is_read : program_in list_names (codes "p:-1-X#<0.") ≡ Ok short
+unfolding read parts next_part clause body item tokens_of term expression literal_value lowest gcd gcd_within sum_of product_of difference_of normal_of normal_form
+it_is_read = refl
+
+it_is_longer : program_text short.names short.clauses short.queries ≡ codes "p :- -V0+1 #< 0.\n"
+unfolding program_text clause_text query_text atom_text lit_text linear_text digits
+it_is_longer = refl

@@ -8,6 +8,7 @@ ghost use Rattle.scasp_phrase.specs.Steps.{State};
 ghost use Rattle.scasp_body.specs.Atoms.{atom};
 ghost use Rattle.scasp_body.specs.Items.{item};
 ghost use Rattle.scasp_body.specs.Bodies.{body};
+ghost use Rattle.scasp_text.specs.declared.clauses.Part.{Part};
 ghost use Rattle.scasp_text.specs.declared.clauses.Part.TheVariants as part;
 ghost use Rattle.scasp_text.specs.declared.texts.Reading.{Reading};
 ghost use Rattle.scasp_text.specs.declared.texts.TheConstants.{BYTE_LIMIT};
@@ -25,10 +26,12 @@ ghost use Rattle.scasp_clause_readback.specs.Texts.{text_fits};
 ghost use Rattle.scasp_term_fitting.specs.Readers.{known, IsReader, Keeps, Covers};
 
 /// An atom that is read fits in each style for what is then known, and its variables are numbered in the order of its text.
+/// The reader stays one of a text.
 pub fn atoms_that_are_read_fit()
     ensures fit { (s t : State) (a : Atom) (w : Style) → IsReader s → atom s ≡ Ok (a, t) → t.fault ≡ None → Covers w (known t) → atom_fits w a ≡ true }
     ensures counted { (s t : State) (a : Atom) (w : Style) → IsReader s → atom s ≡ Ok (a, t) → t.fault ≡ None → Covers w (known t)
         → count_all w (length s.variables) a.args ≡ Some (length t.variables) }
+    ensures reader { (s t : State) (a : Atom) → IsReader s → atom s ≡ Ok (a, t) → IsReader t }
 {}
 
 /// So does an item.
@@ -36,6 +39,7 @@ pub fn items_that_are_read_fit()
     ensures fit { (s t : State) (i : Item) (w : Style) → IsReader s → item s ≡ Ok (i, t) → t.fault ≡ None → Covers w (known t) → item_fits w i ≡ true }
     ensures counted { (s t : State) (i : Item) (w : Style) → IsReader s → item s ≡ Ok (i, t) → t.fault ≡ None → Covers w (known t)
         → count_item w (length s.variables) i ≡ Some (length t.variables) }
+    ensures reader { (s t : State) (i : Item) → IsReader s → item s ≡ Ok (i, t) → IsReader t }
 {}
 
 /// So does a body.
@@ -43,12 +47,14 @@ pub fn bodies_that_are_read_fit()
     ensures fit { (s t : State) (items : List Item) (w : Style) → IsReader s → body s ≡ Ok (items, t) → t.fault ≡ None → Covers w (known t) → body_fits w items ≡ true }
     ensures counted { (s t : State) (items : List Item) (w : Style) → IsReader s → body s ≡ Ok (items, t) → t.fault ≡ None → Covers w (known t)
         → count_body w (length s.variables) items ≡ Some (length t.variables) }
+    ensures reader { (s t : State) (items : List Item) → IsReader s → body s ≡ Ok (items, t) → IsReader t }
 {}
 
 /// A clause or a query that is read fits with the table that it leaves, and with each that keeps its names.
 pub fn clauses_that_are_read_fit()
     ensures clause { (s t : State) (c : Clause) (names : List (List ℕ)) → IsReader s → clause s ≡ Ok (part.Clause c, t) → t.fault ≡ None → Keeps t.names names → clause_fits names c ≡ true }
     ensures query { (s t : State) (q : Query) (names : List (List ℕ)) → IsReader s → clause s ≡ Ok (part.Query q, t) → t.fault ≡ None → Keeps t.names names → query_fits names q ≡ true }
+    ensures reader { (s t : State) (p : Part) → IsReader s → clause s ≡ Ok (p, t) → IsReader t }
 {}
 
 /// What is read of a text, with a table before, fits with the table behind, which is one.
