@@ -1,0 +1,4 @@
+//! Terms that are read can be written, and read again: laws of what a reader gives.
+#![tactic(auto)]
+
+pub mod laws;
