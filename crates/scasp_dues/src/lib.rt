@@ -10,7 +10,7 @@ mod rooms;
 mod simple;
 mod sums;
 
-pub use contexts::context;
+pub use contexts::{change_context, constraint_count, context};
 pub use determining::determined;
 pub use due::{Due, Dues, head_dues, leaf_dues, query_dues, rule_dues};
 pub use raised::{raised_from, raised_row};

@@ -1,3 +1,4 @@
 pub mod CursorLemmas
 pub mod PendingLemmas
 pub mod StackLemmas
+pub mod GoingLemmas

@@ -1,5 +1,5 @@
 -- The lines of what waits begin with the first line, then come those of what stands right below it, then those of the rest.
-use Rattle.std.proofs.Common.{◌≡◌, ◌∙◌, ℕ, suc, ◌+◌, List, [], ◌∷◌, ◌++◌, Option, None, Some, refl, ap, sym, subst, arith}
+use Rattle.std.proofs.Common.{◌≡◌, ◌∙◌, ℕ, suc, ◌+◌, List, [], ◌∷◌, ◌++◌, None, Some, refl, ap, sym, subst, arith}
 use Rattle.std.proofs.lemmas.List.{append-nil, append_assoc}
 use Rattle.scasp_cert.specs.Lines.{lines_of, lines_at}
 use Rattle.scasp_cert.specs.Trees.{Tree, pos_tree, neg_tree, loop_tree, seen_tree, test_tree, Branch, split, void, leaf, head, no_tree, tree, no_branch, branch}
@@ -8,7 +8,7 @@ use Rattle.scasp_lines.specs.Dues.{Due, first_due, other_dues}
 use Rattle.scasp_lines.specs.Numbering.{lines_of_part}
 use Rattle.scasp_lines.specs.Places.{Place}
 use Rattle.scasp_lines.specs.Sides.{sides}
-use Rattle.scasp_lines.specs.Walk.{Line, Part, of_node, of_rule, of_check, of_case, Setting, Walked, line, stopped, started, followed, node_walk, nodes_walk, branch_walk, covers_walk, rule_walk, check_walk, checks_walk, part_walk}
+use Rattle.scasp_lines.specs.Walk.{Part, of_node, of_rule, of_check, of_case, Setting, Walked, line, stopped, started, followed, node_walk, nodes_walk, branch_walk, covers_walk, rule_walk, check_walk, checks_walk, part_walk}
 use Rattle.scasp_traversal.specs.Pending.{Pending, nodes, rules, one_case, checks, pending_walk, pending_lines, all_walk, Begun, begun, below}
 
 -- how many lines all of it takes
@@ -24,7 +24,7 @@ followed-stopped x = let e = append-nil x.lines in λ i. record { lines = e i; n
 followed-assoc : (x y z : Walked) → followed (followed x y) z ≡ followed x (followed y z)
 followed-assoc x y z = let e = append_assoc x.lines y.lines z.lines in λ i. record { lines = e i; next = z.next }
 
-some-is : {A : Type 0} (x y : A) → Some x ≡ Some y → x ≡ y
+pub some-is : {A : Type 0} (x y : A) → Some x ≡ Some y → x ≡ y
 some-is x y e = cc
 
 module _ (s : Setting) where

@@ -1,2 +1,3 @@
+pub mod Going
 pub mod Pending
 pub mod View

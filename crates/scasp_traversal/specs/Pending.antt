@@ -1,5 +1,5 @@
 -- What a walk over a certificate has still to go over, what it begins with, and what stands right below a line.
-use Rattle.std.specs.Prelude.{ℕ, suc, true, false, List, [], ◌∷◌, ◌+◌, Option, None, Some}
+use Rattle.std.specs.Prelude.{ℕ, true, false, List, [], ◌∷◌, ◌+◌, Option, None, Some}
 use Rattle.scasp_syntax.specs.Programs.{numbered}
 use Rattle.scasp_syntax.specs.declared.atom.Atom.{Atom}
 use Rattle.scasp_cert.specs.Lines.{lines_at, lines_below, lines_in, lines_under}

@@ -14,6 +14,7 @@ use Rattle.scasp_traversal.specs.declared.parts.Line.{Line}
 use Rattle.scasp_traversal.specs.declared.parts.Part.{Part}
 use Rattle.scasp_traversal.specs.declared.parts.Part.TheVariants as part
 use Rattle.scasp_traversal.specs.declared.waiting.Begun.{Begun}
+use Rattle.scasp_traversal.specs.declared.waiting.Stacked.{Stacked}
 use Rattle.scasp_traversal.specs.declared.waiting.Waiting.{Waiting}
 use Rattle.scasp_traversal.specs.declared.waiting.Waiting.TheVariants as waiting
 
@@ -33,6 +34,10 @@ pending_of (waiting.Rules rest a here) = rules (place_of here) a.now (covering (
 pending_of (waiting.Case b body bare here) = one_case (place_of here) (body_of body.value bare) (branch_of b.now)
 pending_of (waiting.Checks rest here) = checks (place_of here) (map check_of rest.now)
 
+-- parts below a line at which so many constraints opened
+abbrev pub stacked_of : Stacked → ℕ × Pending
+stacked_of w = (w.kept, pending_of w.parts)
+
 abbrev pub rest_of : Option Waiting → List Pending
 rest_of None = []
 rest_of (Some w) = pending_of w ∷ []
@@ -41,12 +46,21 @@ abbrev pub begun_of : Begun → BegunValue
 begun_of b = record { here = place_of b.here; part = part_of b.part; rest = rest_of b.rest }
 
 -- what waits, the last put in front
-abbrev pub stack_of : List Waiting → List Pending
-stack_of ws = reverse (map pending_of ws)
+abbrev pub stack_of : List Stacked → List (ℕ × Pending)
+stack_of ws = reverse (map stacked_of ws)
+
+-- all of them below a line at which so many constraints opened
+abbrev pub kept_with : ℕ → List Pending → List (ℕ × Pending)
+kept_with k [] = []
+kept_with k (p ∷ ps) = (k, p) ∷ kept_with k ps
+
+abbrev pub parts_of : List (ℕ × Pending) → List Pending
+parts_of [] = []
+parts_of (w ∷ ws) = w.1 ∷ parts_of ws
 
 abbrev pub setting_of : Program → Bounds → Setting
 setting_of p bounds = record { clauses = p.clauses; free = bounds.free; top = bounds.top }
 
 -- the lines that the walk has still to give
 unfoldable pub lines_left : Lines → List LineValue
-lines_left l = (all_walk (setting_of l.program.now l.bounds) l.at l.next (stack_of l.waiting.items)).lines
+lines_left l = (all_walk (setting_of l.program.now l.bounds) l.at l.next (parts_of (stack_of l.waiting.items))).lines

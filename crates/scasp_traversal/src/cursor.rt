@@ -1,21 +1,25 @@
 //! The lines of a certificate, one after the other.
-ghost use Rattle.std.specs.Prelude.{◌≡◌, ◌∷◌, ◌++◌, [], suc, IfOk, OnOk, MatchOption};
+ghost use Rattle.std.specs.Prelude.{◌≡◌, ◌∷◌, ◌++◌, List, [], suc, IfOk, IfSome, OnOk, MatchOption};
 ghost use Rattle.scasp_cert.specs.Certificate.{certificate_of, checks_of};
 ghost use Rattle.scasp_cert.specs.Trees.{listed};
 ghost use Rattle.scasp_cert.specs.View.{trees_of};
+ghost use Rattle.scasp_lines.specs.Contexts.{context};
 ghost use Rattle.scasp_lines.specs.Dues.{query_dues};
 ghost use Rattle.scasp_lines.specs.Lines.{lines};
 ghost use Rattle.scasp_lines.specs.Places.{start};
 ghost use Rattle.scasp_lines.specs.Walk.{line};
+ghost use Rattle.scasp_places.specs.View.{place_of};
 ghost use Rattle.scasp_syntax.specs.Programs.{numbered};
+ghost use Rattle.scasp_syntax.specs.declared.con.Con.{Con as ThisCon};
+ghost use Rattle.scasp_traversal.specs.Going.{GoesOn, IsReady, size_at};
 ghost use Rattle.scasp_traversal.specs.Pending.{below, checks, nodes};
-ghost use Rattle.scasp_traversal.specs.View.{begun_of, line_of, lines_left, rest_of, setting_of, stack_of};
+ghost use Rattle.scasp_traversal.specs.View.{begun_of, kept_with, line_of, lines_left, part_of, rest_of, setting_of, stack_of};
 
 use crate::entering::{enter, put_nodes};
-use crate::parts::Line;
-use crate::waiting::{Begun, Waiting, begin, put};
+use crate::parts::{Line, Part};
+use crate::waiting::{Begun, Stacked, Waiting, begin, put};
 use scasp_cert::Cert;
-use scasp_dues::{query_dues, top};
+use scasp_dues::{constraint_count, query_dues, top};
 use scasp_list::Memory;
 use scasp_places::{Bounds, Place};
 use scasp_syntax::Program;
@@ -29,13 +33,14 @@ pub struct Lines<'a> {
     bounds: Bounds,
     at: u64,
     next: u64,
-    waiting: Vec<Waiting<'a>>,
+    waiting: Vec<Stacked<'a>>,
 }
 
 impl<'a> Lines<'a> {
     /// All lines of the certificate.
     pub fn of(alloc: Global, program: &'a Program, cert: &'a Cert) -> Result<Lines<'a>, Memory>
-        ensures { IfOk result (λ made. lines_left made ≡ lines program.now (certificate_of cert.now)) }
+        ensures lines { IfOk result (λ made. lines_left made ≡ lines program.now (certificate_of cert.now)) }
+        ensures ready { IfOk result (λ made. IsReady [] made) }
     {
         let bounds = Bounds {
             free: cert.sample.len() as u64,
@@ -53,30 +58,36 @@ impl<'a> Lines<'a> {
     /// The next line, or none where all have come. It takes memory for what stands right below the line; numbers of lines
     /// or of variables past the range of numbers are want of memory. After an error it is not told what is left.
     pub fn next(&mut self, alloc: Global) -> Result<Option<Line<'a>>, Memory>
-        ensures { IfOk result (λ found. MatchOption found (lines_left self.old ≡ []) (λ line. lines_left self.old ≡ line_of line ∷ lines_left self.new)) }
+        ensures lines { IfOk result (λ found. MatchOption found (lines_left self.old ≡ []) (λ line. lines_left self.old ≡ line_of line ∷ lines_left self.new)) }
+        ensures ready { (now : List ThisCon) → IsReady now self.old → IfOk result (λ found. IfSome found (λ line. GoesOn now line self.new)) }
     {
-        while let Some(parts) = self.waiting.pop() {
+        while let Some(Stacked { kept, parts }) = self.waiting.pop() {
             if let Some(begun) = begin(parts)? {
-                return Ok(Some(self.start(alloc, begun)?));
+                return Ok(Some(self.start(alloc, kept, begun)?));
             }
         }
         Ok(None)
     }
 
-    /// The line that this begins with; what stands right below it, and what stands behind it, waits from now on.
-    fn start(&mut self, alloc: Global, begun: Begun<'a>) -> Result<Line<'a>, Memory>
+    /// The line that this begins with, below one at which so many constraints opened; what stands right below it, and what
+    /// stands behind it, waits from now on.
+    fn start(&mut self, alloc: Global, kept: usize, begun: Begun<'a>) -> Result<Line<'a>, Memory>
         ensures line { IfOk result (λ made. line_of made ≡ line self.old.at self.old.next (begun_of begun.entry).here (begun_of begun.entry).part) }
-        ensures waiting { IfOk result (λ made. stack_of self.new.waiting.items ≡ (below (setting_of self.old.program.now self.old.bounds) self.old.at self.old.next (begun_of begun.entry).here (begun_of begun.entry).part).waiting ++ ((begun_of begun.entry).rest ++ stack_of self.old.waiting.items)) }
+        ensures kept { IfOk result (λ made. made.kept ≡ kept) }
+        ensures size { IfOk result (λ made. made.size ≡ size_at kept (begun_of begun.entry).part (context [] (begun_of begun.entry).here.opened)) }
+        ensures waiting { IfOk result (λ made. stack_of self.new.waiting.items ≡ kept_with made.size (below (setting_of self.old.program.now self.old.bounds) self.old.at self.old.next (begun_of begun.entry).here (begun_of begun.entry).part).waiting ++ (kept_with kept (begun_of begun.entry).rest ++ stack_of self.old.waiting.items)) }
         ensures next { IfOk result (λ made. self.new.next ≡ (below (setting_of self.old.program.now self.old.bounds) self.old.at self.old.next (begun_of begun.entry).here (begun_of begun.entry).part).next) }
         ensures at { IfOk result (λ made. self.new.at ≡ suc self.old.at) }
         ensures program { IfOk result (λ made. self.new.program.now ≡ self.old.program.now) }
         ensures bounds { IfOk result (λ made. self.new.bounds ≡ self.old.bounds) }
     {
         let Begun { here, part, rest } = begun;
-        put_rest(&mut self.waiting, rest)?;
+        put_rest(&mut self.waiting, kept, rest)?;
         let line = Line {
             at: self.at,
             next: self.next,
+            size: size_at(kept, &part, &here)?,
+            kept,
             here,
             part,
         };
@@ -86,13 +97,27 @@ impl<'a> Lines<'a> {
     }
 }
 
+/// How many constraints opened on the way to a line below one at which `kept` did: more only at a case.
+fn size_at(kept: usize, part: &Part, here: &Place) -> Result<usize, Memory>
+    ensures { IfOk result (λ size. size ≡ size_at kept (part_of part.now) (context [] (place_of here.now).opened)) }
+{
+    match part {
+        Part::Case { .. } => constraint_count(&here.opened),
+        Part::Node { .. } | Part::Rule { .. } | Part::Check { .. } => Ok(kept),
+    }
+}
+
 /// Puts the parts behind the first before what waits, if there are any.
-fn put_rest<'a>(waiting: &mut Vec<Waiting<'a>>, rest: Option<Waiting<'a>>) -> Result<(), Memory>
-    ensures { OnOk result (stack_of waiting.new.items ≡ rest_of rest.entry ++ stack_of waiting.old.items) }
+fn put_rest<'a>(
+    waiting: &mut Vec<Stacked<'a>>,
+    kept: usize,
+    rest: Option<Waiting<'a>>,
+) -> Result<(), Memory>
+    ensures { OnOk result (stack_of waiting.new.items ≡ kept_with kept (rest_of rest.entry) ++ stack_of waiting.old.items) }
 {
     match rest {
         None => Ok(()),
-        Some(rest) => put(waiting, rest),
+        Some(rest) => put(waiting, kept, rest),
     }
 }
 
@@ -102,18 +127,19 @@ fn all_waiting<'a>(
     program: &Program,
     cert: &'a Cert,
     top: u64,
-) -> Result<Vec<Waiting<'a>>, Memory>
-    ensures { IfOk result (λ made. stack_of made.items ≡ nodes (start top) (query_dues (numbered program.now.queries cert.now.query) cert.now.terms) (listed (trees_of cert.now.trees)) ∷ checks (start top) (checks_of cert.now.checks) ∷ []) }
+) -> Result<Vec<Stacked<'a>>, Memory>
+    ensures { IfOk result (λ made. stack_of made.items ≡ (0, nodes (start top) (query_dues (numbered program.now.queries cert.now.query) cert.now.terms) (listed (trees_of cert.now.trees))) ∷ (0, checks (start top) (checks_of cert.now.checks)) ∷ []) }
 {
     let mut waiting = Vec::new(alloc);
     put(
         &mut waiting,
+        0,
         Waiting::Checks {
             rest: cert.checks.as_slice(),
             here: Place::start(top),
         },
     )?;
     let dues = query_dues(alloc, program.query(cert.query), &cert.terms)?;
-    put_nodes(&mut waiting, Place::start(top), dues, &cert.trees)?;
+    put_nodes(&mut waiting, 0, Place::start(top), dues, &cert.trees)?;
     Ok(waiting)
 }

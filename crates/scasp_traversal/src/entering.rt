@@ -10,10 +10,10 @@ ghost use Rattle.scasp_lines.specs.Sides.{sides};
 ghost use Rattle.scasp_places.specs.View.{body_of, inside_of, place_of};
 ghost use Rattle.scasp_syntax.specs.Programs.{numbered};
 ghost use Rattle.scasp_traversal.specs.Pending.{below, below_case, below_inside, below_node, below_split, nodes, rules};
-ghost use Rattle.scasp_traversal.specs.View.{part_of, setting_of, stack_of};
+ghost use Rattle.scasp_traversal.specs.View.{kept_with, part_of, setting_of, stack_of};
 
 use crate::parts::{Line, Part};
-use crate::waiting::{Waiting, put};
+use crate::waiting::{Stacked, Waiting, put};
 use scasp_cert::{Case, Covers, Node, Nodes};
 use scasp_dues::{Due, Dues, head_dues, leaf_dues, rule_dues};
 use scasp_list::Memory;
@@ -33,15 +33,17 @@ fn turned(dues: Dues) -> Vec<Due>
 
 /// Puts nodes before what waits.
 pub(crate) fn put_nodes<'a>(
-    waiting: &mut Vec<Waiting<'a>>,
+    waiting: &mut Vec<Stacked<'a>>,
+    kept: usize,
     here: Place,
     dues: Dues,
     children: &'a Nodes,
 ) -> Result<(), Memory>
-    ensures { OnOk result (stack_of waiting.new.items ≡ nodes (place_of here) (map due_value dues) (listed (trees_of children.now)) ∷ stack_of waiting.old.items) }
+    ensures { OnOk result (stack_of waiting.new.items ≡ (kept, nodes (place_of here) (map due_value dues) (listed (trees_of children.now))) ∷ stack_of waiting.old.items) }
 {
     put(
         waiting,
+        kept,
         Waiting::Nodes {
             rest: children.as_slice(),
             dues: turned(dues),
@@ -60,13 +62,14 @@ fn below_positive<'a>(
     rule: u64,
     terms: &Terms,
     children: &'a Nodes,
-    waiting: &mut Vec<Waiting<'a>>,
+    waiting: &mut Vec<Stacked<'a>>,
+    kept: usize,
 ) -> Result<(), Memory>
-    ensures { OnOk result (stack_of waiting.new.items ≡ nodes (below_literal at true atom.now (place_of here.now)) (rule_dues (numbered program.now.clauses rule) (place_of here.now) terms.now) (listed (trees_of children.now)) ∷ stack_of waiting.old.items) }
+    ensures { OnOk result (stack_of waiting.new.items ≡ (kept, nodes (below_literal at true atom.now (place_of here.now)) (rule_dues (numbered program.now.clauses rule) (place_of here.now) terms.now) (listed (trees_of children.now))) ∷ stack_of waiting.old.items) }
 {
     let dues = rule_dues(alloc, program.clause(rule), here, terms)?;
     let below = here.below_literal(alloc, at, true, atom)?;
-    put_nodes(waiting, below, dues, children)
+    put_nodes(waiting, kept, below, dues, children)
 }
 
 /// Below a negated literal.
@@ -76,13 +79,15 @@ fn below_negated<'a>(
     here: &Place,
     atom: &'a Atom,
     covers: &'a Covers,
-    waiting: &mut Vec<Waiting<'a>>,
+    waiting: &mut Vec<Stacked<'a>>,
+    kept: usize,
 ) -> Result<(), Memory>
-    ensures { OnOk result (stack_of waiting.new.items ≡ rules (below_literal at false atom.now (place_of here.now)) atom.now (covering (covers_of covers.now)) ∷ stack_of waiting.old.items) }
+    ensures { OnOk result (stack_of waiting.new.items ≡ (kept, rules (below_literal at false atom.now (place_of here.now)) atom.now (covering (covers_of covers.now))) ∷ stack_of waiting.old.items) }
 {
     let here = here.below_literal(alloc, at, false, atom)?;
     put(
         waiting,
+        kept,
         Waiting::Rules {
             rest: covers.as_slice(),
             atom,
@@ -100,9 +105,10 @@ fn below_node<'a>(
     next: u64,
     here: &Place,
     node: &'a Node,
-    waiting: &mut Vec<Waiting<'a>>,
+    waiting: &mut Vec<Stacked<'a>>,
+    kept: usize,
 ) -> Result<u64, Memory>
-    ensures waiting { IfOk result (λ made. stack_of waiting.new.items ≡ (below_node (setting_of program.now bounds) at next (place_of here.now) (tree_of node.now)).waiting ++ stack_of waiting.old.items) }
+    ensures waiting { IfOk result (λ made. stack_of waiting.new.items ≡ kept_with kept (below_node (setting_of program.now bounds) at next (place_of here.now) (tree_of node.now)).waiting ++ stack_of waiting.old.items) }
     ensures next { IfOk result (λ made. made ≡ (below_node (setting_of program.now bounds) at next (place_of here.now) (tree_of node.now)).next) }
 {
     match node {
@@ -113,12 +119,12 @@ fn below_node<'a>(
             children,
         } => {
             below_positive(
-                alloc, program, at, here, atom, *rule, terms, children, waiting,
+                alloc, program, at, here, atom, *rule, terms, children, waiting, kept,
             )?;
             Ok(next)
         }
         Node::Neg { atom, covers } => {
-            below_negated(alloc, at, here, atom, covers, waiting)?;
+            below_negated(alloc, at, here, atom, covers, waiting, kept)?;
             Ok(next)
         }
         Node::Loop { .. } | Node::Seen { .. } | Node::Test { .. } => Ok(next),
@@ -130,9 +136,10 @@ fn below_inside<'a>(
     alloc: Global,
     inside: Inside,
     case: &'a Case,
-    waiting: &mut Vec<Waiting<'a>>,
+    waiting: &mut Vec<Stacked<'a>>,
+    kept: usize,
 ) -> Result<u64, Memory>
-    ensures waiting { IfOk result (λ made. stack_of waiting.new.items ≡ (below_inside (inside_of inside) (branch_of case.now)).waiting ++ stack_of waiting.old.items) }
+    ensures waiting { IfOk result (λ made. stack_of waiting.new.items ≡ kept_with kept (below_inside (inside_of inside) (branch_of case.now)).waiting ++ stack_of waiting.old.items) }
     ensures next { IfOk result (λ made. made ≡ (below_inside (inside_of inside) (branch_of case.now)).next) }
 {
     let Inside {
@@ -144,6 +151,7 @@ fn below_inside<'a>(
     let body = Rc::new(alloc, body)?;
     put(
         waiting,
+        kept,
         Waiting::Case {
             case,
             body,
@@ -164,9 +172,10 @@ fn below_split<'a>(
     con: &Con,
     first: &'a Case,
     second: &'a Case,
-    waiting: &mut Vec<Waiting<'a>>,
+    waiting: &mut Vec<Stacked<'a>>,
+    kept: usize,
 ) -> Result<u64, Memory>
-    ensures waiting { (bare : Bool) → IfOk result (λ made. stack_of waiting.new.items ≡ (below_split (sides bounds.free bounds.top con.now (place_of here.now) next) (body_of body.now.value bare) (branch_of first.now) (branch_of second.now)).waiting ++ stack_of waiting.old.items) }
+    ensures waiting { (bare : Bool) → IfOk result (λ made. stack_of waiting.new.items ≡ kept_with kept (below_split (sides bounds.free bounds.top con.now (place_of here.now) next) (body_of body.now.value bare) (branch_of first.now) (branch_of second.now)).waiting ++ stack_of waiting.old.items) }
     ensures next { IfOk result (λ made. made ≡ (sides bounds.free bounds.top con.now (place_of here.now) next).next) }
 {
     let Sides {
@@ -176,6 +185,7 @@ fn below_split<'a>(
     } = both_sides(alloc, bounds, con, here, next)?;
     put(
         waiting,
+        kept,
         Waiting::Case {
             case: second,
             body: body.clone()?,
@@ -185,6 +195,7 @@ fn below_split<'a>(
     )?;
     put(
         waiting,
+        kept,
         Waiting::Case {
             case: first,
             body: body.clone()?,
@@ -204,13 +215,14 @@ fn below_leaf<'a>(
     bare: bool,
     item: u64,
     children: &'a Nodes,
-    waiting: &mut Vec<Waiting<'a>>,
+    waiting: &mut Vec<Stacked<'a>>,
+    kept: usize,
 ) -> Result<(), Memory>
-    ensures { OnOk result (stack_of waiting.new.items ≡ nodes (within_case at bare (place_of here.now)) (leaf_dues (place_of here.now) (body_of body.now bare) item) (listed (trees_of children.now)) ∷ stack_of waiting.old.items) }
+    ensures { OnOk result (stack_of waiting.new.items ≡ (kept, nodes (within_case at bare (place_of here.now)) (leaf_dues (place_of here.now) (body_of body.now bare) item) (listed (trees_of children.now))) ∷ stack_of waiting.old.items) }
 {
     let dues = leaf_dues(alloc, here, body, item)?;
     let below = here.within_case(alloc, at, bare)?;
-    put_nodes(waiting, below, dues, children)
+    put_nodes(waiting, kept, below, dues, children)
 }
 
 /// Below a case in which the head holds.
@@ -221,13 +233,14 @@ fn below_head<'a>(
     body: &Body,
     bare: bool,
     children: &'a Nodes,
-    waiting: &mut Vec<Waiting<'a>>,
+    waiting: &mut Vec<Stacked<'a>>,
+    kept: usize,
 ) -> Result<(), Memory>
-    ensures { OnOk result (stack_of waiting.new.items ≡ nodes (within_case at bare (place_of here.now)) (head_dues (place_of here.now) (body_of body.now bare)) (listed (trees_of children.now)) ∷ stack_of waiting.old.items) }
+    ensures { OnOk result (stack_of waiting.new.items ≡ (kept, nodes (within_case at bare (place_of here.now)) (head_dues (place_of here.now) (body_of body.now bare)) (listed (trees_of children.now))) ∷ stack_of waiting.old.items) }
 {
     let dues = head_dues(alloc, here, body)?;
     let below = here.within_case(alloc, at, bare)?;
-    put_nodes(waiting, below, dues, children)
+    put_nodes(waiting, kept, below, dues, children)
 }
 
 /// Below a case.
@@ -241,14 +254,17 @@ fn below_case<'a>(
     body: &Rc<Body>,
     bare: bool,
     case: &'a Case,
-    waiting: &mut Vec<Waiting<'a>>,
+    waiting: &mut Vec<Stacked<'a>>,
+    kept: usize,
 ) -> Result<u64, Memory>
-    ensures waiting { IfOk result (λ made. stack_of waiting.new.items ≡ (below_case (setting_of program.now bounds) at next (place_of here.now) (body_of body.now.value bare) (branch_of case.now)).waiting ++ stack_of waiting.old.items) }
+    ensures waiting { IfOk result (λ made. stack_of waiting.new.items ≡ kept_with kept (below_case (setting_of program.now bounds) at next (place_of here.now) (body_of body.now.value bare) (branch_of case.now)).waiting ++ stack_of waiting.old.items) }
     ensures next { IfOk result (λ made. made ≡ (below_case (setting_of program.now bounds) at next (place_of here.now) (body_of body.now.value bare) (branch_of case.now)).next) }
 {
     match case {
         Case::Split { con, first, second } => {
-            below_split(alloc, bounds, next, here, body, con, first, second, waiting)
+            below_split(
+                alloc, bounds, next, here, body, con, first, second, waiting, kept,
+            )
         }
         Case::Void { .. } => Ok(next),
         Case::Leaf { item, children } => {
@@ -261,11 +277,21 @@ fn below_case<'a>(
                 *item,
                 children,
                 waiting,
+                kept,
             )?;
             Ok(next)
         }
         Case::Head { children } => {
-            below_head(alloc, at, here, body.as_ref(), bare, children, waiting)?;
+            below_head(
+                alloc,
+                at,
+                here,
+                body.as_ref(),
+                bare,
+                children,
+                waiting,
+                kept,
+            )?;
             Ok(next)
         }
     }
@@ -277,26 +303,27 @@ pub(crate) fn enter<'a>(
     program: &Program,
     bounds: Bounds,
     line: &Line<'a>,
-    waiting: &mut Vec<Waiting<'a>>,
+    waiting: &mut Vec<Stacked<'a>>,
 ) -> Result<u64, Memory>
-    ensures waiting { IfOk result (λ made. stack_of waiting.new.items ≡ (below (setting_of program.now bounds) line.now.at line.now.next (place_of line.now.here) (part_of line.now.part)).waiting ++ stack_of waiting.old.items) }
+    ensures waiting { IfOk result (λ made. stack_of waiting.new.items ≡ kept_with line.now.size (below (setting_of program.now bounds) line.now.at line.now.next (place_of line.now.here) (part_of line.now.part)).waiting ++ stack_of waiting.old.items) }
     ensures next { IfOk result (λ made. made ≡ (below (setting_of program.now bounds) line.now.at line.now.next (place_of line.now.here) (part_of line.now.part)).next) }
 {
     let here = &line.here;
     match &line.part {
         Part::Node { node, .. } => below_node(
-            alloc, program, bounds, line.at, line.next, here, *node, waiting,
+            alloc, program, bounds, line.at, line.next, here, *node, waiting, line.size,
         ),
         Part::Rule { clause, atom, case } => {
             let inside = inside_rule(alloc, program.clause(*clause), *atom, line.next, here)?;
-            below_inside(alloc, inside, *case, waiting)
+            below_inside(alloc, inside, *case, waiting, line.size)
         }
         Part::Check { clause, case } => {
             let inside = inside_check(alloc, program.clause(*clause), line.next, here)?;
-            below_inside(alloc, inside, *case, waiting)
+            below_inside(alloc, inside, *case, waiting, line.size)
         }
         Part::Case { body, bare, case } => below_case(
             alloc, program, bounds, line.at, line.next, here, body, *bare, *case, waiting,
+            line.size,
         ),
     }
 }

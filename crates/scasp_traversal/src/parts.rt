@@ -33,11 +33,14 @@ pub enum Part<'a> {
     },
 }
 
-/// A line: its number from 1, the number of the next universal variable, what holds there, and what stands there.
+/// A line: its number from 1, the number of the next universal variable, how many constraints opened on the way to it, how
+/// many of them opened on the way to the line above it, what holds there, and what stands there.
 #[derive(Drop)]
 pub struct Line<'a> {
     pub at: u64,
     pub next: u64,
+    pub size: usize,
+    pub kept: usize,
     pub here: Place,
     pub part: Part<'a>,
 }

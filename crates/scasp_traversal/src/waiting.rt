@@ -46,6 +46,13 @@ pub(crate) enum Waiting<'a> {
     },
 }
 
+/// Parts that wait on the stack below a line at which so many constraints opened.
+#[derive(Drop)]
+pub(crate) struct Stacked<'a> {
+    pub kept: usize,
+    pub parts: Waiting<'a>,
+}
+
 /// The first of such parts, its place, and those behind it.
 #[derive(Drop)]
 pub(crate) struct Begun<'a> {
@@ -55,10 +62,14 @@ pub(crate) struct Begun<'a> {
 }
 
 /// Puts parts before those that wait.
-pub(crate) fn put<'a>(waiting: &mut Vec<Waiting<'a>>, part: Waiting<'a>) -> Result<(), Memory>
-    ensures { OnOk result (stack_of waiting.new.items ≡ pending_of part.entry ∷ stack_of waiting.old.items) }
+pub(crate) fn put<'a>(
+    waiting: &mut Vec<Stacked<'a>>,
+    kept: usize,
+    parts: Waiting<'a>,
+) -> Result<(), Memory>
+    ensures { OnOk result (stack_of waiting.new.items ≡ (kept, pending_of parts.entry) ∷ stack_of waiting.old.items) }
 {
-    waiting.push(part)?;
+    waiting.push(Stacked { kept, parts })?;
     Ok(())
 }
 

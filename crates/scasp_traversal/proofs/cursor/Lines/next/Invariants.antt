@@ -1,9 +1,15 @@
-use Rattle.std.proofs.Common.{◌≡◌, vec_len}
+use Rattle.std.proofs.Common.{◌≡◌, List, vec_len}
+use Rattle.scasp_syntax.specs.declared.con.Con.{Con}
+use Rattle.scasp_traversal.specs.Going.{IsReady}
 use Rattle.scasp_traversal.specs.View.{lines_left}
 use Rattle.scasp_traversal.proofs.cursor.Lines.next.Given as goal
 
-abbrev pub invariant-loop-parts : goal.invariant-loop-parts
-invariant-loop-parts l = lines_left l.self ≡ lines_left l.fn.self
+abbrev pub invariant-loop-kept : goal.invariant-loop-kept
+invariant-loop-kept l =
+    record {
+      lines : lines_left l.self ≡ lines_left l.fn.self;
+      ready : (now : List Con) → IsReady now l.fn.self → IsReady now l.self;
+    }
 
-abbrev pub decreases-loop-parts : goal.decreases-loop-parts
-decreases-loop-parts l = vec_len l.self.waiting
+abbrev pub decreases-loop-kept : goal.decreases-loop-kept
+decreases-loop-kept l = vec_len l.self.waiting

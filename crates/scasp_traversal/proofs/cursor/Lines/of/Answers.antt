@@ -5,15 +5,15 @@ use Rattle.scasp_cert.specs.View.{trees_of}
 use Rattle.scasp_lines.specs.Dues.{query_dues}
 use Rattle.scasp_lines.specs.Lines.{setting}
 use Rattle.scasp_lines.specs.Places.{start}
-use Rattle.scasp_lines.specs.Walk.{Setting}
 use Rattle.scasp_syntax.specs.Programs.{numbered}
 use Rattle.scasp_traversal.specs.Pending.{checks, nodes}
 use Rattle.scasp_traversal.specs.View.{setting_of}
 use Rattle.scasp_traversal.proofs.CursorLemmas.{all-left}
+use Rattle.scasp_traversal.proofs.GoingLemmas.{ready-first}
 use Rattle.scasp_traversal.proofs.cursor.Lines.of.Goals as goal
 
-pub returns : goal.returns
-returns c =
+pub returns-clause-lines : goal.returns-clause-lines
+returns-clause-lines c =
     let p = c.args.program.now in
     let cert = c.args.cert.now in
     let free = c.len.ensures in
@@ -22,4 +22,7 @@ returns c =
     λ i. record { clauses = p.clauses; free = free i; top = top i } in
     all-left _ p (certificate_of cert) refl bounded refl free
     (c.in_ok-all_waiting.ensures
-    ∙ ap (λ m. nodes (start m) (query_dues (numbered p.queries cert.query) cert.terms) (listed (trees_of cert.trees)) ∷ checks (start m) (checks_of cert.checks) ∷ []) top)
+    ∙ ap (λ m. (0, nodes (start m) (query_dues (numbered p.queries cert.query) cert.terms) (listed (trees_of cert.trees))) ∷ (0, checks (start m) (checks_of cert.checks)) ∷ []) top)
+
+pub returns-clause-ready : goal.returns-clause-ready
+returns-clause-ready c = ready-first _ _ _ _ _ c.in_ok-all_waiting.ensures
