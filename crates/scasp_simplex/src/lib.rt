@@ -11,6 +11,7 @@ mod combining;
 mod dropping;
 mod fallback;
 mod form;
+mod nearest;
 mod pivoting;
 mod point;
 mod pointing;

@@ -1,33 +1,32 @@
-//! Choice of pivots: first of the variable that is the farthest beyond its bounds, later by Bland's rule (1977): of all
-//! variables that may be chosen the first in order, by which no basis comes twice.
+//! Choice of pivots. The first basic variable in order that is beyond its bounds is brought toward them: first so that
+//! those that are within theirs stay there, later by Bland's rule (1977), by which no basis comes twice.
 use crate::adding::add_rows;
 use crate::combination::Term;
 use crate::dropping::drop_rows;
 use crate::form::{Column, Form, Line, Role, Unknown};
+use crate::nearest::nearest;
 use crate::pivoting::pivot;
 use crate::stop::Stop;
 use crate::value::Value;
-use crate::whole::{negation, quotient, sum};
+use crate::whole::negation;
 use scasp_num::Row;
 use std::alloc::Global;
 use std::cmp::Ordering;
 
-/// A basic variable beyond its bounds: its line, its number in the order, how far it is beyond them, rounded down, and
-/// whether it is above.
+/// A basic variable beyond its bounds: its line, its number in the order, and whether it is above them.
 #[derive(Clone, Copy)]
 struct Beyond {
     at: usize,
     order: u64,
-    by: i128,
     is_above: bool,
 }
 
 /// How a pivot is chosen.
 #[derive(Clone, Copy)]
 enum Rule {
-    /// The basic variable that is the farthest beyond its bounds, and the column that the fewest lines have.
-    Farthest,
-    /// Of both the first in order.
+    /// The column that the fewest lines have enters, and the basic variable that first comes to its bounds leaves.
+    Nearest,
+    /// The first column in order enters, and the basic variable that is beyond its bounds leaves.
     First,
 }
 
@@ -52,18 +51,15 @@ fn beyond_of(at: usize, line: &Line, unit: i128) -> Result<Option<Beyond>, Stop>
     let Some(bound) = &line.basic.bound else {
         return Ok(None);
     };
-    let per = line.per(unit)?;
-    let most = bound.most.times(per)?;
+    let most = bound.most.times(line.per(unit)?)?;
     let is_above = match line.value.compare(&most) {
         Ordering::Greater => true,
         Ordering::Less if bound.is_exact => false,
         Ordering::Less | Ordering::Equal => return Ok(None),
     };
-    let gap = sum(line.value.real, negation(most.real)?)?;
     Ok(Some(Beyond {
         at,
         order: line.basic.order,
-        by: quotient(gap, per)?.saturating_abs(),
         is_above,
     }))
 }
@@ -79,23 +75,15 @@ enum Next {
     },
 }
 
-/// Whether the rule takes the first before the other.
-fn is_before(rule: Rule, first: &Beyond, other: &Beyond) -> bool {
-    match rule {
-        Rule::Farthest => first.by >= other.by,
-        Rule::First => first.order <= other.order,
-    }
-}
-
-/// The basic variable beyond its bounds that the rule takes.
-fn leaving(form: &Form, rule: Rule) -> Result<Option<Beyond>, Stop> {
+/// The first basic variable in order that is beyond its bounds.
+fn first_beyond(form: &Form) -> Result<Option<Beyond>, Stop> {
     let mut taken: Option<Beyond> = None;
     for (at, line) in form.lines.iter().enumerate() {
         let Some(next) = beyond_of(at, line, form.unit)? else {
             continue;
         };
         taken = match taken {
-            Some(other) if is_before(rule, &other, &next) => Some(other),
+            Some(other) if other.order <= next.order => Some(other),
             _ => Some(next),
         };
     }
@@ -114,7 +102,7 @@ fn may_help(column: &Column, unit: i128, term: &Term, is_above: bool) -> Result<
 /// Whether the rule takes the first before the other.
 fn is_column_before(rule: Rule, first: &Column, other: &Column) -> bool {
     match rule {
-        Rule::Farthest => first.uses <= other.uses,
+        Rule::Nearest => first.uses <= other.uses,
         Rule::First => first.unknown.order <= other.unknown.order,
     }
 }
@@ -182,20 +170,32 @@ fn bound_of(line: &Line, unit: i128) -> Result<Value, Stop> {
     }
 }
 
+/// The pivot by which the column enters.
+fn pivot_by(form: &Form, beyond: &Beyond, column: usize, rule: Rule) -> Result<Next, Stop> {
+    let at = match rule {
+        Rule::Nearest => nearest(form, beyond.at, beyond.is_above, column)?,
+        Rule::First => beyond.at,
+    };
+    let Some(line) = form.lines.get(at) else {
+        return Err(Stop::Lost);
+    };
+    Ok(Next::Pivot {
+        at,
+        column,
+        value: bound_of(line, form.unit)?,
+    })
+}
+
 /// What comes next: a pivot, or what the form says of the rows.
 fn next_of(alloc: Global, form: &Form, rule: Rule) -> Result<Next, Stop> {
-    let Some(beyond) = leaving(form, rule)? else {
+    let Some(beyond) = first_beyond(form)? else {
         return Ok(Next::Done(Found::Within));
     };
     let Some(line) = form.lines.get(beyond.at) else {
         return Err(Stop::Lost);
     };
     match entering(form, line, beyond.is_above, rule)? {
-        Some(column) => Ok(Next::Pivot {
-            at: beyond.at,
-            column,
-            value: bound_of(line, form.unit)?,
-        }),
+        Some(column) => pivot_by(form, &beyond, column, rule),
         None => {
             let shares = clash(alloc, form.columns.as_slice(), line, beyond.is_above)?;
             Ok(Next::Done(Found::Clash(shares)))
@@ -203,7 +203,7 @@ fn next_of(alloc: Global, form: &Form, rule: Rule) -> Result<Next, Stop> {
     }
 }
 
-/// Brings one basic variable to its bounds, or tells that all are there, or that one cannot be brought there.
+/// Brings one basic variable toward its bounds, or tells that all are there, or that one cannot be brought there.
 fn turn(alloc: Global, form: &mut Form, rule: Rule) -> Result<Option<Found>, Stop> {
     match next_of(alloc, form, rule)? {
         Next::Done(found) => Ok(Some(found)),
@@ -230,7 +230,7 @@ pub(crate) fn solve(alloc: Global, form: &mut Form, rows: &[Row]) -> Result<Foun
     let most = most_pivots(form);
     for count in 0..most {
         let rule = if count < most / 2 {
-            Rule::Farthest
+            Rule::Nearest
         } else {
             Rule::First
         };

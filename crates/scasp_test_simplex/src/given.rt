@@ -1,7 +1,9 @@
 //! Rows as they are written, and a tableau beside the plain list of its rows.
+use scasp_hint::unsat;
 use scasp_num::{Op, Rat, RatPair, RatPairs, Row, Rows, Step, Steps};
 use scasp_rows::{LinErr, Verdict, is_false, step};
 use scasp_simplex::{TabMark, Tableau};
+use scasp_syntax::{Con, Cons, Hint, Term};
 use std::alloc::Global;
 use std::test::Fail;
 
@@ -70,8 +72,9 @@ impl Trial {
         match self.tableau.decide() {
             Ok(Verdict::Sat) => Ok(Some(Wanted::Sat)),
             Ok(Verdict::Unsat(steps)) => {
-                let is_shown = is_shown(alloc, self.rows.as_slice(), &steps)?;
-                Ok(is_shown.then_some(Wanted::Unsat))
+                let rows = self.rows.as_slice();
+                let is_taken = is_shown(alloc, rows, &steps)? && is_hint(alloc, rows, steps)?;
+                Ok(is_taken.then_some(Wanted::Unsat))
             }
             Err(LinErr::Overflow) => Ok(Some(Wanted::Overflow)),
             Err(LinErr::Memory) => Ok(None),
@@ -91,7 +94,7 @@ fn made(alloc: Global, rows: &[Row], next: &Step) -> Option<Row> {
     step(alloc, next.a, first, next.b, second).ok()
 }
 
-/// Whether all steps make rows, and one of these is a false constant row, as a hint of the rows has to.
+/// Whether all steps make rows, and one of these is a false constant row.
 fn is_shown(alloc: Global, rows: &[Row], steps: &Steps) -> Result<bool, Fail> {
     let mut all = copies(alloc, rows)?;
     let mut is_reached = false;
@@ -105,6 +108,24 @@ fn is_shown(alloc: Global, rows: &[Row], steps: &Steps) -> Result<bool, Fail> {
         }
     }
     Ok(is_reached)
+}
+
+/// Whether the steps are accepted as a hint that the rows have no valuation.
+fn is_hint(alloc: Global, rows: &[Row], steps: Steps) -> Result<bool, Fail> {
+    let constraints = constraints(alloc, rows)?;
+    Ok(unsat(alloc, constraints.as_slice(), &Hint::Rows(steps)).is_ok())
+}
+
+/// The rows, each behind the constraints that its variables are numbers.
+fn constraints(alloc: Global, rows: &[Row]) -> Result<Cons, Fail> {
+    let mut constraints = Cons::new(alloc);
+    for row in rows {
+        for k in row.coeffs().as_slice() {
+            constraints.push(Con::Num(Term::Var(k.x)))?;
+        }
+        constraints.push(Con::Row(row.clone()?))?;
+    }
+    Ok(constraints)
 }
 
 /// The rows as `eliminate` takes them.
