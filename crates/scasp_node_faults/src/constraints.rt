@@ -1,7 +1,7 @@
 //! The test of a line with a constraint.
-ghost use Rattle.std.specs.Prelude.{◌≡◌, [], ◌∷◌, ◌++◌};
+ghost use Rattle.std.specs.Prelude.{◌≡◌, [], ◌∷◌, ◌++◌, OnOk};
 ghost use Rattle.scasp_cert.specs.Trees.{test_tree};
-ghost use Rattle.scasp_lines.specs.Contexts.{context};
+ghost use Rattle.scasp_lines.specs.Contexts.{context as context_of};
 ghost use Rattle.scasp_places.specs.View.{place_of};
 ghost use Rattle.scasp_dues.specs.DueView.{due_value};
 ghost use Rattle.scasp_hint.specs.Showing.{fault_of};
@@ -13,40 +13,55 @@ ghost use Rattle.scasp_line_faults.specs.Whole.{whole};
 
 use crate::dues::{asks_constraint, is_fact_due};
 use scasp_acceptance::Reason;
-use scasp_dues::{Due, context};
+use scasp_dues::Due;
 use scasp_faults::{CheckErr, want};
 use scasp_line_faults::{Common, accept_hint, knows_con};
+use scasp_list::Memory;
 use scasp_places::{Place, negated};
 use scasp_syntax::{Con, Hint};
 use std::alloc::Global;
 
-/// Tests that the hint shows the constraint to follow from the context.
+/// Puts a constraint at the end.
+fn put_last(context: &mut Vec<Con>, con: Con) -> Result<(), Memory>
+    ensures { OnOk result (context.new.items ≡ context.old.items ++ con ∷ []) }
+{
+    context.push(con)?;
+    Ok(())
+}
+
+/// Tests that the hint shows the constraint to follow from the context. The list of the context is as it was then.
 fn accept_shown(
     alloc: Global,
-    common: &Common,
+    context: &mut Vec<Con>,
     at: u64,
     here: &Place,
     con: &Con,
     hint: &Hint,
 ) -> Result<(), CheckErr>
-    ensures { Judges result (fault_at at (fault_of (context (whole common.now).given (place_of here.now).opened ++ negated (place_of here.now).hidden con.now ∷ []) hint.now)) }
+    ensures judges { Judges result (fault_at at (fault_of (context.old.items ++ negated (place_of here.now).hidden con.now ∷ []) hint.now)) }
+    ensures stays { OnOk result (context.new.items ≡ context.old.items) }
 {
-    let mut constraints = context(alloc, common.cert.given.as_slice(), &here.opened)?;
-    constraints.push(negated(alloc, here.hidden, con)?)?;
-    accept_hint(alloc, at, constraints.as_slice(), hint)
+    let negation = negated(alloc, here.hidden, con)?;
+    put_last(context, negation)?;
+    accept_hint(alloc, at, context.as_slice(), hint)?;
+    context.pop();
+    Ok(())
 }
 
-/// Tests a line of a constraint.
+/// Tests a line of a constraint, where `context` is the list of its context, which is as it was then.
 pub fn accept_test(
     alloc: Global,
     common: &Common,
+    context: &mut Vec<Con>,
     at: u64,
     here: &Place,
     due: &Due,
     con: &Con,
     hint: &Hint,
 ) -> Result<(), CheckErr>
-    ensures { Judges result (node_faults (whole common.now) at (place_of here.now) (due_value due.now) (test_tree con.now hint.now)) }
+    requires { context.old.items ≡ context_of (whole common.now).given (place_of here.now).opened }
+    ensures judges { Judges result (node_faults (whole common.now) at (place_of here.now) (due_value due.now) (test_tree con.now hint.now)) }
+    ensures stays { OnOk result (context.new.items ≡ context.old.items) }
 {
     want(
         at,
@@ -55,5 +70,5 @@ pub fn accept_test(
     )?;
     want(at, Reason::WrongNode, asks_constraint(due))?;
     want(at, Reason::WrongLiteral, is_fact_due(alloc, due, con)?)?;
-    accept_shown(alloc, common, at, here, con, hint)
+    accept_shown(alloc, context, at, here, con, hint)
 }

@@ -2,28 +2,29 @@
 ghost use Rattle.std.specs.Prelude.{◌≡◌, ℕ};
 ghost use Rattle.scasp_cert.specs.Trees.{void};
 ghost use Rattle.scasp_lines.specs.Bodies.{Body as BodyValue};
+ghost use Rattle.scasp_lines.specs.Contexts.{context as context_of};
 ghost use Rattle.scasp_places.specs.View.{place_of};
 ghost use Rattle.scasp_acceptance.specs.LineFaults.{case_faults};
 ghost use Rattle.scasp_faults.specs.Judged.{Judges};
 ghost use Rattle.scasp_line_faults.specs.Whole.{whole};
 
-use scasp_dues::context;
 use scasp_faults::CheckErr;
 use scasp_line_faults::{Common, accept_hint};
 use scasp_places::Place;
-use scasp_syntax::Hint;
+use scasp_syntax::{Con, Hint};
 use std::alloc::Global;
 
-/// Tests that a case cannot arise: the hint shows that the context has no valuation.
+/// Tests that a case cannot arise: the hint shows that its context, of which `context` is the list, has no valuation.
 pub fn accept_void(
     alloc: Global,
     common: &Common,
+    context: &[Con],
     at: u64,
     here: &Place,
     hint: &Hint,
 ) -> Result<(), CheckErr>
+    requires { context.now ≡ context_of (whole common.now).given (place_of here.now).opened }
     ensures { (next : ℕ) (body : BodyValue) → Judges result (case_faults (whole common.now) at next (place_of here.now) body (void hint.now)) }
 {
-    let constraints = context(alloc, common.cert.given.as_slice(), &here.opened)?;
-    accept_hint(alloc, at, constraints.as_slice(), hint)
+    accept_hint(alloc, at, context, hint)
 }

@@ -1,8 +1,9 @@
 //! The tests of a line, by what stands on it.
-ghost use Rattle.std.specs.Prelude.{◌≡◌, ◌&&◌, length, nat_lt, true, IfOk};
+ghost use Rattle.std.specs.Prelude.{◌≡◌, ◌&&◌, length, nat_lt, true, IfOk, OnOk};
 ghost use Rattle.scasp_cert.specs.Trees.{covering, listed, neg_tree, pos_tree};
 ghost use Rattle.scasp_cert.specs.View.{branch_of, covers_of, tree_of, trees_of};
 ghost use Rattle.scasp_dues.specs.DueView.{due_value};
+ghost use Rattle.scasp_lines.specs.Contexts.{context as context_of};
 ghost use Rattle.scasp_places.specs.View.{body_of, place_of};
 ghost use Rattle.scasp_syntax.specs.Programs.{numbered};
 ghost use Rattle.scasp_acceptance.specs.LineFaults.{case_faults, check_faults, items_of, line_faults, node_faults};
@@ -26,7 +27,7 @@ use scasp_node_faults::{
     accept_literal, accept_loop, accept_positive, accept_test, accept_void, asks_negated,
 };
 use scasp_places::{Body, Place};
-use scasp_syntax::{Atom, Program, Terms, flat};
+use scasp_syntax::{Atom, Con, Program, Terms, flat};
 use scasp_table_faults::accept_seen;
 use scasp_traversal::{Line, Part};
 use std::alloc::Global;
@@ -98,6 +99,7 @@ fn accept_node(
     alloc: Global,
     tabled: &Tabled,
     rules: &Rules,
+    context: &mut Vec<Con>,
     at: u64,
     here: &Place,
     due: &Due,
@@ -105,7 +107,9 @@ fn accept_node(
 ) -> Result<(), CheckErr>
     requires tells { Tells tabled.now.table tabled.now.common }
     requires rules { HasRules rules.now tabled.now.common.program.now.clauses }
-    ensures { Judges result (node_faults (whole tabled.now.common) at (place_of here.now) (due_value due.now) (tree_of node.now)) }
+    requires context { context.old.items ≡ context_of (whole tabled.now.common).given (place_of here.now).opened }
+    ensures judges { Judges result (node_faults (whole tabled.now.common) at (place_of here.now) (due_value due.now) (tree_of node.now)) }
+    ensures stays { OnOk result (context.new.items ≡ context.old.items) }
 {
     let common = &tabled.common;
     match node {
@@ -122,7 +126,9 @@ fn accept_node(
         Node::Seen { lit, at: to } => {
             accept_seen(alloc, common, &tabled.table, at, here, due, lit, *to)
         }
-        Node::Test { con, hint } => accept_test(alloc, common, at, here, due, con, hint),
+        Node::Test { con, hint } => {
+            accept_test(alloc, common, context, at, here, due, con, hint)
+        }
     }
 }
 
@@ -130,6 +136,7 @@ fn accept_node(
 fn accept_case(
     alloc: Global,
     tabled: &Tabled,
+    context: &[Con],
     at: u64,
     next: u64,
     here: &Place,
@@ -137,11 +144,12 @@ fn accept_case(
     bare: bool,
     case: &Case,
 ) -> Result<(), CheckErr>
+    requires { context.now ≡ context_of (whole tabled.now.common).given (place_of here.now).opened }
     ensures { Judges result (case_faults (whole tabled.now.common) at next (place_of here.now) (body_of body.now bare) (branch_of case.now)) }
 {
     match case {
         Case::Split { con, .. } => accept_split(alloc, &tabled.common, at, next, here, con),
-        Case::Void { hint } => accept_void(alloc, &tabled.common, at, here, hint),
+        Case::Void { hint } => accept_void(alloc, &tabled.common, context, at, here, hint),
         Case::Leaf { item, children } => accept_leaf(at, body, *item, children),
         Case::Head { children } => accept_head(at, body, children),
     }
@@ -170,28 +178,33 @@ fn accept_check(tabled: &Tabled, at: u64, clause: u64, before: u64) -> Result<()
     )
 }
 
-/// Tests a line, where `before` is the clause that was checked last on lines before it, or 0.
+/// Tests a line, where `context` is the list of its context, which is as it was then, and `before` the clause that was checked
+/// last on lines before it, or 0.
 pub(crate) fn accept_line(
     alloc: Global,
     tabled: &Tabled,
     rules: &Rules,
+    context: &mut Vec<Con>,
     line: &Line,
     before: u64,
 ) -> Result<(), CheckErr>
     requires tells { Tells tabled.now.table tabled.now.common }
     requires rules { HasRules rules.now tabled.now.common.program.now.clauses }
+    requires context { context.old.items ≡ context_of (whole tabled.now.common).given (place_of line.now.here).opened }
     requires below { AreBelow (whole tabled.now.common) line.now.at before }
-    ensures { Judges result (line_faults (whole tabled.now.common) (line_of line.now)) }
+    ensures judges { Judges result (line_faults (whole tabled.now.common) (line_of line.now)) }
+    ensures stays { OnOk result (context.new.items ≡ context.old.items) }
 {
     match &line.part {
         Part::Node { due, node } => accept_node(
-            alloc, tabled, rules, line.at, &line.here, due, *node,
+            alloc, tabled, rules, context, line.at, &line.here, due, *node,
         ),
         Part::Rule { .. } => Ok(()),
         Part::Check { clause, .. } => accept_check(tabled, line.at, *clause, before),
         Part::Case { body, bare, case } => accept_case(
             alloc,
             tabled,
+            context.as_slice(),
             line.at,
             line.next,
             &line.here,

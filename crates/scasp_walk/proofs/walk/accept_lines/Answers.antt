@@ -7,6 +7,7 @@ use Rattle.scasp_acceptance.specs.Wholes.{whole_of}
 use Rattle.scasp_traversal.specs.View.{line_of, lines_left}
 use Rattle.scasp_traversal.specs.declared.cursor.Lines.{Lines}
 use Rattle.scasp_traversal.specs.declared.parts.Line.{Line}
+use Rattle.scasp_walk.proofs.ContextLemmas.{goes-on-from, kept-on}
 use Rattle.scasp_walk.proofs.WalkLemmas.{going-below, going-on, going-refused}
 use Rattle.scasp_walk.proofs.walk.accept_lines.Goals as goal
 
@@ -19,9 +20,9 @@ pub accept_next-requires-clause-below : goal.accept_next-requires-clause-below
 accept_next-requires-clause-below c =
     let p = c.args.tabled.now.common.program.now in
     let cert = certificate_of c.args.tabled.now.common.cert.now in
-    going-below (whole_of true p cert) c.loop-lines.before (line_of c.in-Some.line) (lines_left c.next.new.self) (lines_left c.loop-lines.lines)
-    (certificate-runs p.clauses p.queries cert).counts c.loop-lines.invariant
-    (comes c.in_ok-line.field-0 c.in-Some.line c.loop-lines.lines c.next.new.self c.in-Some.is c.in_ok-line.ensures)
+    going-below (whole_of true p cert) c.loop-context.before (line_of c.in-Some.line) (lines_left c.next.new.self) (lines_left c.loop-context.lines)
+    (certificate-runs p.clauses p.queries cert).counts c.loop-context.invariant.going
+    (comes c.in_ok-line.field-0 c.in-Some.line c.loop-context.lines c.next.new.self c.in-Some.is c.in_ok-line.ensures.lines)
 
 pub returns-in_err-before : goal.returns-in_err-before
 returns-in_err-before c =
@@ -29,15 +30,26 @@ returns-in_err-before c =
     let cert = certificate_of c.args.tabled.now.common.cert.now in
     let e = err_from_is_err_and c.from_residual-in_err-before.result c.from_residual-in_err-before.ensures.1 in
     rw (e.1, e.2)
-    (going-refused (whole_of true p cert) c.loop-lines.before (line_of c.in-Some.line) (lines_left c.next.new.self) (lines_left c.loop-lines.lines)
-    (certificate-runs p.clauses p.queries cert).counts c.loop-lines.invariant
-    (comes c.in_ok-line.field-0 c.in-Some.line c.loop-lines.lines c.next.new.self c.in-Some.is c.in_ok-line.ensures) _ c.in_err-before.ensures.faults)
+    (going-refused (whole_of true p cert) c.loop-context.before (line_of c.in-Some.line) (lines_left c.next.new.self) (lines_left c.loop-context.lines)
+    (certificate-runs p.clauses p.queries cert).counts c.loop-context.invariant.going
+    (comes c.in_ok-line.field-0 c.in-Some.line c.loop-context.lines c.next.new.self c.in-Some.is c.in_ok-line.ensures.lines) _ c.in_err-before.ensures.faults)
 
-pub loop-lines-preserved : goal.loop-lines-preserved
-loop-lines-preserved c =
+pub accept_next-requires-clause-context : goal.accept_next-requires-clause-context
+accept_next-requires-clause-context c =
+    goes-on-from c.args.tabled.now.common.cert.now.given c.loop-context.context.items c.loop-context.lines c.next.new.self c.in_ok-line.field-0 c.in-Some.line
+    c.loop-context.invariant.kept c.in_ok-line.ensures.ready c.in-Some.is
+
+pub loop-context-preserved : goal.loop-context-preserved
+loop-context-preserved c =
     let p = c.args.tabled.now.common.program.now in
     let cert = certificate_of c.args.tabled.now.common.cert.now in
-    rw c.in_ok-before.ensures.last
-    (going-on (whole_of true p cert) c.loop-lines.before (line_of c.in-Some.line) (lines_left c.next.new.self) (lines_left c.loop-lines.lines)
-    (certificate-runs p.clauses p.queries cert).counts c.loop-lines.invariant
-    (comes c.in_ok-line.field-0 c.in-Some.line c.loop-lines.lines c.next.new.self c.in-Some.is c.in_ok-line.ensures) c.in_ok-before.ensures.faults)
+    record {
+      going =
+          rw c.in_ok-before.ensures.last
+          (going-on (whole_of true p cert) c.loop-context.before (line_of c.in-Some.line) (lines_left c.next.new.self) (lines_left c.loop-context.lines)
+          (certificate-runs p.clauses p.queries cert).counts c.loop-context.invariant.going
+          (comes c.in_ok-line.field-0 c.in-Some.line c.loop-context.lines c.next.new.self c.in-Some.is c.in_ok-line.ensures.lines) c.in_ok-before.ensures.faults);
+      kept =
+          kept-on cert.given c.loop-context.context.items _ c.loop-context.lines c.next.new.self c.in_ok-line.field-0 c.in-Some.line
+          c.loop-context.invariant.kept c.in_ok-line.ensures.ready c.in-Some.is c.in_ok-before.ensures.context;
+    }
