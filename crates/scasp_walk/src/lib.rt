@@ -1,6 +1,7 @@
 //! All lines of a certificate, one after the other: the first thing that is wrong at them.
 #![tactic(auto)]
 
+mod counts;
 mod lines;
 mod rules;
 mod tabled;

@@ -1,12 +1,12 @@
 //! The tests of a line, by what stands on it.
-ghost use Rattle.std.specs.Prelude.{◌≡◌, ◌&&◌, length, nat_lt, true, IfOk, OnOk};
+ghost use Rattle.std.specs.Prelude.{◌≡◌, ◌&&◌, length, nat_lt, true, OnOk};
 ghost use Rattle.scasp_cert.specs.Trees.{covering, listed, neg_tree, pos_tree};
 ghost use Rattle.scasp_cert.specs.View.{branch_of, covers_of, tree_of, trees_of};
 ghost use Rattle.scasp_dues.specs.DueView.{due_value};
 ghost use Rattle.scasp_lines.specs.Contexts.{context as context_of};
 ghost use Rattle.scasp_places.specs.View.{body_of, place_of};
 ghost use Rattle.scasp_syntax.specs.Programs.{numbered};
-ghost use Rattle.scasp_acceptance.specs.LineFaults.{case_faults, check_faults, items_of, line_faults, node_faults};
+ghost use Rattle.scasp_acceptance.specs.LineFaults.{case_faults, check_faults, line_faults, node_faults};
 ghost use Rattle.scasp_acceptance.specs.Refusals.{of_some};
 ghost use Rattle.scasp_faults.specs.Judged.{Judges};
 ghost use Rattle.scasp_line_faults.specs.Whole.{whole};
@@ -15,6 +15,7 @@ ghost use Rattle.scasp_traversal.specs.View.{line_of};
 ghost use Rattle.scasp_walk.specs.Checked.{AreBelow};
 ghost use Rattle.scasp_walk.specs.Rules.{HasRules};
 
+use crate::counts::item_count;
 use crate::rules::{Rules, names_its_rules};
 use crate::tabled::Tabled;
 use scasp_acceptance::Reason;
@@ -22,25 +23,14 @@ use scasp_cert::{Case, Covers, Node, Nodes};
 use scasp_dues::Due;
 use scasp_faults::{CheckErr, has_count_of, want};
 use scasp_line_faults::{Common, accept_head, accept_leaf, accept_split};
-use scasp_list::Memory;
 use scasp_node_faults::{
     accept_literal, accept_loop, accept_positive, accept_test, accept_void, asks_negated,
 };
 use scasp_places::{Body, Place};
-use scasp_syntax::{Atom, Con, Program, Terms, flat};
+use scasp_syntax::{Atom, Con, Program, Terms};
 use scasp_table_faults::accept_seen;
 use scasp_traversal::{Line, Part};
 use std::alloc::Global;
-
-/// How many items the rule of this number has; none where there is no such rule.
-fn item_count(alloc: Global, program: &Program, rule: u64) -> Result<u64, Memory>
-    ensures { IfOk result (λ count. count ≡ length (items_of (numbered program.now.clauses rule))) }
-{
-    match program.clause(rule) {
-        None => Ok(0),
-        Some(clause) => Ok(flat(alloc, clause)?.len() as u64),
-    }
-}
 
 /// Tests a line of a positive literal.
 fn accept_rule(
