@@ -14,3 +14,4 @@ pub mod GivenItems
 pub mod GivenBodies
 pub mod GivenClauses
 pub mod GivenTexts
+pub mod Programs

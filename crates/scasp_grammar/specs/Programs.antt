@@ -1,6 +1,7 @@
 -- What the trees of clauses and of whole programs mean, and when a text is in the grammar.
 use Rattle.std.specs.Prelude.{◌≡◌, ℕ, ◌≤◌, nat_lt, List, [], ◌∷◌, ◌++◌, length, codes, if◌then◌else◌, Option, None, Some}
 use Rattle.std.specs.Str.{bytes_eq}
+use Rattle.scasp_syntax.specs.Denials.{with_denials}
 use Rattle.scasp_syntax.specs.declared.atom.Atom.{Atom as Predication}
 use Rattle.scasp_syntax.specs.declared.clause.Item.{Item as Condition}
 use Rattle.scasp_lexis.specs.declared.token.Token.TheVariants as token
@@ -65,3 +66,7 @@ meaning names clauses = program_of (clauses_meaning no_parts clauses (record { n
 -- The text is in the grammar, and this is its program: its tokens are those of trees that mean it.
 abbrev pub IsText : List (List ℕ) → List ℕ → Reading → Type 0
 IsText names bytes r = (length bytes ≤ BYTE_LIMIT) × ((clauses : List Clause) × (tokens_in bytes ≡ program_tokens clauses ++ token.End ∷ []) × (meaning names clauses ≡ Some r))
+
+-- The text is in the grammar, and this is its program with the generated denials.
+abbrev pub IsProgram : List (List ℕ) → List ℕ → Reading → Type 0
+IsProgram names bytes r = (q : Reading) × IsText names bytes q × (r ≡ record q { clauses = with_denials q.clauses q.queries })
