@@ -1,7 +1,7 @@
 -- Bodies that are read.
 use Rattle.std.proofs.Common.{◌≡◌, ℕ, zero, suc, false, nat_lt, List, [], ◌∷◌, ◌++◌, drop, length, Some, refl, sym, ap, subst, ◌∙◌, append_assoc}
 use Rattle.scasp_syntax.specs.Flat.{flat_body}
-use Rattle.scasp_syntax.specs.declared.clause.Item.{Item as Condition}
+use Rattle.scasp_syntax.specs.declared.clause.Item.{Item as MeantItem}
 use Rattle.scasp_lexis.specs.declared.sign.Sign.TheVariants as sign
 use Rattle.scasp_lexis.specs.declared.token.Token.TheVariants as token
 use Rattle.scasp_phrase.specs.declared.fault.Count.TheVariants as count
@@ -17,20 +17,20 @@ use Rattle.scasp_grammar.proofs.Steps.{known, then-some, Post, Post_give, Post_e
 use Rattle.scasp_grammar.proofs.Terms.{with-next}
 use Rattle.scasp_grammar.proofs.Items.{item_holds}
 
-record IsOne (before : List Condition) (s : State) (i : Condition) (t : State) : Type 0 where
+record IsOne (before : List MeantItem) (s : State) (i : MeantItem) (t : State) : Type 0 where
   spelled : Spelled item_tokens item_meaning s i t
   few : nat_lt ITEM_LIMIT (length (flat_body (before ++ i ∷ []))) ≡ false
 
 -- items behind these
-record AreItems (before : List Condition) (s : State) (all : List Condition) (t : State) : Type 0 where
+record AreItems (before : List MeantItem) (s : State) (all : List MeantItem) (t : State) : Type 0 where
   tree : Body
-  more : List Condition
+  more : List MeantItem
   is : all ≡ before ++ more
   tokens : bare s.tokens ≡ body_tokens tree ++ bare t.tokens
   value : items_meaning tree (known s) ≡ Some (more, known t)
   few : nat_lt ITEM_LIMIT (length (flat_body all)) ≡ false
 
-counted_item_holds : (before : List Condition) (s : State) → Post (IsOne before s) s (counted_item before s)
+counted_item_holds : (before : List MeantItem) (s : State) → Post (IsOne before s) s (counted_item before s)
 counted_item_holds before s =
     Post_then (Spelled item_tokens item_meaning s) (IsOne before s) s _ _ (item_holds s)
     (λ i t f h. Post_note (IsOne before s) t (nat_lt ITEM_LIMIT (length (flat_body (before ++ i ∷ [])))) (place_of s.tokens) (kind.Limit count.Items) _
@@ -39,7 +39,7 @@ counted_item_holds before s =
     let (is, few) = same fine in
     record { spelled = subst (λ u. Spelled item_tokens item_meaning s i u) is (h (g fine)); few = few })))
 
-series_holds : (n : ℕ) (before : List Condition) (s : State) → Post (AreItems before s) s (series counted_item n before s)
+series_holds : (n : ℕ) (before : List MeantItem) (s : State) → Post (AreItems before s) s (series counted_item n before s)
 series_holds zero before s = Post_err (AreItems before s) s _
 series_holds (suc n) before s =
     Post_then (IsOne before s) (AreItems before s) s _ _ (counted_item_holds before s)
@@ -48,7 +48,7 @@ series_holds (suc n) before s =
     (λ all u g fine a. next x t all u (i (g fine)) comma a))
     (Post_give (AreItems before s) t (before ++ x ∷ []) (λ fine. last x t (i fine))))
   where
-    next : (x : Condition) (t : State) (all : List Condition) (u : State) → IsOne before s x t → bare t.tokens ≡ token.Sign sign.Comma ∷ bare (drop 1 t.tokens)
+    next : (x : MeantItem) (t : State) (all : List MeantItem) (u : State) → IsOne before s x t → bare t.tokens ≡ token.Sign sign.Comma ∷ bare (drop 1 t.tokens)
         → AreItems (before ++ x ∷ []) (behind t) all u → AreItems before s all u
     next x t all u i comma a = record {
       tree = more_items i.spelled.tree a.tree;
@@ -59,7 +59,7 @@ series_holds (suc n) before s =
       few = a.few;
     }
 
-    last : (x : Condition) (t : State) → IsOne before s x t → AreItems before s (before ++ x ∷ []) t
+    last : (x : MeantItem) (t : State) → IsOne before s x t → AreItems before s (before ++ x ∷ []) t
     last x t i = record {
       tree = one_item i.spelled.tree;
       more = x ∷ [];
@@ -69,7 +69,7 @@ series_holds (suc n) before s =
       few = i.few;
     }
 
-limited : (xs : List Condition) (k : Known) → nat_lt ITEM_LIMIT (length (flat_body xs)) ≡ false → limited_items xs k ≡ Some (xs, k)
+limited : (xs : List MeantItem) (k : Known) → nat_lt ITEM_LIMIT (length (flat_body xs)) ≡ false → limited_items xs k ≡ Some (xs, k)
 limited xs k few = rw few refl
 
 pub body_holds : (s : State) → Post (Spelled body_tokens body_meaning s) s (body s)

@@ -2,8 +2,8 @@
 use Rattle.std.proofs.Common.{◌≡◌, ℕ, Bool, true, false, if◌then◌else◌, List, [], ◌∷◌, ◌++◌, drop, length, codes, Option, None, Some, refl, sym, ap, ◌∙◌, append_assoc, append-nil}
 use Rattle.std.specs.Str.{bytes_eq}
 use Rattle.scasp_name.specs.Texts.{with_text}
-use Rattle.scasp_syntax.specs.declared.atom.Atom.{Atom as Predication}
-use Rattle.scasp_syntax.specs.declared.clause.Item.{Item as Condition}
+use Rattle.scasp_syntax.specs.declared.atom.Atom.{Atom as MeantAtom}
+use Rattle.scasp_syntax.specs.declared.clause.Item.{Item as MeantItem}
 use Rattle.scasp_lexis.specs.declared.sign.Sign.{Sign}
 use Rattle.scasp_lexis.specs.declared.sign.Sign.TheVariants as sign
 use Rattle.scasp_lexis.specs.declared.token.Token.{Token}
@@ -29,7 +29,7 @@ pub record IsClause (s : State) (q : Part) (t : State) : Type 0 where
   pub spelled : Spelled clause_tokens clause_meaning s q t
   pub goes_on : is_end q ≡ false
 
-abbrev IsBody : State → List Condition → State → Type 0
+abbrev IsBody : State → List MeantItem → State → Type 0
 IsBody s xs t = Spelled body_tokens body_meaning s xs t
 
 -- ---- names of a query's variables
@@ -80,14 +80,14 @@ module _ (s : State) where
   abbrev now : State
   now = without_variables s
 
-  ended_holds : (head : Option Predication) (xs : List Condition) (t : State)
+  ended_holds : (head : Option MeantAtom) (xs : List MeantItem) (t : State)
       → (t.fault ≡ None → bare t.tokens ≡ token.Sign sign.Stop ∷ bare (drop 1 t.tokens) → Spelled clause_tokens clause_meaning s (part.Clause (record { head = head; body = xs; vars = length t.variables })) (behind t))
       → Post (IsClause s) t (ended head xs t)
   ended_holds head xs t h =
       Post_expect (IsClause s) t sign.Stop _
       (λ stop. Post_give (IsClause s) (behind t) (part.Clause (record { head = head; body = xs; vars = length t.variables })) (λ fine. record { spelled = h fine stop; goes_on = refl }))
 
-  fact-spelled : (a : Predication) (t : State) → Spelled atom_tokens atom_meaning now a t → bare t.tokens ≡ token.Sign sign.Stop ∷ bare (drop 1 t.tokens)
+  fact-spelled : (a : MeantAtom) (t : State) → Spelled atom_tokens atom_meaning now a t → bare t.tokens ≡ token.Sign sign.Stop ∷ bare (drop 1 t.tokens)
       → Spelled clause_tokens clause_meaning s (part.Clause (record { head = Some a; body = []; vars = length t.variables })) (behind t)
   fact-spelled a t p stop = record {
     tree = a_fact p.tree;
@@ -95,7 +95,7 @@ module _ (s : State) where
     value = then-some _ _ _ _ _ p.value refl;
   }
 
-  rule-spelled : (a : Predication) (t : State) (xs : List Condition) (u : State) → Spelled atom_tokens atom_meaning now a t → bare t.tokens ≡ token.Sign sign.If ∷ bare (drop 1 t.tokens) → IsBody (behind t) xs u
+  rule-spelled : (a : MeantAtom) (t : State) (xs : List MeantItem) (u : State) → Spelled atom_tokens atom_meaning now a t → bare t.tokens ≡ token.Sign sign.If ∷ bare (drop 1 t.tokens) → IsBody (behind t) xs u
       → bare u.tokens ≡ token.Sign sign.Stop ∷ bare (drop 1 u.tokens) → Spelled clause_tokens clause_meaning s (part.Clause (record { head = Some a; body = xs; vars = length u.variables })) (behind u)
   rule-spelled a t xs u p next q stop = record {
     tree = a_rule p.tree q.tree;
@@ -103,7 +103,7 @@ module _ (s : State) where
     value = then-some _ _ _ _ _ p.value (then-some _ _ _ _ _ q.value refl);
   }
 
-  denial-spelled : (xs : List Condition) (u : State) → bare s.tokens ≡ token.Sign sign.If ∷ bare (drop 1 s.tokens) → IsBody (behind now) xs u → bare u.tokens ≡ token.Sign sign.Stop ∷ bare (drop 1 u.tokens)
+  denial-spelled : (xs : List MeantItem) (u : State) → bare s.tokens ≡ token.Sign sign.If ∷ bare (drop 1 s.tokens) → IsBody (behind now) xs u → bare u.tokens ≡ token.Sign sign.Stop ∷ bare (drop 1 u.tokens)
       → Spelled clause_tokens clause_meaning s (part.Clause (record { head = None; body = xs; vars = length u.variables })) (behind u)
   denial-spelled xs u next q stop = record {
     tree = a_denial q.tree;
@@ -111,7 +111,7 @@ module _ (s : State) where
     value = then-some _ _ _ _ _ q.value refl;
   }
 
-  query-spelled : (xs : List Condition) (u : State) (names : List (Option ℕ)) (v : State) → bare s.tokens ≡ token.Sign sign.Query ∷ bare (drop 1 s.tokens) → IsBody (behind now) xs u
+  query-spelled : (xs : List MeantItem) (u : State) (names : List (Option ℕ)) (v : State) → bare s.tokens ≡ token.Sign sign.Query ∷ bare (drop 1 s.tokens) → IsBody (behind now) xs u
       → bare u.tokens ≡ token.Sign sign.Stop ∷ bare (drop 1 u.tokens) → AreNames [] u.variables (behind u) names v → Spelled clause_tokens clause_meaning s (part.Query (record { body = xs; names = names })) v
   query-spelled xs u names v next q stop a = record {
     tree = a_query q.tree;

@@ -4,7 +4,7 @@ use Rattle.std.proofs.lemmas.Bool.Decides.{nat_tests}
 use Rattle.scasp_syntax.specs.Flat.{number_test, unseen, flat_after, flat_body}
 use Rattle.scasp_syntax.specs.declared.clause.FlatItem.TheVariants as flat
 use Rattle.scasp_syntax.specs.declared.con.Con.TheVariants as con
-use Rattle.scasp_syntax.specs.declared.clause.Item.{Item as Condition}
+use Rattle.scasp_syntax.specs.declared.clause.Item.{Item as MeantItem}
 use Rattle.scasp_syntax.specs.declared.clause.Item.TheVariants.{Call, Equal, Differ, Linear}
 use Rattle.scasp_lexis.specs.declared.sign.Sign.TheVariants as sign
 use Rattle.scasp_lexis.specs.declared.token.Token.{Token}
@@ -51,7 +51,7 @@ items-within (one_item i) = let some = some-item i in omega (arith, some)
 items-within (more_items i b) = let some = some-item i in let rest = items-within b in omega (arith, some, rest, length-append (item_tokens i) (token.Sign sign.Comma ∷ body_tokens b))
 
 -- more items have no fewer flat items
-flat-longer : (seen : List ℕ) (xs ys : List Condition) → length (flat_after seen xs) ≤ length (flat_after seen (xs ++ ys))
+flat-longer : (seen : List ℕ) (xs ys : List MeantItem) → length (flat_after seen xs) ≤ length (flat_after seen (xs ++ ys))
 flat-longer seen [] ys = omega arith
 flat-longer seen (Call l ∷ xs) ys = let h = flat-longer seen xs ys in omega (arith, h)
 flat-longer seen (Equal t u ∷ xs) ys = let h = flat-longer seen xs ys in omega (arith, h)
@@ -62,7 +62,7 @@ flat-longer seen (Linear l ∷ xs) ys =
     let row = flat.Test (con.Row l.row) in
     omega (arith, h, length-append tests (row ∷ flat_after (seen ++ l.vars) xs), length-append tests (row ∷ flat_after (seen ++ l.vars) (xs ++ ys)))
 
-few-before : (xs ys all : List Condition) → xs ++ ys ≡ all → nat_lt ITEM_LIMIT (length (flat_body all)) ≡ false → nat_lt ITEM_LIMIT (length (flat_body xs)) ≡ false
+few-before : (xs ys all : List MeantItem) → xs ++ ys ≡ all → nat_lt ITEM_LIMIT (length (flat_body all)) ≡ false → nat_lt ITEM_LIMIT (length (flat_body xs)) ≡ false
 few-before xs ys all e few =
     let longer = flat-longer [] xs ys in
     let same_length : length (flat_body (xs ++ ys)) ≡ length (flat_body all) = ap (λ all. length (flat_body all)) e in
@@ -70,17 +70,17 @@ few-before xs ys all e few =
 
 -- ---- items, one behind the other
 
-counted-given : (before : List Condition) (i : Item) (s : State) (rest : List Token) (x : Condition) (k : Known) → At (item_tokens i ++ rest) s → EndsItem rest → item_meaning i (known s) ≡ Some (x, k)
+counted-given : (before : List MeantItem) (i : Item) (s : State) (rest : List Token) (x : MeantItem) (k : Known) → At (item_tokens i ++ rest) s → EndsItem rest → item_meaning i (known s) ≡ Some (x, k)
     → nat_lt ITEM_LIMIT (length (flat_body (before ++ x ∷ []))) ≡ false → Gives x rest k (counted_item before s)
 counted-given before i s rest x k h ends e few =
     Gives_then x x rest rest k k (item s) (λ i. note_if (nat_lt ITEM_LIMIT (length (flat_body (before ++ i ∷ [])))) (place_of s.tokens) (kind.Limit count.Items) >>= (λ n. give i)) (item-given s rest ends x k i h e)
     (λ t there knows. Gives_by x rest k _ _ (ap (λ b. (note_if b (place_of s.tokens) (kind.Limit count.Items) >>= (λ n. give x)) t) few)
     (record { state = t; is = refl; there = there; knows = knows }))
 
-abbrev then_more : ℕ → List Condition → Condition → Read (List Condition)
+abbrev then_more : ℕ → List MeantItem → MeantItem → Read (List MeantItem)
 then_more n before x = taken sign.Comma >>= (λ comma. if comma then series counted_item n (before ++ x ∷ []) else give (before ++ x ∷ []))
 
-items-given : (b : Body) (n : ℕ) (before : List Condition) (s : State) (rest : List Token) (xs : List Condition) (l : Known) → At (body_tokens b ++ rest) s → EndsBody rest → items_count b ≤ n
+items-given : (b : Body) (n : ℕ) (before : List MeantItem) (s : State) (rest : List Token) (xs : List MeantItem) (l : Known) → At (body_tokens b ++ rest) s → EndsBody rest → items_count b ≤ n
     → nat_lt ITEM_LIMIT (length (flat_body (before ++ xs))) ≡ false → items_meaning b (known s) ≡ Some (xs, l) → Gives (before ++ xs) rest l (series counted_item n before s)
 items-given (one_item i) zero before s rest xs l h ends le few e = absurd (omega (arith, le))
 items-given (more_items i b) zero before s rest xs l h ends le few e = absurd (omega (arith, le))
@@ -110,7 +110,7 @@ items-given (more_items i b) (suc n) before s rest xs l h ends le few e =
     (ap (λ k. items_meaning b k) knows ∙ more.first)))))
     more.rest
 
-pub body-given : (b : Body) (s : State) (rest : List Token) (xs : List Condition) (l : Known) → At (body_tokens b ++ rest) s → EndsBody rest → body_meaning b (known s) ≡ Some (xs, l) → Gives xs rest l (body s)
+pub body-given : (b : Body) (s : State) (rest : List Token) (xs : List MeantItem) (l : Known) → At (body_tokens b ++ rest) s → EndsBody rest → body_meaning b (known s) ≡ Some (xs, l) → Gives xs rest l (body s)
 body-given b s rest xs l h ends e =
     let m = made (items_meaning b (known s)) (λ xs. limited_items xs) xs l e in
     let (few, is) = not-nothing (nat_lt ITEM_LIMIT (length (flat_body m.value))) (λ k. Some (m.value, k)) m.between xs l m.rest in

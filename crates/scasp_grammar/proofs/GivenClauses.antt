@@ -2,8 +2,8 @@
 use Rattle.std.proofs.Common.{◌≡◌, ℕ, Bool, true, false, if◌then◌else◌, List, [], ◌∷◌, ◌++◌, length, codes, Option, None, Some, Ok, refl, sym, ap, subst, ◌∙◌, append_assoc, append-nil}
 use Rattle.std.specs.Str.{bytes_eq}
 use Rattle.scasp_name.specs.Texts.{with_text}
-use Rattle.scasp_syntax.specs.declared.atom.Atom.{Atom as Predication}
-use Rattle.scasp_syntax.specs.declared.clause.Item.{Item as Condition}
+use Rattle.scasp_syntax.specs.declared.atom.Atom.{Atom as MeantAtom}
+use Rattle.scasp_syntax.specs.declared.clause.Item.{Item as MeantItem}
 use Rattle.scasp_lexis.specs.declared.sign.Sign.TheVariants as sign
 use Rattle.scasp_lexis.specs.declared.token.Token.{Token}
 use Rattle.scasp_lexis.specs.declared.token.Token.TheVariants as token
@@ -55,12 +55,12 @@ named-given (text ∷ texts) before s rest ns l h e =
 
 -- ---- clauses
 
-ended-given : (head : Option Predication) (xs : List Condition) (s : State) (rest : List Token) (q : Part) (l : Known) → At (token.Sign sign.Stop ∷ rest) s → clause_of head xs (known s) ≡ Some (q, l) → Gives q rest l (ended head xs s)
+ended-given : (head : Option MeantAtom) (xs : List MeantItem) (s : State) (rest : List Token) (q : Part) (l : Known) → At (token.Sign sign.Stop ∷ rest) s → clause_of head xs (known s) ≡ Some (q, l) → Gives q rest l (ended head xs s)
 ended-given head xs s rest q l h e =
     Gives_expect q rest l s sign.Stop rest (λ dot. get (λ s. length s.variables) >>= (λ n. give (part.Clause (record { head = head; body = xs; vars = n })))) h refl
     (λ there. Gives_ok same (part.Clause (record { head = head; body = xs; vars = length s.variables })) q rest (behind s) l there e)
 
-with_body-given : (head : Option Predication) (b : Body) (s : State) (rest : List Token) (q : Part) (l : Known) → At (body_tokens b ++ token.Sign sign.Stop ∷ rest) s
+with_body-given : (head : Option MeantAtom) (b : Body) (s : State) (rest : List Token) (q : Part) (l : Known) → At (body_tokens b ++ token.Sign sign.Stop ∷ rest) s
     → then_make (body_meaning b (known s)) (λ xs. clause_of head xs) ≡ Some (q, l) → Gives q rest l (with_body head s)
 with_body-given head b s rest q l h e =
     Gives_bind same q q (token.Sign sign.Stop ∷ rest) rest l (body s) (λ xs. ended head xs) (body_meaning b (known s)) (λ xs. clause_of head xs) e

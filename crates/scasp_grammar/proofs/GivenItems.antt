@@ -5,8 +5,8 @@ use Rattle.scasp_num.specs.Number.{Number}
 use Rattle.scasp_num.specs.Linear.{Linear}
 use Rattle.scasp_num.specs.declared.linear.Op.{Op}
 use Rattle.scasp_syntax.specs.Tm.{Tm, app, items, listed}
-use Rattle.scasp_syntax.specs.declared.atom.Atom.{Atom as Predication}
-use Rattle.scasp_syntax.specs.declared.clause.Item.{Item as Condition}
+use Rattle.scasp_syntax.specs.declared.atom.Atom.{Atom as MeantAtom}
+use Rattle.scasp_syntax.specs.declared.clause.Item.{Item as MeantItem}
 use Rattle.scasp_lexis.specs.declared.sign.Sign.TheVariants as sign
 use Rattle.scasp_lexis.specs.declared.token.Token.{Token}
 use Rattle.scasp_lexis.specs.declared.token.Token.TheVariants as token
@@ -25,7 +25,7 @@ use Rattle.scasp_grammar.specs.Trees.{Term, a_variable, a_number, a_fraction, a_
 use Rattle.scasp_grammar.specs.Spelling.{minus_if, term_tokens, arguments_tokens, expression_tokens, products_tokens, factors_tokens, atom_tokens, item_tokens}
 use Rattle.scasp_grammar.specs.Terms.{term_meaning, arguments_meaning}
 use Rattle.scasp_grammar.specs.Expressions.{Worth, expression_meaning}
-use Rattle.scasp_grammar.specs.Bodies.{predication, atom_meaning, call_meaning, equation_meaning, linear_item, comparison_meaning, item_meaning}
+use Rattle.scasp_grammar.specs.Bodies.{allowed_atom, atom_meaning, call_meaning, equation_meaning, linear_item, comparison_meaning, item_meaning}
 use Rattle.scasp_grammar.specs.Bodies as meant
 use Rattle.scasp_grammar.proofs.Steps.{known}
 use Rattle.scasp_grammar.proofs.Leaves.{append-minus}
@@ -45,7 +45,7 @@ pub record EndsItem (rest : List Token) : Type 0 where
 
 -- ---- atoms
 
-checked-given : (at : ℕ) (is_negated : Bool) (text : List ℕ) (f : ℕ) (ts : List Tm) (s : State) (rest : List Token) (x : Predication) (l : Known) → At rest s → predication is_negated text f ts (known s) ≡ Some (x, l)
+checked-given : (at : ℕ) (is_negated : Bool) (text : List ℕ) (f : ℕ) (ts : List Tm) (s : State) (rest : List Token) (x : MeantAtom) (l : Known) → At rest s → allowed_atom is_negated text f ts (known s) ≡ Some (x, l)
     → Gives x rest l (checked_atom at is_negated text f (listed ts) s)
 checked-given at is_negated text f ts s rest x l h e =
     let (past, rest_meant) = not-nothing (is_reserved reserved text (length (items (listed ts)))) (λ k. Some (atom_of is_negated f (listed ts), k)) (known s) x l e in
@@ -56,17 +56,17 @@ behind-given : (args : Arguments) (text : List ℕ) (s : State) (rest : List Tok
     → arguments_meaning DEPTH_LIMIT args (known (behind_name text s)) ≡ Some (ts, k) → Gives ts rest k (arguments (below term DEPTH_LIMIT) (behind_name text s))
 behind-given args text s rest ts k h ends e = arguments-given args DEPTH_LIMIT (behind_name text s) rest ts k (record { tokens = (At_behind _ _ s h).tokens; fault = h.fault }) ends e
 
-named-given : (at : ℕ) (is_negated : Bool) (text : List ℕ) (args : Arguments) (s : State) (rest : List Token) (x : Predication) (l : Known) → At (token.Name text ∷ (arguments_tokens args ++ rest)) s → is_sign sign.Open (first rest) ≡ false
+named-given : (at : ℕ) (is_negated : Bool) (text : List ℕ) (args : Arguments) (s : State) (rest : List Token) (x : MeantAtom) (l : Known) → At (token.Name text ∷ (arguments_tokens args ++ rest)) s → is_sign sign.Open (first rest) ≡ false
     → atom_meaning (record { is_negated = is_negated; name = text; arguments = args }) (known s) ≡ Some (x, l) → Gives x rest l (atom_behind at is_negated (token_of s.tokens) s)
 named-given at is_negated text args s rest x l h ends e =
     let u = behind_name text s in
     Gives_by x rest l _ _ (ap (λ o. atom_behind at is_negated o s) (next-is _ s h))
     (Gives_bind same x x rest rest l (arguments (below term DEPTH_LIMIT) u) (λ ts. checked_atom at is_negated text (place_in s.names text) (listed ts)) (arguments_meaning DEPTH_LIMIT args (known u))
-    (λ ts. predication is_negated text (place_in s.names text) ts) e
+    (λ ts. allowed_atom is_negated text (place_in s.names text) ts) e
     (λ ts k i. behind-given args text s rest ts k h ends i)
     (λ ts t there i. checked-given at is_negated text (place_in s.names text) ts t rest x l there i))
 
-pub atom-given : (a : Atom) (s : State) (rest : List Token) (x : Predication) (l : Known) → At (atom_tokens a ++ rest) s → is_sign sign.Open (first rest) ≡ false → atom_meaning a (known s) ≡ Some (x, l) → Gives x rest l (atom s)
+pub atom-given : (a : Atom) (s : State) (rest : List Token) (x : MeantAtom) (l : Known) → At (atom_tokens a ++ rest) s → is_sign sign.Open (first rest) ≡ false → atom_meaning a (known s) ≡ Some (x, l) → Gives x rest l (atom s)
 atom-given a s rest x l h ends e =
     by a.is_negated e (At_so _ (minus_if a.is_negated ++ token.Name a.name ∷ (arguments_tokens a.arguments ++ rest)) s h (sym (append-minus a.is_negated (token.Name a.name) (arguments_tokens a.arguments) rest)))
   where
@@ -80,7 +80,7 @@ atom-given a s rest x l h ends e =
         (named-given (place_of s.tokens) false a.name a.arguments s rest x l h ends e)
 
 -- an atom as a literal
-literal-given : (at : ℕ) (positive : Bool) (a : Atom) (s : State) (rest : List Token) (x : Condition) (l : Known) → At (atom_tokens a ++ rest) s → EndsItem rest → call_meaning positive a (known s) ≡ Some (x, l)
+literal-given : (at : ℕ) (positive : Bool) (a : Atom) (s : State) (rest : List Token) (x : MeantItem) (l : Known) → At (atom_tokens a ++ rest) s → EndsItem rest → call_meaning positive a (known s) ≡ Some (x, l)
     → Gives x rest l (literal at positive s)
 literal-given at positive a s rest x l h ends e =
     Gives_bind same x x rest rest l (atom s) (λ a. get (λ s. is_some (relation (token_of s.tokens))) >>= (λ r. if positive && r then stop_at at kind.NotLinear else give (call_of positive a))) (atom_meaning a (known s)) _ e
@@ -104,13 +104,13 @@ sign-is : (are_equal : Bool) → equation_sign (Some (token.Sign (equal_sign are
 sign-is true = refl
 sign-is false = refl
 
-module _ (are_equal : Bool) (r : Term) (rest : List Token) (ends : EndsItem rest) (x : Condition) (l : Known) where
+module _ (are_equal : Bool) (r : Term) (rest : List Token) (ends : EndsItem rest) (x : MeantItem) (l : Known) where
   -- the sign, and the other side
   abbrev other_side : List Token
   other_side = token.Sign (equal_sign are_equal) ∷ (term_tokens r ++ rest)
 
   -- what the other side means, behind one side
-  abbrev completed : Tm → Make Condition
+  abbrev completed : Tm → Make MeantItem
   completed y k = then_make (term_meaning DEPTH_LIMIT r k) (λ z k. Some (equation_of are_equal y z, k))
 
   equation_behind-given : (y : Tm) (s : State) → At other_side s → completed y (known s) ≡ Some (x, l) → Gives x rest l (equation_behind y are_equal s)
@@ -141,7 +141,7 @@ module _ (are_equal : Bool) (r : Term) (rest : List Token) (ends : EndsItem rest
 
 -- ---- calls that begin with a name
 
-named_call-given : (at : ℕ) (text : List ℕ) (args : Arguments) (s : State) (rest : List Token) (x : Condition) (l : Known) → At (token.Name text ∷ (arguments_tokens args ++ rest)) s → EndsItem rest
+named_call-given : (at : ℕ) (text : List ℕ) (args : Arguments) (s : State) (rest : List Token) (x : MeantItem) (l : Known) → At (token.Name text ∷ (arguments_tokens args ++ rest)) s → EndsItem rest
     → call_meaning true (record { is_negated = false; name = text; arguments = args }) (known s) ≡ Some (x, l) → Gives x rest l (named_item at text s)
 named_call-given at text args s rest x l h ends e =
     let u = behind_name text s in
@@ -149,7 +149,7 @@ named_call-given at text args s rest x l h ends e =
     let m = made (atom_meaning (record { is_negated = false; name = text; arguments = args }) (known s)) (λ a k. Some (call_of true a, k)) x l e in
     Gives_so same (call_of true m.value) x rest m.between l _
     (Gives_bind same (call_of true m.value) m.value rest rest m.between (arguments (below term DEPTH_LIMIT) u) (λ ts. λ t. name_behind at text f (listed ts) (equation_sign (token_of t.tokens)) t)
-    (arguments_meaning DEPTH_LIMIT args (known u)) (λ ts. predication false text f ts) m.first
+    (arguments_meaning DEPTH_LIMIT args (known u)) (λ ts. allowed_atom false text f ts) m.first
     (λ ts k i. behind-given args text s rest ts k h ends.term.not_open i)
     (λ ts t there i. Gives_by (call_of true m.value) rest m.between _ _
     (ap (λ o. name_behind at text f (listed ts) o t) (ap equation_sign (next-is rest t there) ∙ ends.no_equation)
@@ -167,7 +167,7 @@ row-given o true at w v row s e =
 row-given o false at w v row s e =
     ap (λ z. then_read (then_read (note_if (is_none z) at kind.NumberTooLarge s) (λ n. give z)) (λ row. give (linear_of (united w.variables v.variables) row))) e
 
-comparison-given : (left : Expression) (o : Op) (is_turned : Bool) (r : Expression) (s : State) (rest : List Token) (x : Condition) (l : Known)
+comparison-given : (left : Expression) (o : Op) (is_turned : Bool) (r : Expression) (s : State) (rest : List Token) (x : MeantItem) (l : Known)
     → At (expression_tokens left ++ token.Sign (sign.Relation o is_turned) ∷ (expression_tokens r ++ rest)) s → EndsItem rest → comparison_meaning left o is_turned r (known s) ≡ Some (x, l) → Gives x rest l (comparison s)
 comparison-given left o is_turned r s rest x l h ends e =
     let after = token.Sign (sign.Relation o is_turned) ∷ (expression_tokens r ++ rest) in
@@ -283,7 +283,7 @@ module _ (o : Op) (is_turned : Bool) (more : List Token) where
 
 -- ---- items
 
-module _ (s : State) (rest : List Token) (ends : EndsItem rest) (x : Condition) (l : Known) where
+module _ (s : State) (rest : List Token) (ends : EndsItem rest) (x : MeantItem) (l : Known) where
   abbrev at : ℕ
   at = place_of s.tokens
 

@@ -18,8 +18,8 @@ use Rattle.scasp_text.specs.declared.texts.Reading.{Reading}
 use Rattle.scasp_text.specs.declared.texts.TheConstants.{BYTE_LIMIT, CLAUSE_LIMIT}
 use Rattle.scasp_text.specs.Clauses.{clause}
 use Rattle.scasp_text.specs.Texts.{limited_clause, part_at, next_part, no_parts, part_count, with_part, is_end, parts_within, settled, told, reading_of, read}
-use Rattle.scasp_syntax.specs.declared.atom.Atom.{Atom as Predication}
-use Rattle.scasp_syntax.specs.declared.clause.Item.{Item as Condition}
+use Rattle.scasp_syntax.specs.declared.atom.Atom.{Atom as MeantAtom}
+use Rattle.scasp_syntax.specs.declared.clause.Item.{Item as MeantItem}
 use Rattle.scasp_grammar.specs.Known.{Known, means, then_make}
 use Rattle.scasp_grammar.specs.Trees.{Clause, a_fact, a_rule, a_denial, a_query, a_directive}
 use Rattle.scasp_grammar.specs.Spelling.{minus_if, arguments_tokens, atom_tokens, body_tokens, clause_tokens, program_tokens}
@@ -58,12 +58,12 @@ record IsCounted (q : Part) : Type 0 where
   goes_on : is_end q ≡ false
   grows : grown q ≡ 1
 
-clause-counted : (head : Option Predication) (xs : List Condition) (k : Known) (q : Part) (l : Known) → clause_of head xs k ≡ Some (q, l) → IsCounted q
+clause-counted : (head : Option MeantAtom) (xs : List MeantItem) (k : Known) (q : Part) (l : Known) → clause_of head xs k ≡ Some (q, l) → IsCounted q
 clause-counted head xs k q l e =
     let is : part.Clause (record { head = head; body = xs; vars = length k.variables }) ≡ q = value-is _ q k l e in
     record { goes_on = ap is_end (sym is); grows = ap grown (sym is) }
 
-query-counted : (xs : List Condition) (k : Known) (q : Part) (l : Known) → query_of xs k ≡ Some (q, l) → IsCounted q
+query-counted : (xs : List MeantItem) (k : Known) (q : Part) (l : Known) → query_of xs k ≡ Some (q, l) → IsCounted q
 query-counted xs k q l e =
     let m = made (names_of k.variables k) (λ names k. Some (part.Query (record { body = xs; names = names }), k)) q l e in
     let is : part.Query (record { body = xs; names = m.value }) ≡ q = value-is _ q m.between l m.rest in

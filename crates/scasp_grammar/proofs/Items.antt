@@ -3,8 +3,8 @@ use Rattle.std.proofs.Common.{◌≡◌, ℕ, Bool, true, false, ◌&&◌, if◌
 use Rattle.scasp_num.specs.declared.linear.Op.{Op}
 use Rattle.scasp_num.specs.Linear.{Linear}
 use Rattle.scasp_syntax.specs.Tm.{Tm, app, items, listed}
-use Rattle.scasp_syntax.specs.declared.atom.Atom.{Atom as Predication}
-use Rattle.scasp_syntax.specs.declared.clause.Item.{Item as Condition}
+use Rattle.scasp_syntax.specs.declared.atom.Atom.{Atom as MeantAtom}
+use Rattle.scasp_syntax.specs.declared.clause.Item.{Item as MeantItem}
 use Rattle.scasp_lexis.specs.declared.sign.Sign.{Sign}
 use Rattle.scasp_lexis.specs.declared.sign.Sign.TheVariants as sign
 use Rattle.scasp_lexis.specs.declared.token.Token.{Token}
@@ -25,7 +25,7 @@ use Rattle.scasp_grammar.specs.Trees.{a_call, a_negative_call, an_equation, a_di
 use Rattle.scasp_grammar.specs.Spelling.{bare, minus_if, term_tokens, arguments_tokens, expression_tokens, atom_tokens, item_tokens}
 use Rattle.scasp_grammar.specs.Terms.{term_meaning, arguments_meaning}
 use Rattle.scasp_grammar.specs.Expressions.{Worth, expression_meaning}
-use Rattle.scasp_grammar.specs.Bodies.{predication, atom_meaning, item_meaning, linear_item}
+use Rattle.scasp_grammar.specs.Bodies.{allowed_atom, atom_meaning, item_meaning, linear_item}
 use Rattle.scasp_grammar.specs.Bodies as meant
 use Rattle.scasp_grammar.proofs.Steps.{known, then-some, next-token, Post, Post_give, Post_err, Post_from, Post_map, Post_then, Post_taken, Post_note, Spelled}
 use Rattle.scasp_grammar.proofs.Leaves.{append-minus}
@@ -34,25 +34,25 @@ use Rattle.scasp_grammar.proofs.Expressions.{valued, IsMade, made_at_holds, IsWo
 
 -- ---- atoms
 
-record IsPredication (minus : Bool) (text : List ℕ) (f : ℕ) (ts : List Tm) (s : State) (a : Predication) (t : State) : Type 0 where
+record IsAllowed (minus : Bool) (text : List ℕ) (f : ℕ) (ts : List Tm) (s : State) (a : MeantAtom) (t : State) : Type 0 where
   same : s ≡ t
-  value : predication minus text f ts (known s) ≡ Some (a, known t)
+  value : allowed_atom minus text f ts (known s) ≡ Some (a, known t)
 
-predicated : (minus : Bool) (text : List ℕ) (f : ℕ) (ts : List Tm) (k : Known) → is_reserved reserved text (length (items (listed ts))) ≡ false → predication minus text f ts k ≡ Some (atom_of minus f (listed ts), k)
-predicated minus text f ts k past = rw past refl
+atom-allowed : (minus : Bool) (text : List ℕ) (f : ℕ) (ts : List Tm) (k : Known) → is_reserved reserved text (length (items (listed ts))) ≡ false → allowed_atom minus text f ts k ≡ Some (atom_of minus f (listed ts), k)
+atom-allowed minus text f ts k past = rw past refl
 
-checked_atom_holds : (at : ℕ) (minus : Bool) (text : List ℕ) (f : ℕ) (ts : List Tm) (s : State) → Post (IsPredication minus text f ts s) s (checked_atom at minus text f (listed ts) s)
+checked_atom_holds : (at : ℕ) (minus : Bool) (text : List ℕ) (f : ℕ) (ts : List Tm) (s : State) → Post (IsAllowed minus text f ts s) s (checked_atom at minus text f (listed ts) s)
 checked_atom_holds at minus text f ts s =
-    Post_note (IsPredication minus text f ts s) s (is_reserved reserved text (length (items (listed ts)))) at kind.Unsupported _
-    (λ t g same. Post_give (IsPredication minus text f ts s) t (atom_of minus f (listed ts))
+    Post_note (IsAllowed minus text f ts s) s (is_reserved reserved text (length (items (listed ts)))) at kind.Unsupported _
+    (λ t g same. Post_give (IsAllowed minus text f ts s) t (atom_of minus f (listed ts))
     (λ fine.
     let (is, past) = same fine in
-    record { same = is; value = predicated minus text f ts (known s) past ∙ ap (λ s. Some (atom_of minus f (listed ts), known s)) is }))
+    record { same = is; value = atom-allowed minus text f ts (known s) past ∙ ap (λ s. Some (atom_of minus f (listed ts), known s)) is }))
 
 -- a name that was read, and its arguments, make an atom with this sign
-atom-spelled : (minus : Bool) (text : List ℕ) (ts : List Tm) (a : Predication) (s u t v : State) → bare s.tokens ≡ minus_if minus ++ bare u.tokens → known s ≡ known u
+atom-spelled : (minus : Bool) (text : List ℕ) (ts : List Tm) (a : MeantAtom) (s u t v : State) → bare s.tokens ≡ minus_if minus ++ bare u.tokens → known s ≡ known u
     → bare u.tokens ≡ token.Name text ∷ bare (drop 1 u.tokens) → Spelled arguments_tokens (arguments_meaning DEPTH_LIMIT) (behind_name text u) ts t
-    → IsPredication minus text (place_in u.names text) ts t a v → Spelled atom_tokens atom_meaning s a v
+    → IsAllowed minus text (place_in u.names text) ts t a v → Spelled atom_tokens atom_meaning s a v
 atom-spelled minus text ts a s u t v front same next p q = record {
   tree = record { is_negated = minus; name = text; arguments = p.tree };
   tokens = front ∙ ap (λ ts. minus_if minus ++ ts) (next ∙ ap (λ ts. token.Name text ∷ ts) (p.tokens ∙ ap (λ (t : State). arguments_tokens p.tree ++ bare t.tokens) q.same))
@@ -72,7 +72,7 @@ atom_holds s =
         Post_from (Spelled atom_tokens atom_meaning s) u (behind_name text u) _ (λ f. f)
         (Post_then (Spelled arguments_tokens (arguments_meaning DEPTH_LIMIT) (behind_name text u)) (Spelled atom_tokens atom_meaning s) (behind_name text u) _ _
         (arguments_holds DEPTH_LIMIT (below term DEPTH_LIMIT) (below_holds DEPTH_LIMIT) (behind_name text u))
-        (λ ts t f p. Post_map (IsPredication minus text (place_in u.names text) ts t) (Spelled atom_tokens atom_meaning s) t _ (checked_atom_holds (place_of s.tokens) minus text (place_in u.names text) ts t)
+        (λ ts t f p. Post_map (IsAllowed minus text (place_in u.names text) ts t) (Spelled atom_tokens atom_meaning s) t _ (checked_atom_holds (place_of s.tokens) minus text (place_in u.names text) ts t)
         (λ a v g fine q. atom-spelled minus text ts a s u t v front same (next-token u.tokens _ e) (p (g fine)) q)))
     by minus u front same o e = Post_err (Spelled atom_tokens atom_meaning s) u _
 
@@ -97,7 +97,7 @@ equation-next s are_equal h = by (token_of s.tokens) refl h
     by (Some (token.Sign g)) e h = by_sign g e h
     by o e h = absurd cc
 
-abbrev IsItem : State → Condition → State → Type 0
+abbrev IsItem : State → MeantItem → State → Type 0
 IsItem s i t = Spelled item_tokens item_meaning s i t
 
 equation-spelled : (are_equal : Bool) (l r : Tm) (s t u : State) → Spelled term_tokens (term_meaning DEPTH_LIMIT) s l t → bare t.tokens ≡ token.Sign (equal_sign are_equal) ∷ bare (drop 1 t.tokens)
@@ -136,7 +136,7 @@ equation_holds s =
 
 -- ---- items that begin with a name, or with `-` and a name
 
-call-spelled : (s : State) (a : Predication) (t : State) → Spelled atom_tokens atom_meaning s a t → IsItem s (call_of true a) t
+call-spelled : (s : State) (a : MeantAtom) (t : State) → Spelled atom_tokens atom_meaning s a t → IsItem s (call_of true a) t
 call-spelled s a t p = record { tree = a_call p.tree; tokens = p.tokens; value = then-some _ _ _ _ _ p.value refl }
 
 module _ (at : ℕ) (text : List ℕ) (s : State) (next : bare s.tokens ≡ token.Name text ∷ bare (drop 1 s.tokens)) where
@@ -150,7 +150,7 @@ module _ (at : ℕ) (text : List ℕ) (s : State) (next : bare s.tokens ≡ toke
       by : (b : Bool) → Post (IsItem s) t ((if b then stop_at at kind.NotLinear else (checked_atom at false text name (listed ts) >>= (λ a. give (call_of true a)))) t)
       by true = Post_err (IsItem s) t _
       by false =
-          Post_then (IsPredication false text name ts t) (IsItem s) t _ _ (checked_atom_holds at false text name ts t)
+          Post_then (IsAllowed false text name ts t) (IsItem s) t _ _ (checked_atom_holds at false text name ts t)
           (λ a u g q. Post_give (IsItem s) u (call_of true a) (λ fine. call-spelled s a u (atom-spelled false text ts a s s t u refl refl next (h (g fine)) (q fine))))
   name_behind_holds ts t h (Some are_equal) e =
       equation_behind_holds s are_equal (app name (listed ts)) t e (λ fine. name-spelled DEPTH_LIMIT text s next ts t (h fine))
@@ -162,16 +162,16 @@ module _ (at : ℕ) (text : List ℕ) (s : State) (next : bare s.tokens ≡ toke
       (arguments_holds DEPTH_LIMIT (below term DEPTH_LIMIT) (below_holds DEPTH_LIMIT) (behind_name text s))
       (λ ts t f h. name_behind_holds ts t h (equation_sign (token_of t.tokens)) refl))
 
-literal_holds : (Q : Condition → State → Type 0) (at : ℕ) (positive : Bool) (s : State) → ((a : Predication) (t : State) → Spelled atom_tokens atom_meaning s a t → Q (call_of positive a) t) → Post Q s (literal at positive s)
+literal_holds : (Q : MeantItem → State → Type 0) (at : ℕ) (positive : Bool) (s : State) → ((a : MeantAtom) (t : State) → Spelled atom_tokens atom_meaning s a t → Q (call_of positive a) t) → Post Q s (literal at positive s)
 literal_holds Q at positive s q =
     Post_then (Spelled atom_tokens atom_meaning s) Q s _ _ (atom_holds s)
     (λ a t f h. by a t h (positive && is_some (relation (token_of t.tokens))))
   where
-    by : (a : Predication) (t : State) → (t.fault ≡ None → Spelled atom_tokens atom_meaning s a t) → (b : Bool) → Post Q t ((if b then stop_at at kind.NotLinear else give (call_of positive a)) t)
+    by : (a : MeantAtom) (t : State) → (t.fault ≡ None → Spelled atom_tokens atom_meaning s a t) → (b : Bool) → Post Q t ((if b then stop_at at kind.NotLinear else give (call_of positive a)) t)
     by a t h true = Post_err Q t _
     by a t h false = Post_give Q t (call_of positive a) (λ fine. q a t (h fine))
 
-negative-spelled : (s : State) → bare s.tokens ≡ token.Not ∷ bare (drop 1 s.tokens) → (a : Predication) (t : State) → Spelled atom_tokens atom_meaning (behind s) a t → IsItem s (call_of false a) t
+negative-spelled : (s : State) → bare s.tokens ≡ token.Not ∷ bare (drop 1 s.tokens) → (a : MeantAtom) (t : State) → Spelled atom_tokens atom_meaning (behind s) a t → IsItem s (call_of false a) t
 negative-spelled s next a t p = record { tree = a_negative_call p.tree; tokens = next ∙ ap (λ ts. token.Not ∷ ts) p.tokens; value = then-some _ _ _ _ _ p.value refl }
 
 -- ---- comparisons

@@ -2,8 +2,8 @@
 use Rattle.std.specs.Prelude.{◌≡◌, ℕ, ◌≤◌, nat_lt, List, [], ◌∷◌, ◌++◌, length, codes, if◌then◌else◌, Option, None, Some}
 use Rattle.std.specs.Str.{bytes_eq}
 use Rattle.scasp_syntax.specs.Denials.{with_denials}
-use Rattle.scasp_syntax.specs.declared.atom.Atom.{Atom as Predication}
-use Rattle.scasp_syntax.specs.declared.clause.Item.{Item as Condition}
+use Rattle.scasp_syntax.specs.declared.atom.Atom.{Atom as MeantAtom}
+use Rattle.scasp_syntax.specs.declared.clause.Item.{Item as MeantItem}
 use Rattle.scasp_lexis.specs.declared.token.Token.TheVariants as token
 use Rattle.scasp_text.specs.declared.clauses.Part.{Part}
 use Rattle.scasp_text.specs.declared.clauses.Part.TheVariants as part
@@ -23,7 +23,7 @@ abbrev pub anew : {A : Type 0} → Make A → Make A
 anew m k = m (record k { variables = [] })
 
 -- the clause of this head and body, with the number of its variables
-abbrev pub clause_of : Option Predication → List Condition → Make Part
+abbrev pub clause_of : Option MeantAtom → List MeantItem → Make Part
 clause_of head xs k = Some (part.Clause (record { head = head; body = xs; vars = length k.variables }), k)
 
 -- the name of a query's variable; none for `_`
@@ -35,7 +35,7 @@ names_of [] = means []
 names_of (text ∷ texts) = name_of text >>= (λ n. names_of texts >>= (λ ns. means (n ∷ ns)))
 
 -- the query of this body, with the names of its variables
-abbrev pub query_of : List Condition → Make Part
+abbrev pub query_of : List MeantItem → Make Part
 query_of xs k = (names_of k.variables >>= (λ names. means (part.Query (record { body = xs; names = names })))) k
 
 abbrev pub clause_meaning : Clause → Make Part
