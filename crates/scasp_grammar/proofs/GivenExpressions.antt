@@ -51,17 +51,21 @@ module _ (sign_of : Option Token → Option Operation) (operand : Read Value) wh
       (ap (λ o. elim o [ None ↦ Ok (valued w, s) | Some o ↦ (operation_behind operand o (place_of s.tokens) (valued w) >>= repeated sign_of operand n) s ]) (ap sign_of (next-is rest s h) ∙ none))
       (Gives_ok valued w c rest s l h e)
 
-  chain-goes : (n : ℕ) (g : Token) (o : Operation) (w c : Worth) (s : State) (ts us rest : List Token) (l : Known) (m : Make Worth) (next : Worth → Make Worth) → At (g ∷ ts) s → sign_of (Some g) ≡ Some o
-      → then_make (m (known s)) (λ v k. then_make (operation_meaning o w v k) next) ≡ Some (c, l) → ((v : Worth) (k : Known) → m (known s) ≡ Some (v, k) → Gives (valued v) us k (operand (behind s)))
-      → ((x : Worth) (t : State) → At us t → next x (known t) ≡ Some (c, l) → Gives (valued c) rest l (repeated sign_of operand n (valued x) t))
+  -- one operation more: its sign, its operand, and what goes on behind it
+  chain-goes : (n : ℕ) (g : Token) (o : Operation) (w c : Worth) (s : State) (front more rest : List Token) (l : Known) (m : Make Worth) (next : Worth → Make Worth) → At (g ∷ ((front ++ more) ++ rest)) s
+      → sign_of (Some g) ≡ Some o → then_make (m (known s)) (λ v k. then_make (operation_meaning o w v k) next) ≡ Some (c, l)
+      → ((v : Worth) (k : Known) → At (front ++ (more ++ rest)) (behind s) → m (known s) ≡ Some (v, k) → Gives (valued v) (more ++ rest) k (operand (behind s)))
+      → ((x : Worth) (t : State) → At (more ++ rest) t → next x (known t) ≡ Some (c, l) → Gives (valued c) rest l (repeated sign_of operand n (valued x) t))
       → Gives (valued c) rest l (repeated sign_of operand (suc n) (valued w) s)
-  chain-goes n g o w c s ts us rest l m next h is e operand_given rest_given =
+  chain-goes n g o w c s front more rest l m next h is e operand_given rest_given =
+      let us = more ++ rest in
       let a = made (m (known s)) (λ v k. then_make (operation_meaning o w v k) next) c l e in
       let b = made (operation_meaning o w a.value a.between) next c l a.rest in
+      let operand_here = At_so _ (front ++ us) (behind s) (At_behind _ _ s h) (append_assoc front more rest) in
       let link : Gives (valued b.value) us b.between (operation_behind operand o (place_of s.tokens) (valued w) s) =
-      Gives_then (valued a.value) (valued b.value) us us a.between b.between (operand (behind s)) (λ f. operated o (place_of s.tokens) (valued w) f) (operand_given a.value a.between a.first)
+      Gives_then (valued a.value) (valued b.value) us us a.between b.between (operand (behind s)) (λ f. operated o (place_of s.tokens) (valued w) f) (operand_given a.value a.between operand_here a.first)
       (λ t there knows. operated-given o (place_of s.tokens) w a.value t us b.value b.between there (ap (λ k. operation_meaning o w a.value k) knows ∙ b.first)) in
-      Gives_by (valued c) rest l _ _
+      Gives_by (valued c) rest l _ ((operation_behind operand o (place_of s.tokens) (valued w) >>= repeated sign_of operand n) s)
       (ap (λ o. elim o [ None ↦ Ok (valued w, s) | Some o ↦ (operation_behind operand o (place_of s.tokens) (valued w) >>= repeated sign_of operand n) s ]) (ap sign_of (next-is _ s h) ∙ is))
       (Gives_then (valued b.value) (valued c) us rest b.between l (operation_behind operand o (place_of s.tokens) (valued w) s) (repeated sign_of operand n) link
       (λ t there knows. rest_given b.value t there (ap (λ k. next b.value k) knows ∙ b.rest)))
@@ -177,15 +181,13 @@ mutual
   products-given no_products room n w s rest c l h ends le e = chain-ends product_operation (product (below expression room)) n w c s rest l h ends.no_product e
   products-given (plus p ps) room zero w s rest c l h ends le e = absurd (omega (arith, le))
   products-given (plus p ps) room (suc n) w s rest c l h ends le e =
-      chain-goes product_operation (product (below expression room)) n (token.Sign sign.Plus) operation.Plus w c s (product_tokens p ++ (products_tokens ps ++ rest)) (products_tokens ps ++ rest) rest l (product_meaning room p) (products_meaning room ps)
-      (At_so _ _ s h (ap (λ ts. token.Sign sign.Plus ∷ ts) (append_assoc (product_tokens p) (products_tokens ps) rest))) refl e
-      (λ v k i. product-given p room (behind s) (products_tokens ps ++ rest) v k (At_behind _ _ s (At_so _ _ s h (ap (λ ts. token.Sign sign.Plus ∷ ts) (append_assoc (product_tokens p) (products_tokens ps) rest)))) (products-end ps rest ends.no_factor) i)
+      chain-goes product_operation (product (below expression room)) n (token.Sign sign.Plus) operation.Plus w c s (product_tokens p) (products_tokens ps) rest l (product_meaning room p) (products_meaning room ps) h refl e
+      (λ v k here i. product-given p room (behind s) (products_tokens ps ++ rest) v k here (products-end ps rest ends.no_factor) i)
       (λ x t there i. products-given ps room n x t rest c l there ends (omega (arith, le)) i)
   products-given (minus p ps) room zero w s rest c l h ends le e = absurd (omega (arith, le))
   products-given (minus p ps) room (suc n) w s rest c l h ends le e =
-      chain-goes product_operation (product (below expression room)) n (token.Sign sign.Minus) operation.Minus w c s (product_tokens p ++ (products_tokens ps ++ rest)) (products_tokens ps ++ rest) rest l (product_meaning room p) (products_meaning room ps)
-      (At_so _ _ s h (ap (λ ts. token.Sign sign.Minus ∷ ts) (append_assoc (product_tokens p) (products_tokens ps) rest))) refl e
-      (λ v k i. product-given p room (behind s) (products_tokens ps ++ rest) v k (At_behind _ _ s (At_so _ _ s h (ap (λ ts. token.Sign sign.Minus ∷ ts) (append_assoc (product_tokens p) (products_tokens ps) rest)))) (products-end ps rest ends.no_factor) i)
+      chain-goes product_operation (product (below expression room)) n (token.Sign sign.Minus) operation.Minus w c s (product_tokens p) (products_tokens ps) rest l (product_meaning room p) (products_meaning room ps) h refl e
+      (λ v k here i. product-given p room (behind s) (products_tokens ps ++ rest) v k here (products-end ps rest ends.no_factor) i)
       (λ x t there i. products-given ps room n x t rest c l there ends (omega (arith, le)) i)
 
   product-given : (p : Product) (room : ℕ) (s : State) (rest : List Token) (c : Worth) (l : Known) → At (product_tokens p ++ rest) s → factor_operation (first rest) ≡ None → product_meaning room p (known s) ≡ Some (c, l)
@@ -201,15 +203,13 @@ mutual
   factors-given no_factors room n w s rest c l h ends le e = chain-ends factor_operation (factor (below expression room)) n w c s rest l h ends e
   factors-given (times f fs) room zero w s rest c l h ends le e = absurd (omega (arith, le))
   factors-given (times f fs) room (suc n) w s rest c l h ends le e =
-      chain-goes factor_operation (factor (below expression room)) n (token.Sign sign.Times) operation.Times w c s (factor_tokens f ++ (factors_tokens fs ++ rest)) (factors_tokens fs ++ rest) rest l (factor_meaning room f) (factors_meaning room fs)
-      (At_so _ _ s h (ap (λ ts. token.Sign sign.Times ∷ ts) (append_assoc (factor_tokens f) (factors_tokens fs) rest))) refl e
-      (λ v k i. factor-given f room (behind s) (factors_tokens fs ++ rest) v k (At_behind _ _ s (At_so _ _ s h (ap (λ ts. token.Sign sign.Times ∷ ts) (append_assoc (factor_tokens f) (factors_tokens fs) rest)))) i)
+      chain-goes factor_operation (factor (below expression room)) n (token.Sign sign.Times) operation.Times w c s (factor_tokens f) (factors_tokens fs) rest l (factor_meaning room f) (factors_meaning room fs) h refl e
+      (λ v k here i. factor-given f room (behind s) (factors_tokens fs ++ rest) v k here i)
       (λ x t there i. factors-given fs room n x t rest c l there ends (omega (arith, le)) i)
   factors-given (over f fs) room zero w s rest c l h ends le e = absurd (omega (arith, le))
   factors-given (over f fs) room (suc n) w s rest c l h ends le e =
-      chain-goes factor_operation (factor (below expression room)) n (token.Sign sign.Over) operation.Over w c s (factor_tokens f ++ (factors_tokens fs ++ rest)) (factors_tokens fs ++ rest) rest l (factor_meaning room f) (factors_meaning room fs)
-      (At_so _ _ s h (ap (λ ts. token.Sign sign.Over ∷ ts) (append_assoc (factor_tokens f) (factors_tokens fs) rest))) refl e
-      (λ v k i. factor-given f room (behind s) (factors_tokens fs ++ rest) v k (At_behind _ _ s (At_so _ _ s h (ap (λ ts. token.Sign sign.Over ∷ ts) (append_assoc (factor_tokens f) (factors_tokens fs) rest)))) i)
+      chain-goes factor_operation (factor (below expression room)) n (token.Sign sign.Over) operation.Over w c s (factor_tokens f) (factors_tokens fs) rest l (factor_meaning room f) (factors_meaning room fs) h refl e
+      (λ v k here i. factor-given f room (behind s) (factors_tokens fs ++ rest) v k here i)
       (λ x t there i. factors-given fs room n x t rest c l there ends (omega (arith, le)) i)
 
   factor-given : (f : Factor) (room : ℕ) (s : State) (rest : List Token) (c : Worth) (l : Known) → At (factor_tokens f ++ rest) s → factor_meaning room f (known s) ≡ Some (c, l) → Gives (valued c) rest l (factor (below expression room) s)
