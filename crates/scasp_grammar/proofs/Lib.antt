@@ -1,0 +1,17 @@
+pub mod Steps
+pub mod Leaves
+pub mod Terms
+pub mod Expressions
+pub mod Items
+pub mod Bodies
+pub mod Clauses
+pub mod Endings
+pub mod Texts
+pub mod Given
+pub mod GivenTerms
+pub mod GivenExpressions
+pub mod GivenItems
+pub mod GivenBodies
+pub mod GivenClauses
+pub mod GivenTexts
+pub mod Programs
