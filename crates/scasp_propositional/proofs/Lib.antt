@@ -1,0 +1,16 @@
+pub mod Views
+pub mod Shapes
+pub mod Plains
+pub mod Holding
+pub mod Counting
+pub mod Fitting
+pub mod Backing
+pub mod Spanning
+pub mod Passing
+pub mod States
+pub mod Steps
+pub mod Casing
+pub mod Telling
+pub mod Answering
+pub mod Meeting
+pub mod Finishing

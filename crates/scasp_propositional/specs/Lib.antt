@@ -1,0 +1,5 @@
+pub mod Examples
+pub mod Finished
+pub mod Problems
+pub mod Propositional
+pub mod Trees
