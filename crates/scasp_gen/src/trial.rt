@@ -2,8 +2,8 @@
 ghost use Rattle.std.specs.Prelude.{◌≡◌, ◌++◌, IfOk, OnOk};
 ghost use Rattle.scasp_gen.specs.Trial.{ended, nodes_from, trial_text};
 
-use itoa::Buffer;
 use scasp_list::Memory;
+use scasp_write::{put, put_number};
 use std::alloc::Global;
 
 /// The clauses behind the nodes. Each node is in or out, by an even loop over negation, and `all(K)` asks that the
@@ -37,14 +37,6 @@ fn put_with_number(out: &mut Vec<u8>, text: &str, number: u32) -> Result<(), Mem
     ensures { OnOk result (out.new.items ≡ out.old.items ++ ended text.now number) }
 {
     put(out, text)?;
-    put(out, Buffer::new().format(number))?;
+    put_number(out, number as u64)?;
     put(out, ").\n")
-}
-
-/// Puts the text at the end.
-fn put(out: &mut Vec<u8>, text: &str) -> Result<(), Memory>
-    ensures { OnOk result (out.new.items ≡ out.old.items ++ text.now) }
-{
-    out.extend_from_slice(text.as_bytes())?;
-    Ok(())
 }

@@ -4,15 +4,14 @@ ghost use Rattle.scasp_cert.specs.Text.Terms.{var_text};
 ghost use Rattle.scasp_listing.specs.Programs as spec;
 
 use crate::items::put_items;
-use crate::names::text_at;
 use crate::style::Shown;
 use crate::terms::put_atom;
-use crate::text::put;
 use itoa::Buffer;
 use scasp_lexis::Text;
 use scasp_list::{Memory, Sequence};
 use scasp_name::{NameId, Names};
 use scasp_syntax::{Atom, Clause, Items, Query, VarNames};
+use scasp_write::{put, text_at};
 use std::alloc::Global;
 
 /// `V0`, `V1`, ..

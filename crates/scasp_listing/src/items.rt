@@ -5,11 +5,11 @@ ghost use Rattle.scasp_listing.specs.Items as spec;
 
 use crate::style::Shown;
 use crate::terms::{put_lit, put_term};
-use crate::text::{put, put_integer, put_separator};
 use scasp_body::DEPTH_LIMIT;
 use scasp_list::Memory;
 use scasp_num::{Op, Row};
 use scasp_syntax::{Item, Items, Lin, VarList};
+use scasp_write::{put, put_integer, put_separator};
 
 fn put_plus(out: &mut Vec<u8>, number: i128) -> Result<(), Memory>
     ensures { OnOk result (out.new.items ≡ out.old.items ++ plus_text number) }

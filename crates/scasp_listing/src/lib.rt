@@ -3,10 +3,8 @@
 
 mod clauses;
 mod items;
-mod names;
 mod programs;
 mod style;
 mod terms;
-mod text;
 
 pub use programs::print_program;

@@ -1,29 +1,15 @@
 //! Terms, atoms and literals.
 ghost use Rattle.std.specs.Prelude.{◌≡◌, ◌++◌, ◌-◌, true, OnOk, if◌then◌else◌};
 ghost use Rattle.scasp_syntax.specs.View.{tm_of};
-ghost use Rattle.scasp_cert.specs.Text.Terms.{number_text, is_pair, called_text, minus_text};
+ghost use Rattle.scasp_cert.specs.Text.Terms.{called_text};
 ghost use Rattle.scasp_listing.specs.Terms as spec;
 
-use crate::names::put_name;
 use crate::style::Shown;
-use crate::text::{put, put_integer, put_separator};
 use scasp_body::DEPTH_LIMIT;
 use scasp_list::Memory;
-use scasp_name::{NIL, NameId, PAIR};
-use scasp_num::Rat;
+use scasp_name::{NIL, NameId};
 use scasp_syntax::{Atom, Lit, Term, Terms};
-
-fn put_rational(out: &mut Vec<u8>, number: Rat) -> Result<(), Memory>
-    ensures { OnOk result (out.new.items ≡ out.old.items ++ number_text number) }
-{
-    put_integer(out, number.num())?;
-    let den = number.den();
-    if den == 1 {
-        return Ok(());
-    }
-    put(out, "/")?;
-    put_integer(out, den)
-}
+use scasp_write::{is_pair, put, put_name, put_rational, put_separator};
 
 /// Puts a name without arguments at the end, as a term.
 fn put_constant(out: &mut Vec<u8>, shown: &Shown<'_>, room: u64, name: NameId) -> Result<(), Memory>
@@ -34,12 +20,6 @@ fn put_constant(out: &mut Vec<u8>, shown: &Shown<'_>, room: u64, name: NameId) -
     } else {
         put_name(out, shown.names(), name)
     }
-}
-
-fn is_pair(name: NameId, args: &Terms) -> bool
-    ensures { result ≡ is_pair name args.now }
-{
-    name == PAIR && args.len() == 2
 }
 
 /// Puts a term at the end, where so many brackets may be opened.

@@ -6,13 +6,12 @@ ghost use Rattle.scasp_cert.specs.Text.Block as spec;
 
 use crate::constraints::put_con;
 use crate::hints::put_hint;
-use crate::names::put_name;
 use crate::terms::{put_list, put_minus};
-use crate::text::{put, put_number};
 use crate::trees::{put_case, put_nodes};
 use scasp_cert::{Cert, Check, Checks, Clash, Clashes};
 use scasp_name::{Memory, Names};
 use scasp_syntax::{Con, Cons, Pred, PredMap, PredMaps, Terms};
+use scasp_write::{put, put_name, put_number};
 use std::alloc::Global;
 
 #[tactic(auto, unfolding(scasp_cert::specs::Text::Block::answer_line))]

@@ -4,13 +4,12 @@ ghost use Rattle.scasp_syntax.specs.View.{tm_of};
 ghost use Rattle.scasp_cert.specs.Text.Terms.{term_text};
 ghost use Rattle.scasp_cert.specs.Text.Constraints as spec;
 
-use crate::names::{put_constant, put_name};
 use crate::pieces::put_var;
 use crate::terms::put_term;
-use crate::text::{put, put_integer, put_number};
 use scasp_name::{Memory, NameId, Names};
 use scasp_num::{Coeff, Coeffs, Op, Row};
 use scasp_syntax::{Con, Term};
+use scasp_write::{put, put_constant, put_integer, put_name, put_number};
 
 fn put_plus(out: &mut Vec<u8>, number: i128) -> Result<(), Memory>
     ensures { OnOk result (out.new.items ≡ out.old.items ++ spec.plus_text number) }

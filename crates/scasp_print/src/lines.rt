@@ -7,10 +7,11 @@ ghost use Rattle.scasp_cert.specs.Text.Trees as spec;
 
 use crate::constraints::put_con;
 use crate::hints::put_hint;
+use crate::indents::put_indent;
 use crate::terms::{put_atom, put_list, put_lit};
-use crate::text::{put, put_indent, put_number};
 use scasp_name::{Memory, Names};
 use scasp_syntax::{Atom, Con, Hint, Lit, Terms};
+use scasp_write::{put, put_number};
 
 fn put_pos(
     out: &mut Vec<u8>,

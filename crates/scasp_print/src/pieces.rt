@@ -6,12 +6,10 @@ ghost use Rattle.scasp_syntax.specs.View.{tm_of, tms_of};
 ghost use Rattle.scasp_cert.specs.Text.Terms as spec;
 ghost use Rattle.scasp_print.specs.Inside.Pieces.{all_text, text_of, weight as piece_weight, weights};
 
-use crate::names::{put_constant, put_name};
 use crate::stack::wait;
-use crate::text::{put, put_integer, put_number, put_separator};
-use scasp_name::{Memory, NIL, NameId, Names, PAIR};
-use scasp_num::Rat;
+use scasp_name::{Memory, NIL, NameId, Names};
 use scasp_syntax::{Term, Terms};
+use scasp_write::{is_pair, put, put_constant, put_name, put_number, put_rational, put_separator};
 
 /// Puts a variable at the end.
 pub fn put_var(out: &mut Vec<u8>, var: u64) -> Result<(), Memory>
@@ -19,24 +17,6 @@ pub fn put_var(out: &mut Vec<u8>, var: u64) -> Result<(), Memory>
 {
     put(out, "V")?;
     put_number(out, var)
-}
-
-fn put_rational(out: &mut Vec<u8>, number: Rat) -> Result<(), Memory>
-    ensures { OnOk result (out.new.items ≡ out.old.items ++ spec.number_text number) }
-{
-    put_integer(out, number.num())?;
-    let den = number.den();
-    if den == 1 {
-        return Ok(());
-    }
-    put(out, "/")?;
-    put_integer(out, den)
-}
-
-fn is_pair(name: NameId, args: &Terms) -> bool
-    ensures { result ≡ spec.is_pair name args.now }
-{
-    name == PAIR && args.len() == 2
 }
 
 /// A piece of terms that is still to be put.

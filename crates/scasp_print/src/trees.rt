@@ -7,12 +7,12 @@ ghost use Rattle.scasp_cert.specs.View.{tree_of, trees_of, branch_of, cover_of};
 ghost use Rattle.scasp_cert.specs.Text.Trees as spec;
 ghost use Rattle.scasp_print.specs.Inside.Waiting.{all_text, text_of, weight, weights};
 
+use crate::indents::below;
 use crate::lines::{
     put_head_line, put_leaf_line, put_loop_line, put_neg_line, put_pos_line, put_rule_line,
     put_seen_line, put_split_line, put_test_line, put_void_line,
 };
 use crate::stack::wait;
-use crate::text::below;
 use scasp_cert::{Case, Cover, Node, Nodes};
 use scasp_name::{Memory, Names};
 

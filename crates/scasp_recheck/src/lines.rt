@@ -1,14 +1,14 @@
 //! The lines that are written.
-ghost use Rattle.std.specs.Prelude.{◌≡◌, ◌++◌, IfOk, OnOk, decimal};
+ghost use Rattle.std.specs.Prelude.{◌≡◌, ◌++◌, IfOk, OnOk};
 ghost use Rattle.scasp_cert.specs.Certificate.{certificate_of};
 ghost use Rattle.scasp_recheck.specs.Texts as spec;
 
 use crate::worth::Worth;
-use itoa::Buffer;
 use scasp_answer_files::Block;
 use scasp_cert::{Cert, flat};
 use scasp_list::Memory;
 use scasp_verdict::Reason;
+use scasp_write::{put, put_number};
 use std::alloc::Global;
 
 /// A reason in words.
@@ -37,21 +37,6 @@ fn reason_words(reason: Reason) -> &'static str
         Reason::WrongCheck => "wrong check",
         Reason::WrongMap => "wrong map",
     }
-}
-
-/// Puts the text at the end.
-fn put(line: &mut Vec<u8>, text: &str) -> Result<(), Memory>
-    ensures { OnOk result (line.new.items ≡ line.old.items ++ text.now) }
-{
-    line.extend_from_slice(text.as_bytes())?;
-    Ok(())
-}
-
-/// Puts the digits of the number at the end.
-fn put_number(line: &mut Vec<u8>, number: u64) -> Result<(), Memory>
-    ensures { OnOk result (line.new.items ≡ line.old.items ++ decimal number) }
-{
-    put(line, Buffer::new().format(number))
 }
 
 /// Puts over which domains the certificate speaks at the end.

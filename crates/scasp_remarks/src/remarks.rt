@@ -7,7 +7,7 @@ use crate::values::{put_values, shown_variables};
 use crate::wheres::put_where;
 use scasp_cert::{Cert, flat};
 use scasp_name::{Memory, NameId, Names};
-use scasp_print::put;
+use scasp_write::put;
 
 /// The remark on the domains of an answer.
 fn domain_line(cert: &Cert) -> Result<&'static str, Memory>

@@ -5,8 +5,9 @@ ghost use Rattle.scasp_syntax.specs.View.{tm_of, tms_of};
 
 use crate::variables::push_variables;
 use scasp_name::{Memory, NameId, Names};
-use scasp_print::{put, put_term, text_at};
+use scasp_print::put_term;
 use scasp_syntax::{Term, VarList};
+use scasp_write::{put, text_at};
 use std::alloc::Global;
 
 /// Puts the line of a variable, unless it is written `_`.

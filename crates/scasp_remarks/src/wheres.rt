@@ -4,10 +4,11 @@ ghost use Rattle.scasp_project.specs.Projection.{projection};
 ghost use Rattle.scasp_remarks.specs.Remarks as spec;
 
 use scasp_name::{Memory, Names};
-use scasp_print::{put, put_con, put_separator};
+use scasp_print::put_con;
 use scasp_project::{Projected, project};
 use scasp_rows::LinErr;
 use scasp_syntax::{Con, ConLists, Cons, VarList};
+use scasp_write::{put, put_separator};
 
 /// Puts constraints with commas between them.
 fn put_cons(out: &mut Vec<u8>, names: &Names, constraints: &[Con]) -> Result<(), Memory>

@@ -1,10 +1,10 @@
 //! The line of a trial.
-ghost use Rattle.std.specs.Prelude.{◌≡◌, ◌++◌, decimal, IfOk, OnOk};
+ghost use Rattle.std.specs.Prelude.{◌≡◌, ◌++◌, IfOk, OnOk};
 ghost use Rattle.scasp_trial.specs.Texts as spec;
 
 use crate::first::Trial;
-use itoa::Buffer;
 use scasp_list::Memory;
+use scasp_write::{put, put_number};
 use std::alloc::Global;
 
 /// The line that sums up the trial of the program of `n` nodes.
@@ -50,19 +50,4 @@ fn put_domain(line: &mut Vec<u8>, any: bool) -> Result<(), Memory>
     ensures { OnOk result (line.new.items ≡ line.old.items ++ spec.domain_words any) }
 {
     put(line, if any { " right any" } else { " right closed" })
-}
-
-/// Puts the digits of the number at the end.
-fn put_number(line: &mut Vec<u8>, number: u64) -> Result<(), Memory>
-    ensures { OnOk result (line.new.items ≡ line.old.items ++ decimal number) }
-{
-    put(line, Buffer::new().format(number))
-}
-
-/// Puts the text at the end.
-fn put(line: &mut Vec<u8>, text: &str) -> Result<(), Memory>
-    ensures { OnOk result (line.new.items ≡ line.old.items ++ text.now) }
-{
-    line.extend_from_slice(text.as_bytes())?;
-    Ok(())
 }

@@ -1,5 +1,5 @@
 use Rattle.std.proofs.Common.{◌≡◌, ◌-◌, ◌++◌, replicate}
-use Rattle.scasp_print.proofs.text.put_indent.Given as goal
+use Rattle.scasp_print.proofs.indents.put_indent.Given as goal
 
 abbrev pub invariant-loop : goal.invariant-loop
 invariant-loop l = l.out.items ++ replicate (l.depth - l.counter) 32 ≡ l.fn.out.items ++ replicate l.depth 32

@@ -2,10 +2,11 @@
 ghost use Rattle.std.specs.Prelude.{◌≡◌, ◌++◌, OnOk};
 ghost use Rattle.std.specs.List.{list_all};
 ghost use Rattle.scasp_cert.specs.Text.Names as spec;
+ghost use Rattle.scasp_cert.specs.Text.Terms.{is_pair};
 
-use crate::text::put;
-use scasp_list::Memory;
-use scasp_name::{NameId, Names};
+use crate::texts::put;
+use scasp_name::{Memory, NIL, NameId, Names, PAIR};
+use scasp_syntax::Terms;
 
 fn is_word_byte(byte: u8) -> bool
     ensures { result ≡ spec.is_word_byte byte }
@@ -67,7 +68,7 @@ fn put_quoted(out: &mut Vec<u8>, text: &str) -> Result<(), Memory>
     put(out, "'")
 }
 
-/// The text of the name; the empty one where the table lacks it.
+/// The text of a name; the empty text where the table lacks it.
 pub fn text_at(names: &Names, name: NameId) -> &str
     ensures { result.now ≡ spec.text_at names.now name }
 {
@@ -83,4 +84,22 @@ pub fn put_name(out: &mut Vec<u8>, names: &Names, name: NameId) -> Result<(), Me
     ensures { OnOk result (out.new.items ≡ out.old.items ++ spec.name_text names.now name) }
 {
     put_quoted(out, text_at(names, name))
+}
+
+/// Puts a name without arguments at the end, as a term.
+pub fn put_constant(out: &mut Vec<u8>, names: &Names, name: NameId) -> Result<(), Memory>
+    ensures { OnOk result (out.new.items ≡ out.old.items ++ spec.constant_text names.now name) }
+{
+    if name == NIL {
+        put(out, "[]")
+    } else {
+        put_name(out, names, name)
+    }
+}
+
+/// Whether a term of this name and these arguments is a list of a first element and a rest.
+pub fn is_pair(name: NameId, args: &Terms) -> bool
+    ensures { result ≡ is_pair name args.now }
+{
+    name == PAIR && args.len() == 2
 }

@@ -1,5 +1,5 @@
 use Rattle.std.proofs.Common.{◌≡◌, ℕ, suc, ◌+◌, ◌-◌, ◌<◌, List, [], ◌∷◌, ◌++◌, replicate, ◌∙◌, append_assoc, arith}
-use Rattle.scasp_print.proofs.text.put_indent.Goals as goal
+use Rattle.scasp_print.proofs.indents.put_indent.Goals as goal
 
 -- a blank more written is a blank less to write
 shift : (k n : ℕ) (xs : List ℕ) → k < n → (xs ++ 32 ∷ []) ++ replicate (n - (k + 1)) 32 ≡ xs ++ replicate (n - k) 32

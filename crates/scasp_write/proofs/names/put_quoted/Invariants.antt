@@ -1,7 +1,7 @@
 use Rattle.std.proofs.Common.{◌≡◌, ◌++◌, drop}
 use Rattle.std.specs.Prelude.{flat_map, codes}
 use Rattle.scasp_cert.specs.Text.Names.{escaped}
-use Rattle.scasp_print.proofs.names.put_quoted.Given as goal
+use Rattle.scasp_write.proofs.names.put_quoted.Given as goal
 
 abbrev pub invariant-loop-byte : goal.invariant-loop-byte
 invariant-loop-byte l =
