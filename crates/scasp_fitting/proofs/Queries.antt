@@ -24,7 +24,7 @@ use Rattle.scasp_clause_readback.specs.Counting.{count_body}
 use Rattle.scasp_clause_readback.specs.Fitting.{body_fits}
 use Rattle.scasp_clause_readback.specs.Parts.{is_count, query_style, name_fits}
 use Rattle.scasp_term_fitting.specs.Readers.{known, IsReader, Keeps, Covers}
-use Rattle.scasp_term_fitting.proofs.Tokens.{variable-utf8}
+use Rattle.scasp_readback.proofs.FoundTokens.{variable-utf8}
 use Rattle.scasp_term_fitting.proofs.Steps.{Follows, follows_behind, reader_behind, Post, Post_give, Post_from, Post_then, Post_expect}
 use Rattle.scasp_term_fitting.proofs.Names.{bytes_eq-same, with_name, follows_interned, place-is}
 use Rattle.scasp_fitting.proofs.Bodies.{IsBody, body_holds}

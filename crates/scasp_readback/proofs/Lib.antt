@@ -4,3 +4,4 @@ pub mod NameReading
 pub mod NumberReading
 pub mod VariableReading
 pub mod SignReading
+pub mod FoundTokens
