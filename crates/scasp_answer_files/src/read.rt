@@ -39,12 +39,19 @@ fn stand(
 ) -> Result<Option<AnswerKind>, Memory>
     ensures { Judges (if line_fits (line_of line) then spec.in_order (next_state (state_of state.old) (at depth (line_of line))) else Err kind.NumberTooLarge) result state.new }
 {
-    if !fits(alloc, &line)? {
-        return Ok(Some(AnswerKind::NumberTooLarge));
-    }
-    match state.stand(alloc, depth, line)? {
-        Placing::Stands => Ok(None),
-        Placing::OutOfOrder => Ok(Some(AnswerKind::Order)),
+    match fits(alloc, &line) {
+        Ok(true) => match state.stand(alloc, depth, line)? {
+            Placing::Stands => Ok(None),
+            Placing::OutOfOrder => Ok(Some(AnswerKind::Order)),
+        },
+        Ok(false) => {
+            drop(line);
+            Ok(Some(AnswerKind::NumberTooLarge))
+        }
+        Err(error) => {
+            drop(line);
+            Err(error)
+        }
     }
 }
 
@@ -95,7 +102,7 @@ fn read_line(
     if is_remark(line) {
         return Ok(());
     }
-    if marks(line) > MARK_LIMIT {
+    if line.len() > MARK_LIMIT && marks(line) > MARK_LIMIT {
         return Err(AnswerErr::Memory);
     }
     match judge(alloc, state, line, names)? {

@@ -87,6 +87,27 @@ fn answer(alloc: Global, cursor: &mut Cursor<'_>, names: &Names) -> Result<Line,
     Ok(Line::Answer(query, answer, terms))
 }
 
+/// Takes what stands behind `given`.
+fn given(alloc: Global, cursor: &mut Cursor<'_>, names: &Names) -> Result<Line, Stop>
+    ensures { Reads line_of (made lines.given_line (spec.spaced_at (con_at (place_in names.now)) cursor.old)) result cursor.new }
+{
+    Ok(Line::Given(spaced_con(alloc, cursor, names)?))
+}
+
+/// Takes what stands behind `sample`.
+fn sample(alloc: Global, cursor: &mut Cursor<'_>, names: &Names) -> Result<Line, Stop>
+    ensures { Reads line_of (made lines.sample_line (spec.spaced_at (list_at (place_in names.now)) cursor.old)) result cursor.new }
+{
+    Ok(Line::Sample(spaced_list(alloc, cursor, names)?))
+}
+
+/// Takes what stands behind `check`.
+fn check(cursor: &mut Cursor<'_>) -> Result<Line, Stop>
+    ensures { Reads line_of (made lines.check_line (spec.spaced_at number_at cursor.old)) result cursor.new }
+{
+    Ok(Line::Check(spaced_number(cursor)?))
+}
+
 /// Takes the rest of a line with this first word, which may be any.
 pub fn any_line(
     alloc: Global,
@@ -126,13 +147,13 @@ fn head_line(
     if word == "answer" {
         answer(alloc, cursor, names)
     } else if word == "given" {
-        Ok(Line::Given(spaced_con(alloc, cursor, names)?))
+        given(alloc, cursor, names)
     } else if word == "sample" {
-        Ok(Line::Sample(spaced_list(alloc, cursor, names)?))
+        sample(alloc, cursor, names)
     } else if word == "tree" {
         Ok(Line::Tree)
     } else if word == "check" {
-        Ok(Line::Check(spaced_number(cursor)?))
+        check(cursor)
     } else {
         other_line(alloc, word, cursor, names)
     }

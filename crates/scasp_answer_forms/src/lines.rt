@@ -31,6 +31,7 @@ pub fn line_in(alloc: Global, bytes: &[u8], names: &Names) -> Result<Line, Stop>
     let mut cursor = Cursor::new(bytes);
     let line = line(alloc, &mut cursor, names)?;
     if cursor.next().is_some() {
+        drop(line);
         return Err(Stop::NoForm);
     }
     Ok(line)

@@ -2,9 +2,10 @@
 ghost use Rattle.std.specs.Prelude.{◌≡◌, ◌++◌};
 ghost use Rattle.scasp_phrase.specs.Names.{place_in};
 ghost use Rattle.scasp_answer_lines.specs.Forms as spec;
+ghost use Rattle.scasp_answer_lines.specs.Constraints.{con_at};
 ghost use Rattle.scasp_answer_lines.specs.Hints.{hint_at};
 ghost use Rattle.scasp_answer_lines.specs.Lines as lines;
-ghost use Rattle.scasp_answer_lines.specs.Readers.{made, behind_word};
+ghost use Rattle.scasp_answer_lines.specs.Readers.{made, number_at, behind_word};
 ghost use Rattle.scasp_answer_lines.specs.Terms.{atom_at};
 ghost use Rattle.scasp_answer_lines.specs.View.{Reads};
 ghost use Rattle.scasp_answer_forms.specs.View.{line_of};
@@ -68,6 +69,50 @@ fn spaced_hint(alloc: Global, cursor: &mut Cursor<'_>) -> Result<Hint, Stop>
     hint(alloc, cursor)
 }
 
+/// Takes what stands behind `loop`.
+fn repeated(alloc: Global, cursor: &mut Cursor<'_>, names: &Names) -> Result<Line, Stop>
+    ensures { Reads line_of (made (λ r. lines.loop_line r.0 r.1) (spec.spaced_at (spec.repeat_at (place_in names.now)) cursor.old)) result cursor.new }
+{
+    let (lit, at) = repeat(alloc, cursor, names)?;
+    Ok(Line::Loop(lit, at))
+}
+
+/// Takes what stands behind `seen`.
+fn seen(alloc: Global, cursor: &mut Cursor<'_>, names: &Names) -> Result<Line, Stop>
+    ensures { Reads line_of (made (λ r. lines.seen_line r.0 r.1) (spec.spaced_at (spec.repeat_at (place_in names.now)) cursor.old)) result cursor.new }
+{
+    let (lit, at) = repeat(alloc, cursor, names)?;
+    Ok(Line::Seen(lit, at))
+}
+
+/// Takes what stands behind `rule`.
+fn rule(cursor: &mut Cursor<'_>) -> Result<Line, Stop>
+    ensures { Reads line_of (made lines.rule_line (spec.spaced_at number_at cursor.old)) result cursor.new }
+{
+    Ok(Line::Rule(spaced_number(cursor)?))
+}
+
+/// Takes what stands behind `split`.
+fn split(alloc: Global, cursor: &mut Cursor<'_>, names: &Names) -> Result<Line, Stop>
+    ensures { Reads line_of (made lines.split_line (spec.spaced_at (con_at (place_in names.now)) cursor.old)) result cursor.new }
+{
+    Ok(Line::Split(spaced_con(alloc, cursor, names)?))
+}
+
+/// Takes what stands behind `void`.
+fn void(alloc: Global, cursor: &mut Cursor<'_>) -> Result<Line, Stop>
+    ensures { Reads line_of (made lines.void_line (spec.spaced_at hint_at cursor.old)) result cursor.new }
+{
+    Ok(Line::Void(spaced_hint(alloc, cursor)?))
+}
+
+/// Takes what stands behind `leaf`.
+fn leaf(cursor: &mut Cursor<'_>) -> Result<Line, Stop>
+    ensures { Reads line_of (made lines.leaf_line (spec.spaced_at number_at cursor.old)) result cursor.new }
+{
+    Ok(Line::Leaf(spaced_number(cursor)?))
+}
+
 /// Takes the rest of a line with this first word, which is that of a node, a rule or a case.
 pub fn node(alloc: Global, word: &str, cursor: &mut Cursor<'_>, names: &Names) -> Result<Line, Stop>
     ensures { let place = place_in names.now in
@@ -78,11 +123,9 @@ pub fn node(alloc: Global, word: &str, cursor: &mut Cursor<'_>, names: &Names) -
     } else if word == "neg" {
         neg(alloc, cursor, names)
     } else if word == "loop" {
-        let (lit, at) = repeat(alloc, cursor, names)?;
-        Ok(Line::Loop(lit, at))
+        repeated(alloc, cursor, names)
     } else if word == "seen" {
-        let (lit, at) = repeat(alloc, cursor, names)?;
-        Ok(Line::Seen(lit, at))
+        seen(alloc, cursor, names)
     } else if word == "test" {
         test(alloc, cursor, names)
     } else {
@@ -95,13 +138,13 @@ fn case(alloc: Global, word: &str, cursor: &mut Cursor<'_>, names: &Names) -> Re
     ensures { Reads line_of (behind_word (spec.case_forms (place_in names.now)) word.now cursor.old) result cursor.new }
 {
     if word == "rule" {
-        Ok(Line::Rule(spaced_number(cursor)?))
+        rule(cursor)
     } else if word == "split" {
-        Ok(Line::Split(spaced_con(alloc, cursor, names)?))
+        split(alloc, cursor, names)
     } else if word == "void" {
-        Ok(Line::Void(spaced_hint(alloc, cursor)?))
+        void(alloc, cursor)
     } else if word == "leaf" {
-        Ok(Line::Leaf(spaced_number(cursor)?))
+        leaf(cursor)
     } else if word == "head" {
         Ok(Line::Head)
     } else {

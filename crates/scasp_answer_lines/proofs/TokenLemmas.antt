@@ -1,6 +1,7 @@
 -- The tokens of bytes, one front after the other.
-use Rattle.std.proofs.Common.{◌≡◌, ℕ, zero, suc, ◌+◌, List, [], ◌∷◌, drop, None, Some, refl, ap, ◌∙◌, add-one}
-use Rattle.scasp_answer_lines.specs.Tokens.{Front, front_at, first_front, tokens_from, tokens_in}
+use Rattle.std.proofs.Common.{◌≡◌, ℕ, zero, suc, ◌+◌, true, List, [], ◌∷◌, drop, None, Some, refl, ap, ◌∙◌, add-one}
+use Rattle.std.proofs.lemmas.Bool.{eqb-true}
+use Rattle.scasp_answer_lines.specs.Tokens.{Front, front_at, first_front, sign, is_blank, tokens_from, tokens_in}
 
 pub tokens-skip : (n : ℕ) (bytes : List ℕ) → tokens_from n bytes ≡ tokens_in (drop n bytes)
 unfolding tokens_in
@@ -20,3 +21,9 @@ tokens-front [] f e = cc
 tokens-front (b ∷ bs) f e =
     let same : front_at b bs ≡ f = cc in
     ap (λ g. g.token ∷ tokens_from g.more bs) same ∙ ap (λ ts. f.token ∷ ts) (tokens-skip f.more bs) ∙ rw add-one refl
+
+pub tokens-blank : (text : List ℕ) → is_blank text ≡ true → tokens_in text ≡ sign 32 ∷ []
+unfolding tokens_in
+tokens-blank [] e = cc
+tokens-blank (b ∷ []) e = ap (λ x. tokens_from 0 (x ∷ [])) (eqb-true b 32 e)
+tokens-blank (b ∷ c ∷ bs) e = cc

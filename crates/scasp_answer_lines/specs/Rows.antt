@@ -1,5 +1,5 @@
 -- Reading linear rows.
-use Rattle.std.specs.Prelude.{ℕ, ◌==◌, nat_lt, Bool, true, false, not, ◌||◌, if◌then◌else◌, List, [], ◌∷◌, codes, None, Some, option_map, ℤ, pos}
+use Rattle.std.specs.Prelude.{ℕ, ◌==◌, nat_lt, Bool, true, false, not, ◌||◌, if◌then◌else◌, List, [], ◌∷◌, codes, None, Some, ℤ, pos}
 use Rattle.scasp_num.specs.Arithmetic.{◌>>=◌, signed}
 use Rattle.scasp_num.specs.Linear.{Linear, is_normal}
 use Rattle.scasp_num.specs.declared.linear.Coeff.{Coeff}

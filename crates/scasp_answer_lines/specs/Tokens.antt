@@ -114,6 +114,12 @@ sign_token b =
     else (if b == 124 then bar else (if b == 40 then paren else (if b == 41 then close
     else (if b == 91 then bracket else (if b == 93 then unbracket else sign b))))))))
 
+-- the text is one blank
+abbrev pub is_blank : List ℕ → Bool
+is_blank [] = false
+is_blank (b ∷ []) = b == 32
+is_blank (b ∷ c ∷ bs) = false
+
 abbrev pub word_front : List ℕ → Front
 word_front text = front (word text) (length text - 1)
 

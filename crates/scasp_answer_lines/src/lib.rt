@@ -3,10 +3,10 @@
 
 mod bounds;
 mod cursor;
-mod front;
 mod numbers;
 mod quotes;
 mod same;
+mod signs;
 mod stop;
 mod token;
 mod words;

@@ -38,7 +38,8 @@ fn is_digits(number: u128, token: Token<'_>) -> bool
     matches!(token, Token::Digits(other) if number == other)
 }
 
-fn is_sign(byte: u8, token: Token<'_>) -> bool
+/// Whether the token is this byte.
+pub fn is_sign(byte: u8, token: Token<'_>) -> bool
     ensures { result ≡ same_token (spec.sign byte) (token_of token.entry) }
 {
     matches!(token, Token::Sign(other) if byte == other)

@@ -18,7 +18,7 @@ pub fn is_lower(byte: u8) -> bool
 fn is_name_byte(byte: u8) -> bool
     ensures { result ≡ is_name_byte byte }
 {
-    matches!(byte, b'a'..=b'z' | b'A'..=b'Z' | b'0'..=b'9' | b'_')
+    is_lower(byte) || matches!(byte, b'A'..=b'Z' | b'0'..=b'9' | b'_')
 }
 
 fn name_len(bytes: &[u8]) -> usize
@@ -32,10 +32,7 @@ fn name_at(bytes: &[u8]) -> &str
     ensures text { result.now ≡ take_while is_name_byte bytes.now }
     ensures within { length result.now ≤ length bytes.now }
 {
-    match str::from_utf8(&bytes[..name_len(bytes)]) {
-        Ok(text) => text,
-        Err(_) => unreachable!(),
-    }
+    unsafe { str::from_utf8_unchecked(&bytes[..name_len(bytes)]) }
 }
 
 /// The token of a word.

@@ -19,8 +19,13 @@ fn close_into(alloc: Global, top: Open, around: Open, opens: &mut Opens) -> Resu
     requires { spec.is_whole (open_of top) ≡ true }
     ensures { OnOk result (opens_of opens.new ≡ spec.with_parts (open_of around) (spec.parts_of (open_of top).line (open_of top).parts) ∷ opens_of opens.old) }
 {
-    let around = around.with_part(top.into_part(alloc)?)?;
-    opens.push(around)
+    match top.into_part(alloc) {
+        Ok(part) => opens.push(around.with_part(part)?),
+        Err(error) => {
+            drop(around);
+            Err(error)
+        }
+    }
 }
 
 /// Closes the line that was the innermost open one, if it has all that has to stand below it.
@@ -37,6 +42,7 @@ fn close(
     ensures no_more { IfOk result (λ placing. length (opens_of opens.new) ≤ length (opens_of opens.old)) }
 {
     if !top.is_whole() {
+        drop(top);
         return Ok(Placing::OutOfOrder);
     }
     match opens.pop() {
@@ -48,7 +54,10 @@ fn close(
             with_top(alloc, top, cert)?;
             Ok(Placing::Stands)
         }
-        None => Ok(Placing::OutOfOrder),
+        None => {
+            drop(top);
+            Ok(Placing::OutOfOrder)
+        }
     }
 }
 

@@ -39,6 +39,7 @@ impl Opens {
         ensures { OnOk result (opens_of self.new ≡ open_of line ∷ opens_of self.old) }
     {
         if self.list.len() >= DEPTH_LIMIT {
+            drop(line);
             return Err(Memory);
         }
         self.list.push(line)?;

@@ -78,6 +78,9 @@ pub fn with_top(alloc: Global, top: Open, cert: &mut Cert) -> Result<(), Memory>
     match kind(&top) {
         Top::Query => with_query(alloc, top.into_parts(), cert),
         Top::Check(clause) => with_check(clause, top.into_parts(), cert),
-        Top::Other => Ok(()),
+        Top::Other => {
+            drop(top);
+            Ok(())
+        }
     }
 }

@@ -15,8 +15,14 @@ fn put_node(part: Part, nodes: &mut Nodes) -> Result<(), Memory>
 {
     match part {
         Part::Node(node) => nodes.push(node),
-        Part::Cover(_) => Ok(()),
-        Part::Case(_) => Ok(()),
+        Part::Cover(cover) => {
+            drop(cover);
+            Ok(())
+        }
+        Part::Case(case) => {
+            drop(case);
+            Ok(())
+        }
     }
 }
 
@@ -38,8 +44,14 @@ fn put_cover(part: Part, covers: &mut Covers) -> Result<(), Memory>
 {
     match part {
         Part::Cover(cover) => covers.push(cover),
-        Part::Node(_) => Ok(()),
-        Part::Case(_) => Ok(()),
+        Part::Node(node) => {
+            drop(node);
+            Ok(())
+        }
+        Part::Case(case) => {
+            drop(case);
+            Ok(())
+        }
     }
 }
 
@@ -64,8 +76,14 @@ fn put_case(part: Part, cases: &mut Vec<Case>) -> Result<(), Memory>
             cases.push(case)?;
             Ok(())
         }
-        Part::Node(_) => Ok(()),
-        Part::Cover(_) => Ok(()),
+        Part::Node(node) => {
+            drop(node);
+            Ok(())
+        }
+        Part::Cover(cover) => {
+            drop(cover);
+            Ok(())
+        }
     }
 }
 
@@ -87,8 +105,14 @@ fn into_case(part: Part) -> Option<Case>
 {
     match part {
         Part::Case(case) => Some(case),
-        Part::Node(_) => None,
-        Part::Cover(_) => None,
+        Part::Node(node) => {
+            drop(node);
+            None
+        }
+        Part::Cover(cover) => {
+            drop(cover);
+            None
+        }
     }
 }
 

@@ -34,7 +34,8 @@ impl Open {
     pub fn into_parts(self) -> Vec<Part>
         ensures { parts_in result.items ≡ (open_of self).parts }
     {
-        let Open { line: _, parts } = self;
+        let Open { line, parts } = self;
+        drop(line);
         parts
     }
 

@@ -1,6 +1,6 @@
 //! Open lines become parts of the lines around them.
 ghost use Rattle.std.specs.Prelude.{◌≡◌, ◌∷◌, [], true, length, map, IfOk};
-ghost use Rattle.scasp_cert.specs.View.{branch_of};
+ghost use Rattle.scasp_cert.specs.View.{branch_of, tree_of};
 ghost use Rattle.scasp_syntax.specs.declared.con.Con.{Con};
 ghost use Rattle.scasp_answer_lines.specs.Lines as lines;
 ghost use Rattle.scasp_answer_forms.specs.View.{line_of};
@@ -97,14 +97,36 @@ fn head_part(alloc: Global, parts: Vec<Part>) -> Result<Option<Part>, Memory>
     Ok(Some(Part::Case(Case::Head { children })))
 }
 
+/// The node, below which nothing stands.
+fn node_part(node: Node, parts: Vec<Part>) -> Result<Option<Part>, Memory>
+    ensures { IfOk result (λ part. listed_part part ≡ spec.node_part (tree_of node) ∷ []) }
+{
+    drop(parts);
+    Ok(Some(Part::Node(node)))
+}
+
+/// The case, below which nothing stands.
+fn case_part(case: Case, parts: Vec<Part>) -> Result<Option<Part>, Memory>
+    ensures { IfOk result (λ part. listed_part part ≡ spec.case_part (branch_of case) ∷ []) }
+{
+    drop(parts);
+    Ok(Some(Part::Case(case)))
+}
+
 impl Open {
     /// The line with this part below it.
     fn with_one(self, part: Part) -> Result<Open, Memory>
         ensures { IfOk result (λ line. open_of line ≡ spec.with_parts (open_of self) (part_of part ∷ [])) }
     {
         let Open { line, mut parts } = self;
-        parts.push(part)?;
-        Ok(Open { line, parts })
+        match parts.push(part) {
+            Ok(()) => Ok(Open { line, parts }),
+            Err(error) => {
+                drop(line);
+                drop(parts);
+                Err(Memory::from(error))
+            }
+        }
     }
 
     /// The line with this part below it, if there is one.
@@ -126,12 +148,12 @@ impl Open {
         match line {
             Line::Pos(atom, rule, terms) => pos_part(alloc, atom, rule as u64, terms, parts),
             Line::Neg(atom) => neg_part(alloc, atom, parts),
-            Line::Loop(lit, at) => Ok(Some(Part::Node(Node::Loop { lit, at: at as u64 }))),
-            Line::Seen(lit, at) => Ok(Some(Part::Node(Node::Seen { lit, at: at as u64 }))),
-            Line::Test(con, hint) => Ok(Some(Part::Node(Node::Test { con, hint }))),
+            Line::Loop(lit, at) => node_part(Node::Loop { lit, at: at as u64 }, parts),
+            Line::Seen(lit, at) => node_part(Node::Seen { lit, at: at as u64 }, parts),
+            Line::Test(con, hint) => node_part(Node::Test { con, hint }, parts),
             Line::Rule(rule) => Ok(cover_part(rule as u64, parts)),
             Line::Split(con) => split_part(alloc, con, parts),
-            Line::Void(hint) => Ok(Some(Part::Case(Case::Void { hint }))),
+            Line::Void(hint) => case_part(Case::Void { hint }, parts),
             Line::Leaf(item) => leaf_part(alloc, item as u64, parts),
             Line::Head => head_part(alloc, parts),
             Line::Header(_)
@@ -144,7 +166,11 @@ impl Open {
             | Line::Check(_)
             | Line::Clash(_)
             | Line::Map(_)
-            | Line::End => Ok(None),
+            | Line::End => {
+                drop(line);
+                drop(parts);
+                Ok(None)
+            }
         }
     }
 }

@@ -48,7 +48,10 @@ impl State {
             | Line::Split(_)
             | Line::Void(_)
             | Line::Leaf(_)
-            | Line::Head => Ok(Placing::OutOfOrder),
+            | Line::Head => {
+                drop(line);
+                Ok(Placing::OutOfOrder)
+            }
         }
     }
 

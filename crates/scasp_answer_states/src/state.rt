@@ -97,8 +97,13 @@ impl State {
         requires { line_fits (line_of line) ≡ true }
         ensures { Follows (Some (states.with_opens (state_of self.old) (states.opened (line_of line) ∷ open_of top ∷ opens_of self.old.opens) (certificate_of self.old.block.cert))) result self.new }
     {
-        self.opens.push(top)?;
-        self.open(alloc, line)
+        match self.opens.push(top) {
+            Ok(()) => self.open(alloc, line),
+            Err(error) => {
+                drop(line);
+                Err(error)
+            }
+        }
     }
 
     /// Opens the line below the innermost open one, where it may stand there.
@@ -109,6 +114,8 @@ impl State {
         if top.takes(&line) {
             self.open_under(alloc, top, line)
         } else {
+            drop(top);
+            drop(line);
             Ok(Placing::OutOfOrder)
         }
     }
@@ -171,9 +178,16 @@ impl State {
         requires { line_fits (line_of line) ≡ true }
         ensures { Follows (states.next_state (state_of self.old) (at depth (line_of line))) result self.new }
     {
-        match close_to(alloc, depth, &mut self.opens, &mut self.block.cert)? {
-            Placing::Stands => self.stand_below(alloc, line),
-            Placing::OutOfOrder => Ok(Placing::OutOfOrder),
+        match close_to(alloc, depth, &mut self.opens, &mut self.block.cert) {
+            Ok(Placing::Stands) => self.stand_below(alloc, line),
+            Ok(Placing::OutOfOrder) => {
+                drop(line);
+                Ok(Placing::OutOfOrder)
+            }
+            Err(error) => {
+                drop(line);
+                Err(error)
+            }
         }
     }
 }

@@ -4,8 +4,8 @@ use Rattle.std.proofs.lemmas.Str.{IsUtf8-from_ascii}
 use Rattle.scasp_lexis.proofs.NameLemmas.{name-IsAscii}
 use Rattle.scasp_answer_lines.proofs.words.name_at.Goals as goal
 
-pub unreachable-requires : goal.unreachable-requires
-unreachable-requires c =
+pub from_utf8_unchecked-requires : goal.from_utf8_unchecked-requires
+from_utf8_unchecked-requires c =
     let bytes = c.args.bytes.now in
     let P : ℕ → Type 0 = λ n. IsAscii (take n bytes) in
-    c.in-Err.ensures.cases.0 (IsUtf8-from_ascii _ (subst P (sym c.name_len.ensures) (name-IsAscii bytes)))
+    IsUtf8-from_ascii _ (subst P (sym c.name_len.ensures) (name-IsAscii bytes))

@@ -5,11 +5,11 @@ use Rattle.scasp_answer_parts.proofs.open_line.Open.into_part.Goals as goal
 pub overflow_cast-rule : goal.overflow_cast-rule
 overflow_cast-rule c = let h = rw c.in-Pos.is at c.args.self.fits in let k : c.in-Pos.rule < 2 ^ 64 = pos-fits _ _ _ h in omega (arith, k)
 
-pub overflow_cast-result : goal.overflow_cast-result
-overflow_cast-result c = let h = rw c.in-Loop.is at c.args.self.fits in let k : c.in-Loop.at < 2 ^ 64 = loop-fits _ _ h in omega (arith, k)
+pub overflow_cast-at : goal.overflow_cast-at
+overflow_cast-at c = let h = rw c.in-Loop.is at c.args.self.fits in let k : c.in-Loop.at < 2 ^ 64 = loop-fits _ _ h in omega (arith, k)
 
-pub overflow_cast-result-in-Seen : goal.overflow_cast-result-in-Seen
-overflow_cast-result-in-Seen c = let h = rw c.in-Seen.is at c.args.self.fits in let k : c.in-Seen.at < 2 ^ 64 = seen-fits _ _ h in omega (arith, k)
+pub overflow_cast-at-in-Seen : goal.overflow_cast-at-in-Seen
+overflow_cast-at-in-Seen c = let h = rw c.in-Seen.is at c.args.self.fits in let k : c.in-Seen.at < 2 ^ 64 = seen-fits _ _ h in omega (arith, k)
 
 pub overflow_cast-rule-in-Rule : goal.overflow_cast-rule-in-Rule
 overflow_cast-rule-in-Rule c = let h = rw c.in-Rule.is at c.args.self.fits in let k : c.in-Rule.rule < 2 ^ 64 = rule-fits _ h in omega (arith, k)

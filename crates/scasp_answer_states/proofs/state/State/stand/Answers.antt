@@ -3,8 +3,8 @@ use Rattle.scasp_answer_states.specs.View.{state_of}
 use Rattle.scasp_answer_states.proofs.StateLemmas.{next_closed}
 use Rattle.scasp_answer_states.proofs.state.State.stand.Goals as goal
 
-pub returns-in-Stands : goal.returns-in-Stands
-returns-in-Stands c =
-    let closed = rw c.in-Stands.is at c.in_ok-close_to.ensures in
+pub returns-in-Ok-Stands : goal.returns-in-Ok-Stands
+returns-in-Ok-Stands c =
+    let closed = rw c.in-Ok-Stands.field-0-is at c.in-Ok-Stands.ensures in
     let e = next_closed (state_of c.args.self.now) c.args.depth (line_of c.args.line) _ _ closed in
     rw e c.stand_below.ensures

@@ -1,0 +1,35 @@
+//! Tokens of one byte.
+ghost use Rattle.std.specs.Prelude.{◌≡◌};
+ghost use Rattle.scasp_answer_lines.specs.Tokens.{sign_token, is_blank};
+ghost use Rattle.scasp_answer_lines.specs.View.{token_of};
+
+use crate::token::Token;
+
+/// The token of a byte with which none of more bytes begins.
+pub fn sign_token<'a>(byte: u8) -> Token<'a>
+    ensures { token_of result ≡ sign_token byte }
+{
+    match byte {
+        b'-' => Token::Minus,
+        b'+' => Token::Plus,
+        b'*' => Token::Star,
+        b',' => Token::Comma,
+        b'|' => Token::Bar,
+        b'(' => Token::Paren,
+        b')' => Token::Close,
+        b'[' => Token::Bracket,
+        b']' => Token::Unbracket,
+        _ => Token::Sign(byte),
+    }
+}
+
+/// Whether the text is one blank.
+pub fn is_blank(text: &[u8]) -> bool
+    ensures { result ≡ is_blank text.now }
+{
+    match text {
+        [] => false,
+        [byte] => *byte == b' ',
+        [_, _, ..] => false,
+    }
+}
