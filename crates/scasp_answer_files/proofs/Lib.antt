@@ -1,2 +1,3 @@
 mod ByteLemmas
 mod ReadLemmas
+pub mod TextLemmas

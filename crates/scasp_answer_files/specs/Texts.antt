@@ -2,7 +2,7 @@
 use Rattle.std.specs.Prelude.{ℕ, if◌then◌else◌, List, [], ◌∷◌, drop}
 use Rattle.scasp_name.specs.Texts.{with_text}
 use Rattle.scasp_answer_lines.specs.Tokens.{Token, word, quoted, tokens_in}
-use Rattle.scasp_answers.specs.Files.{Split, split_lines, is_remark, indent}
+use Rattle.scasp_answers.specs.Files.{split_lines, is_remark, indent}
 
 -- a word or a quoted text may be a name
 abbrev pub with_token : List (List ℕ) → Token → List (List ℕ)

@@ -44,9 +44,8 @@ fn add_token(alloc: Global, token: Token<'_>, names: &mut Names) -> Result<(), M
 fn add_tokens(alloc: Global, cursor: &mut Cursor<'_>, names: &mut Names) -> Result<(), Memory>
     ensures { OnOk result (names.new ≡ spec.with_tokens names.old cursor.old) }
 {
-    while let Some(token) = cursor.next() {
-        add_token(alloc, token, names)?;
-        cursor.take();
+    while let Some(text) = cursor.pop_text() {
+        add_token(alloc, text, names)?;
     }
     Ok(())
 }

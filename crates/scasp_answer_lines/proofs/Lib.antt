@@ -1,1 +1,4 @@
+pub mod PastLemmas
+pub mod SignLemmas
+pub mod TextLemmas
 pub mod TokenLemmas

@@ -26,7 +26,7 @@ pub data Token : Type 0 where
   bracket : Token
   unbracket : Token
   sign : ℕ → Token
-  bad : Token  -- a byte at which no token begins as it is printed
+  bad : Token  -- a byte at which no token begins as it is printed, with the text behind it where it is a quote
 
 unfoldable pub token_text : Token → List ℕ
 token_text (word w) = w
@@ -101,12 +101,17 @@ abbrev pub quoted_length : Bool → List ℕ → Option ℕ
 quoted_length is_escaped [] = None
 quoted_length is_escaped (b ∷ bs) = length_by (quote_step is_escaped b) (λ e. quoted_length e bs)
 
--- a quote, the bytes of a text that needs quotes, and a quote
-abbrev pub between_quotes : List ℕ → Front
-between_quotes bytes = if is_utf8 bytes && not (is_plain bytes) then front (quoted (text_of bytes)) (length bytes + 1) else front bad 0
+-- the bytes between two quotes are those of a text that needs quotes
+abbrev pub quoted_token : List ℕ → Token
+quoted_token bytes = if is_utf8 bytes && not (is_plain bytes) then quoted (text_of bytes) else bad
 
+-- the bytes between two quotes, and the second quote
+abbrev pub between_quotes : List ℕ → Front
+between_quotes bytes = front (quoted_token bytes) (length bytes + 1)
+
+-- all behind a quote, where no quote ends the text: so no byte is gone through once more from another quote
 abbrev pub quoted_front : List ℕ → Front
-quoted_front bs = elim (quoted_length false bs) [ None ↦ front bad 0 | Some n ↦ between_quotes (take n bs) ]
+quoted_front bs = elim (quoted_length false bs) [ None ↦ front bad (length bs) | Some n ↦ between_quotes (take n bs) ]
 
 abbrev pub sign_token : ℕ → Token
 sign_token b =
@@ -114,11 +119,9 @@ sign_token b =
     else (if b == 124 then bar else (if b == 40 then paren else (if b == 41 then close
     else (if b == 91 then bracket else (if b == 93 then unbracket else sign b))))))))
 
--- the text is one blank
-abbrev pub is_blank : List ℕ → Bool
-is_blank [] = false
-is_blank (b ∷ []) = b == 32
-is_blank (b ∷ c ∷ bs) = false
+-- a byte with which only a token of one byte begins
+abbrev pub is_sign : ℕ → Bool
+is_sign b = not (is_lower b || is_digit b || (b == 86) || (b == 39))
 
 abbrev pub word_front : List ℕ → Front
 word_front text = front (word text) (length text - 1)

@@ -1,5 +1,7 @@
 -- The tokens that the code has, as values.
-use Rattle.std.specs.Prelude.{◌≡◌, ℕ, Bool, true, false, List, [], ◌∷◌, Option, None, Some, Result, Ok, Err}
+use Rattle.std.specs.Prelude.{◌≡◌, ◌≢◌, ◌==◌, ◌||◌, ℕ, Bool, true, false, List, [], ◌∷◌, Option, None, Some, Result, Ok, Err}
+use Rattle.std.specs.List.{filter}
+use Rattle.scasp_lexis.specs.Bytes.{is_lower}
 use Rattle.scasp_lexis.specs.Quoted.{text_of}
 use Rattle.scasp_answer_lines.specs.declared.token.Token.{Token as ThisToken}
 use Rattle.scasp_answer_lines.specs.declared.token.Token.TheVariants as this
@@ -7,7 +9,7 @@ use Rattle.scasp_answer_lines.specs.declared.token.Front.{Front as ThisFront}
 use Rattle.scasp_answer_lines.specs.declared.stop.Stop.{Stop}
 use Rattle.scasp_answer_lines.specs.declared.stop.Stop.TheVariants.{NoForm, Memory}
 use Rattle.scasp_answer_lines.specs.Readers.{Parsed}
-use Rattle.scasp_answer_lines.specs.Tokens.{Token, word, quoted, variable, digits, fraction, minus, plus, star, comma, bar, paren, close, bracket, unbracket, sign, bad, Front, front, tokens_in}
+use Rattle.scasp_answer_lines.specs.Tokens.{Token, word, quoted, variable, digits, fraction, minus, plus, star, comma, bar, paren, close, bracket, unbracket, sign, bad, Front, front}
 
 abbrev pub token_of : ThisToken → Token
 token_of (this.Word text) = word text.now
@@ -32,14 +34,44 @@ front_of f = front (token_of f.token) f.more
 
 -- ---- the tokens that are left
 
--- the next token, and those of the bytes behind it; without a next one none is left
-abbrev pub tokens_of : Option ThisToken → List ℕ → List Token
-tokens_of None bytes = []
-tokens_of (Some t) bytes = token_of t ∷ tokens_in bytes
-
 abbrev pub first_token : List Token → Option Token
 first_token [] = None
 first_token (t ∷ ts) = Some t
+
+-- a word or a quoted text, which may be a name
+abbrev pub is_text : Token → Bool
+is_text (word w) = true
+is_text (quoted q) = true
+is_text (variable x) = false
+is_text (digits n) = false
+is_text (fraction n d) = false
+is_text minus = false
+is_text plus = false
+is_text star = false
+is_text comma = false
+is_text bar = false
+is_text paren = false
+is_text close = false
+is_text bracket = false
+is_text unbracket = false
+is_text (sign b) = false
+is_text bad = false
+
+abbrev pub texts_of : List Token → List Token
+texts_of ts = filter is_text ts
+
+-- no text begins with any other byte
+abbrev pub begins_text : ℕ → Bool
+begins_text b = is_lower b || (b == 39)
+
+abbrev pub is_over : List Token → Bool
+is_over [] = true
+is_over (t ∷ ts) = false
+
+-- the token was next, and these stand behind it; or it was not, and none is taken
+abbrev pub Shifts : Bool → Token → List Token → List Token → Type 0
+Shifts true t old new = old ≡ t ∷ new
+Shifts false t old new = (first_token old ≢ Some t) × (new ≡ old)
 
 -- the tokens were next, and these stand behind them; or they were not
 abbrev pub Passes : Bool → Option (List Token) → List Token → Type 0

@@ -1,96 +1,54 @@
 //! The tokens of a line, one after the other.
-ghost use Rattle.std.specs.Prelude.{◌≡◌, ◌<◌, ◌≤◌, ◌∷◌, [], drop, length, false, Some, IfOk};
+ghost use Rattle.std.specs.Prelude.{◌≡◌, ◌<◌, ◌≤◌, ◌∷◌, [], drop, length, true, false, IfOk, IfSome, IfNone, None};
 ghost use Rattle.std.specs.Option.{option_map};
-ghost use Rattle.scasp_answer_lines.specs.Tokens.{first_front, sign, tokens_in};
+ghost use Rattle.scasp_answer_lines.specs.Tokens as spec;
 ghost use Rattle.scasp_answer_lines.specs.Readers.{number_at, past, past_text};
-ghost use Rattle.scasp_answer_lines.specs.View.{token_of, front_of, first_token, Passes, Reads, Takes};
+ghost use Rattle.scasp_answer_lines.specs.View.{token_of, first_token, is_over, texts_of, Passes, Reads, Shifts, Takes};
 
-use crate::numbers::{digits_at, digits_below, number_front, variable_front};
-use crate::quotes::quoted_front;
-use crate::same::{is_same, is_sign};
-use crate::signs::{is_blank, sign_token};
+use crate::front::{front_at, is_sign, text_front};
+use crate::same::is_same;
 use crate::stop::Stop;
-use crate::token::{Front, Token};
-use crate::words::{is_lower, word_front};
+use crate::token::Token;
 use std::marker::Model;
 
-/// The tokens that are left of a line. The next one is kept; the others are made as they are taken.
+/// The tokens that are left of a line. Each is made from its bytes where it is asked for.
 #[derive(Drop)]
 pub struct Cursor<'a> {
-    next: Option<Token<'a>>,
     rest: &'a [u8],
 }
 
 impl<'a> Model for Cursor<'a> {
     ghost use Rattle.std.specs.Prelude.{List};
-    ghost use Rattle.scasp_answer_lines.specs.Tokens.{Token};
-    ghost use Rattle.scasp_answer_lines.specs.View.{tokens_of};
+    ghost use Rattle.scasp_answer_lines.specs.Tokens.{Token, tokens_in};
 
     ghost Value = { List Token };
 
-    ghost view = { λ c. tokens_of c.next c.rest.now };
+    ghost view = { λ c. tokens_in c.rest.now };
 }
 
 impl<'a> Cursor<'a> {
     /// The tokens of the bytes.
-    #[tactic(auto, unfolding(crate::specs::Tokens::tokens_in))]
     pub fn new(bytes: &'a [u8]) -> Cursor<'a>
-        ensures { result ≡ tokens_in bytes.now }
+        ensures { result ≡ spec.tokens_in bytes.now }
     {
-        match bytes {
-            [] => Cursor {
-                next: None,
-                rest: bytes,
-            },
-            [first, rest @ ..] => Cursor::beginning(*first, rest, bytes),
-        }
-    }
-
-    /// The tokens of this byte with these behind it; both together are `bytes`.
-    #[tactic(auto, unfolding(crate::specs::Tokens::tokens_in))]
-    fn beginning(first: u8, rest: &'a [u8], bytes: &'a [u8]) -> Cursor<'a>
-        requires { bytes.now ≡ first ∷ rest.now }
-        ensures { result ≡ tokens_in bytes.now }
-    {
-        if is_lower(first) {
-            Cursor::behind(word_front(bytes), bytes)
-        } else if first.is_ascii_digit() {
-            let whole = digits_at(bytes);
-            Cursor::behind(
-                number_front(whole, digits_below(&bytes[whole.len()..])),
-                bytes,
-            )
-        } else if first == b'V' {
-            Cursor::behind(variable_front(digits_at(rest)), bytes)
-        } else if first == b'\'' {
-            Cursor::behind(quoted_front(rest), bytes)
-        } else {
-            Cursor {
-                next: Some(sign_token(first)),
-                rest,
-            }
-        }
-    }
-
-    /// The tokens of the bytes, of which this is the first.
-    fn behind(front: Front<'a>, bytes: &'a [u8]) -> Cursor<'a>
-        requires first { first_front bytes.now ≡ Some (front_of front) }
-        requires within { front.more < length bytes.now }
-        ensures { result ≡ tokens_in bytes.now }
-    {
-        Cursor {
-            next: Some(front.token),
-            rest: &bytes[front.more + 1..],
-        }
+        Cursor { rest: bytes }
     }
 
     /// The same tokens once more.
     pub fn again(&self) -> Cursor<'a>
         ensures { result ≡ self.now }
     {
-        Cursor {
-            next: self.next,
-            rest: self.rest,
+        Cursor { rest: self.rest }
+    }
+
+    /// Whether no token is left.
+    #[tactic(auto, unfolding(crate::specs::Tokens::tokens_in))]
+    pub fn is_over(&self) -> bool
+        ensures { result ≡ is_over self.now }
+    {
+        match self.rest {
+            [] => true,
+            [_, ..] => false,
         }
     }
 
@@ -98,15 +56,64 @@ impl<'a> Cursor<'a> {
     pub fn next(&self) -> Option<Token<'a>>
         ensures { option_map token_of result ≡ first_token self.now }
     {
-        self.next
+        match self.rest {
+            [] => None,
+            [first, behind @ ..] => Some(front_at(*first, behind, self.rest).token),
+        }
+    }
+
+    /// Takes the next token, and gives it.
+    pub fn pop(&mut self) -> Option<Token<'a>>
+        ensures token { option_map token_of result ≡ first_token self.old }
+        ensures rest { self.new ≡ drop 1 self.old }
+    {
+        let rest = self.rest;
+        match rest {
+            [] => None,
+            [first, behind @ ..] => {
+                let front = front_at(*first, behind, rest);
+                self.rest = &rest[front.more + 1..];
+                Some(front.token)
+            }
+        }
+    }
+
+    /// Takes the tokens up to the next text that may be a name, and gives it, where there is one.
+    pub fn pop_text(&mut self) -> Option<Token<'a>>
+        ensures some { IfSome result (λ text. texts_of self.old ≡ token_of text ∷ texts_of self.new) }
+        ensures none { IfNone result (texts_of self.old ≡ []) }
+    {
+        let mut left = self.rest;
+        while let [first, behind @ ..] = left {
+            let (text, rest) = text_front(*first, behind, left);
+            left = rest;
+            if text.is_some() {
+                self.rest = left;
+                return text;
+            }
+        }
+        None
     }
 
     /// Takes the next token.
     pub fn take(&mut self)
         ensures { self.new ≡ drop 1 self.old }
     {
-        if self.next.is_some() {
-            *self = Cursor::new(self.rest);
+        let _token = self.pop();
+    }
+
+    /// Takes the next token where it is this byte, and tells whether it was. Only a token of one byte begins with it.
+    #[tactic(auto, unfolding(crate::specs::Tokens::tokens_in))]
+    pub fn takes(&mut self, byte: u8) -> bool
+        requires { spec.is_sign byte ≡ true }
+        ensures { Shifts result (spec.sign_token byte) self.old self.new }
+    {
+        match self.rest {
+            [first, behind @ ..] if *first == byte => {
+                self.rest = behind;
+                true
+            }
+            _ => false,
         }
     }
 
@@ -116,29 +123,62 @@ impl<'a> Cursor<'a> {
         ensures kept { result ≡ false → self.new ≡ self.old }
         ensures no_longer { length self.new ≤ length self.old }
     {
-        match self.next() {
+        let mut behind = self.again();
+        match behind.pop() {
             None => false,
             Some(next) if is_same(token, next) => {
-                self.take();
+                *self = behind;
                 true
             }
             Some(_) => false,
         }
     }
 
-    /// Takes the next token where it is this byte, and tells whether it was.
-    fn taken_sign(&mut self, byte: u8) -> bool
-        ensures passes { Passes result (past (sign byte ∷ []) self.old) self.new }
-        ensures kept { result ≡ false → self.new ≡ self.old }
+    /// Takes the first token of the text where it is next, and gives what stands behind it in the text. The text is this
+    /// byte, and these behind it.
+    fn past_token<'b>(&mut self, first: u8, behind: &'b [u8], text: &'b [u8]) -> Option<&'b [u8]>
+        requires { text.now ≡ first ∷ behind.now }
+        ensures some { IfSome result (λ rest. past_text text.now self.old ≡ past_text rest.now self.new) }
+        ensures none { IfNone result (past_text text.now self.old ≡ None) }
+        ensures shorter { IfSome result (λ rest. length rest.now < length text.now) }
         ensures no_longer { length self.new ≤ length self.old }
     {
-        match self.next() {
-            None => false,
-            Some(next) if is_sign(byte, next) => {
-                self.take();
-                true
-            }
-            Some(_) => false,
+        let front = front_at(first, behind, text);
+        if self.taken(front.token) {
+            Some(&text[front.more + 1..])
+        } else {
+            None
+        }
+    }
+
+    /// The same where the first token is this byte.
+    fn past_sign<'b>(&mut self, first: u8, behind: &'b [u8], text: &'b [u8]) -> Option<&'b [u8]>
+        requires text { text.now ≡ first ∷ behind.now }
+        requires sign { spec.is_sign first ≡ true }
+        ensures some { IfSome result (λ rest. past_text text.now self.old ≡ past_text rest.now self.new) }
+        ensures none { IfNone result (past_text text.now self.old ≡ None) }
+        ensures shorter { IfSome result (λ rest. length rest.now < length text.now) }
+        ensures no_longer { length self.new ≤ length self.old }
+    {
+        if self.takes(first) {
+            Some(behind)
+        } else {
+            self.past_token(first, behind, text)
+        }
+    }
+
+    /// Takes the first token of the text where it is next, and gives what stands behind it in the text.
+    fn past_one<'b>(&mut self, first: u8, behind: &'b [u8], text: &'b [u8]) -> Option<&'b [u8]>
+        requires { text.now ≡ first ∷ behind.now }
+        ensures some { IfSome result (λ rest. past_text text.now self.old ≡ past_text rest.now self.new) }
+        ensures none { IfNone result (past_text text.now self.old ≡ None) }
+        ensures shorter { IfSome result (λ rest. length rest.now < length text.now) }
+        ensures no_longer { length self.new ≤ length self.old }
+    {
+        if is_sign(first) {
+            self.past_sign(first, behind, text)
+        } else {
+            self.past_token(first, behind, text)
         }
     }
 
@@ -148,15 +188,12 @@ impl<'a> Cursor<'a> {
         ensures passes { Passes result (past_text text.now self.old) self.new }
         ensures no_longer { length self.new ≤ length self.old }
     {
-        if is_blank(text) {
-            return self.taken_sign(b' ');
-        }
-        let mut front = Cursor::new(text);
-        while let Some(token) = front.next() {
-            if !self.taken(token) {
-                return false;
+        let mut left = text;
+        while let [first, behind @ ..] = left {
+            match self.past_one(*first, behind, left) {
+                None => return false,
+                Some(rest) => left = rest,
             }
-            front.take();
         }
         true
     }
@@ -191,10 +228,9 @@ impl<'a> Cursor<'a> {
         ensures reads { Reads (λ n. n) (number_at self.old) result self.new }
         ensures shorter { IfOk result (λ n. length self.new < length self.old) }
     {
-        let Some(Token::Digits(number)) = self.next() else {
+        let Some(Token::Digits(number)) = self.pop() else {
             return Err(Stop::NoForm);
         };
-        self.take();
         Ok(number)
     }
 }

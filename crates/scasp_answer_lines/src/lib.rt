@@ -3,6 +3,7 @@
 
 mod bounds;
 mod cursor;
+mod front;
 mod numbers;
 mod quotes;
 mod same;

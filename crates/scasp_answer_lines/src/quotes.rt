@@ -1,16 +1,11 @@
 //! Texts in quotes.
 ghost use Rattle.std.specs.Prelude.{◌≡◌, ◌<◌, ◌≤◌, ◌+◌, false, length, IfSome};
-ghost use Rattle.scasp_answer_lines.specs.Tokens.{quote_step, quoted_length, between_quotes, quoted_front};
-ghost use Rattle.scasp_answer_lines.specs.View.{front_of};
+ghost use Rattle.scasp_answer_lines.specs.Tokens.{quote_step, quoted_length, quoted_token, quoted_front};
+ghost use Rattle.scasp_answer_lines.specs.View.{front_of, token_of};
 
 use crate::token::{Front, QuoteStep, Token};
 use crate::words::is_plain;
 use std::str;
-
-const BAD: Front<'static> = Front {
-    token: Token::Bad,
-    more: 0,
-};
 
 fn quote_step(is_escaped: bool, byte: u8) -> QuoteStep
     ensures { result ≡ quote_step is_escaped byte }
@@ -40,17 +35,14 @@ fn quoted_len(bytes: &[u8]) -> Option<usize>
     None
 }
 
-fn between_quotes(bytes: &[u8]) -> Front<'_>
-    ensures front { front_of result ≡ between_quotes bytes.now }
-    ensures within { result.more ≤ length bytes.now + 1 }
+/// The token that these bytes are between two quotes.
+fn quoted_token(bytes: &[u8]) -> Token<'_>
+    ensures { token_of result ≡ quoted_token bytes.now }
 {
     match str::from_utf8(bytes) {
-        Ok(text) if is_plain(text) => BAD,
-        Ok(text) => Front {
-            token: Token::Quoted(text),
-            more: bytes.len() + 1,
-        },
-        Err(_) => BAD,
+        Ok(text) if is_plain(text) => Token::Bad,
+        Ok(text) => Token::Quoted(text),
+        Err(_) => Token::Bad,
     }
 }
 
@@ -60,7 +52,13 @@ pub fn quoted_front(bytes: &[u8]) -> Front<'_>
     ensures within { result.more ≤ length bytes.now }
 {
     match quoted_len(bytes) {
-        None => BAD,
-        Some(len) => between_quotes(&bytes[..len]),
+        None => Front {
+            token: Token::Bad,
+            more: bytes.len(),
+        },
+        Some(len) => Front {
+            token: quoted_token(&bytes[..len]),
+            more: len + 1,
+        },
     }
 }

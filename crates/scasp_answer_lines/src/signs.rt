@@ -1,6 +1,6 @@
 //! Tokens of one byte.
 ghost use Rattle.std.specs.Prelude.{◌≡◌};
-ghost use Rattle.scasp_answer_lines.specs.Tokens.{sign_token, is_blank};
+ghost use Rattle.scasp_answer_lines.specs.Tokens.{sign_token};
 ghost use Rattle.scasp_answer_lines.specs.View.{token_of};
 
 use crate::token::Token;
@@ -20,16 +20,5 @@ pub fn sign_token<'a>(byte: u8) -> Token<'a>
         b'[' => Token::Bracket,
         b']' => Token::Unbracket,
         _ => Token::Sign(byte),
-    }
-}
-
-/// Whether the text is one blank.
-pub fn is_blank(text: &[u8]) -> bool
-    ensures { result ≡ is_blank text.now }
-{
-    match text {
-        [] => false,
-        [byte] => *byte == b' ',
-        [_, _, ..] => false,
     }
 }

@@ -4,10 +4,9 @@ use Rattle.std.specs.Option.{option_map}
 use Rattle.std.specs.Prelude.{if◌then◌else◌}
 use Rattle.std.specs.Str.{bytes_eq}
 use Rattle.std.proofs.lemmas.Bool.{eqb-true}
-use Rattle.scasp_syntax.specs.Tm.{Tm, app, nil}
+use Rattle.scasp_syntax.specs.Tm.{Tm}
 use Rattle.scasp_answer_lines.specs.Tokens.{Token, word, quoted, variable, digits, fraction, minus, plus, star, comma, bar, paren, close, bracket, unbracket, sign, bad}
 use Rattle.scasp_answer_lines.specs.Names.{name_of}
-use Rattle.scasp_answer_lines.specs.Readers.{past}
 use Rattle.scasp_answer_lines.specs.Terms.{Bracket, call, elements, called, constant, whole, quotient, wants, ends, elements_at, listed_until}
 use Rattle.scasp_answer_lines.specs.View.{first_token}
 use Rattle.scasp_answer_terms.specs.Levels.{named}
@@ -111,26 +110,7 @@ module _ (place : List ℕ → ℕ) (o : List Bracket) (b : List Tm) where
 
   -- ---- brackets
 
-  pub list-closed : (ts rest : List Token) → past (unbracket ∷ []) ts ≡ Some rest → wants place o b (bracket ∷ ts) ≡ ends place o b (Some (app 0 nil)) rest
-  list-closed [] rest e = cc
-  list-closed (word v ∷ ts) rest e = cc
-  list-closed (quoted v ∷ ts) rest e = cc
-  list-closed (variable x ∷ ts) rest e = cc
-  list-closed (digits n ∷ ts) rest e = cc
-  list-closed (fraction n d ∷ ts) rest e = cc
-  list-closed (minus ∷ ts) rest e = cc
-  list-closed (plus ∷ ts) rest e = cc
-  list-closed (star ∷ ts) rest e = cc
-  list-closed (comma ∷ ts) rest e = cc
-  list-closed (bar ∷ ts) rest e = cc
-  list-closed (paren ∷ ts) rest e = cc
-  list-closed (close ∷ ts) rest e = cc
-  list-closed (bracket ∷ ts) rest e = cc
-  list-closed (unbracket ∷ ts) rest e = let same : ts ≡ rest = cc in ap (ends place o b (Some (app 0 nil))) same
-  list-closed (sign s ∷ ts) rest e = cc
-  list-closed (bad ∷ ts) rest e = cc
-
-  pub list-open : (ts : List Token) → past (unbracket ∷ []) ts ≡ None → wants place o b (bracket ∷ ts) ≡ wants place (elements b ∷ o) [] ts
+  pub list-open : (ts : List Token) → first_token ts ≢ Some unbracket → wants place o b (bracket ∷ ts) ≡ wants place (elements b ∷ o) [] ts
   list-open [] e = refl
   list-open (word v ∷ ts) e = refl
   list-open (quoted v ∷ ts) e = refl
@@ -145,30 +125,11 @@ module _ (place : List ℕ → ℕ) (o : List Bracket) (b : List Tm) where
   list-open (paren ∷ ts) e = refl
   list-open (close ∷ ts) e = refl
   list-open (bracket ∷ ts) e = refl
-  list-open (unbracket ∷ ts) e = cc
+  list-open (unbracket ∷ ts) e = absurd (e refl)
   list-open (sign s ∷ ts) e = refl
   list-open (bad ∷ ts) e = refl
 
-  pub named-open : (f : ℕ) (ts rest : List Token) → past (paren ∷ []) ts ≡ Some rest → named place o b f ts ≡ wants place (call f b ∷ o) [] rest
-  named-open f [] rest e = cc
-  named-open f (word v ∷ ts) rest e = cc
-  named-open f (quoted v ∷ ts) rest e = cc
-  named-open f (variable x ∷ ts) rest e = cc
-  named-open f (digits n ∷ ts) rest e = cc
-  named-open f (fraction n d ∷ ts) rest e = cc
-  named-open f (minus ∷ ts) rest e = cc
-  named-open f (plus ∷ ts) rest e = cc
-  named-open f (star ∷ ts) rest e = cc
-  named-open f (comma ∷ ts) rest e = cc
-  named-open f (bar ∷ ts) rest e = cc
-  named-open f (paren ∷ ts) rest e = let same : ts ≡ rest = cc in ap (wants place (call f b ∷ o) []) same
-  named-open f (close ∷ ts) rest e = cc
-  named-open f (bracket ∷ ts) rest e = cc
-  named-open f (unbracket ∷ ts) rest e = cc
-  named-open f (sign s ∷ ts) rest e = cc
-  named-open f (bad ∷ ts) rest e = cc
-
-  pub named-alone : (f : ℕ) (ts : List Token) → past (paren ∷ []) ts ≡ None → named place o b f ts ≡ ends place o b (called f []) ts
+  pub named-alone : (f : ℕ) (ts : List Token) → first_token ts ≢ Some paren → named place o b f ts ≡ ends place o b (called f []) ts
   named-alone f [] e = refl
   named-alone f (word v ∷ ts) e = refl
   named-alone f (quoted v ∷ ts) e = refl
@@ -180,7 +141,7 @@ module _ (place : List ℕ → ℕ) (o : List Bracket) (b : List Tm) where
   named-alone f (star ∷ ts) e = refl
   named-alone f (comma ∷ ts) e = refl
   named-alone f (bar ∷ ts) e = refl
-  named-alone f (paren ∷ ts) e = cc
+  named-alone f (paren ∷ ts) e = absurd (e refl)
   named-alone f (close ∷ ts) e = refl
   named-alone f (bracket ∷ ts) e = refl
   named-alone f (unbracket ∷ ts) e = refl
@@ -189,26 +150,7 @@ module _ (place : List ℕ → ℕ) (o : List Bracket) (b : List Tm) where
 
 -- ---- lists of terms in brackets
 
-pub elements-none : (place : List ℕ → ℕ) (ts rest : List Token) → past (unbracket ∷ []) ts ≡ Some rest → elements_at place ts ≡ Some (nil, rest)
-elements-none place [] rest e = cc
-elements-none place (word v ∷ ts) rest e = cc
-elements-none place (quoted v ∷ ts) rest e = cc
-elements-none place (variable x ∷ ts) rest e = cc
-elements-none place (digits n ∷ ts) rest e = cc
-elements-none place (fraction n d ∷ ts) rest e = cc
-elements-none place (minus ∷ ts) rest e = cc
-elements-none place (plus ∷ ts) rest e = cc
-elements-none place (star ∷ ts) rest e = cc
-elements-none place (comma ∷ ts) rest e = cc
-elements-none place (bar ∷ ts) rest e = cc
-elements-none place (paren ∷ ts) rest e = cc
-elements-none place (close ∷ ts) rest e = cc
-elements-none place (bracket ∷ ts) rest e = cc
-elements-none place (unbracket ∷ ts) rest e = let same : ts ≡ rest = cc in ap (λ l. Some (nil, l)) same
-elements-none place (sign s ∷ ts) rest e = cc
-elements-none place (bad ∷ ts) rest e = cc
-
-pub elements-some : (place : List ℕ → ℕ) (ts : List Token) → past (unbracket ∷ []) ts ≡ None → elements_at place ts ≡ listed_until (codes "]") place ts
+pub elements-some : (place : List ℕ → ℕ) (ts : List Token) → first_token ts ≢ Some unbracket → elements_at place ts ≡ listed_until (codes "]") place ts
 elements-some place [] e = refl
 elements-some place (word v ∷ ts) e = refl
 elements-some place (quoted v ∷ ts) e = refl
@@ -223,6 +165,6 @@ elements-some place (bar ∷ ts) e = refl
 elements-some place (paren ∷ ts) e = refl
 elements-some place (close ∷ ts) e = refl
 elements-some place (bracket ∷ ts) e = refl
-elements-some place (unbracket ∷ ts) e = cc
+elements-some place (unbracket ∷ ts) e = absurd (e refl)
 elements-some place (sign s ∷ ts) e = refl
 elements-some place (bad ∷ ts) e = refl

@@ -1,13 +1,13 @@
 -- Fractions in lowest terms are numbers as they stand.
-use Rattle.std.proofs.Common.{◌≡◌, ◌≢◌, ◌∙◌, ℕ, zero, suc, ◌/◌, ◌^◌, ◌==◌, Bool, true, false, nat_lt, ℤ, pos, negsuc, ◌<ℤ◌, unsigned_abs, None, Some, refl, ap, arith}
+use Rattle.std.proofs.Common.{◌≡◌, ◌≢◌, ◌∙◌, ℕ, ◌/◌, ◌^◌, ◌==◌, Bool, true, false, nat_lt, ℤ, pos, negsuc, ◌<ℤ◌, unsigned_abs, None, Some, refl, ap, arith}
 use Rattle.std.specs.Prelude.{◌&&◌}
 use Rattle.std.specs.Int.RustNames.{int_lt}
 use Rattle.std.proofs.Math.Nat.{div-one}
 use Rattle.std.proofs.lemmas.Bool.{eqb-true}
 use Rattle.std.proofs.lemmas.Int.{ints}
 use Rattle.scasp_num.specs.Gcd.{gcd}
-use Rattle.scasp_num.specs.Number.{Number, InRange}
-use Rattle.scasp_num.specs.Arithmetic.{in_range, is_reduced, lowest, number, number_if, signed, signs_differ, within}
+use Rattle.scasp_num.specs.Number.{InRange}
+use Rattle.scasp_num.specs.Arithmetic.{is_reduced, lowest, number, number_if, signed, signs_differ, within}
 use Rattle.scasp_num.proofs.Numbers.{lt_ltb}
 
 number_if-none : (n d : ℤ) (t : Bool) (e : is_reduced n d ≡ t) → t ≡ false → number_if n d t e ≡ None

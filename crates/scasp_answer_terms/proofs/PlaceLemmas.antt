@@ -1,5 +1,5 @@
 -- The place of a text that a table has not.
-use Rattle.std.proofs.Common.{◌≡◌, ℕ, ◌+◌, length, Bool, true, false, ◌||◌, List, [], ◌∷◌, refl, ap, arith, if◌then◌else◌}
+use Rattle.std.proofs.Common.{◌≡◌, ℕ, length, Bool, true, false, ◌||◌, List, [], ◌∷◌, refl, arith}
 use Rattle.std.specs.Str.{bytes_eq}
 use Rattle.scasp_name.specs.Texts.{has_text}
 use Rattle.scasp_phrase.specs.Names.{place_in}

@@ -15,8 +15,7 @@ use std::alloc::Global;
 fn arguments(alloc: Global, cursor: &mut Cursor<'_>, names: &Names) -> Result<Terms, Stop>
     ensures { Reads (λ ts. ts) (arguments_at (place_in names.now) cursor.old) result cursor.new }
 {
-    if let Some(Token::Paren) = cursor.next() {
-        cursor.take();
+    if cursor.takes(b'(') {
         return listed_until(alloc, b")", cursor, names);
     }
     Ok(Terms::new(alloc))
@@ -40,8 +39,7 @@ fn unsigned_atom(
 pub fn atom(alloc: Global, cursor: &mut Cursor<'_>, names: &Names) -> Result<Atom, Stop>
     ensures { Reads (λ a. a) (atom_at (place_in names.now) cursor.old) result cursor.new }
 {
-    if let Some(Token::Minus) = cursor.next() {
-        cursor.take();
+    if cursor.takes(b'-') {
         return unsigned_atom(alloc, true, cursor, names);
     }
     unsigned_atom(alloc, false, cursor, names)

@@ -41,10 +41,9 @@ impl Levels {
         ensures goes { Goes (place_in names.now) (wants (place_in names.now) (opens_of self.old) (before_of self.old) cursor.old) result self.new cursor.new }
         ensures left { IfOk result (λ next. left next cursor.new ≤ length cursor.old) }
     {
-        let Some(first) = cursor.next() else {
+        let Some(first) = cursor.pop() else {
             return Err(Stop::NoForm);
         };
-        cursor.take();
         match first {
             Token::Variable(number) => Ok(Next::Ended(variable_term(number))),
             Token::Digits(size) => ended(whole(false, size)),
@@ -91,17 +90,18 @@ impl Levels {
         ensures goes { (place : List ℕ → ℕ) → Goes place (wants place (opens_of self.old) (before_of self.old) (minus ∷ cursor.old)) result self.new cursor.new }
         ensures left { IfOk result (λ next. left next cursor.new ≤ length cursor.old + 1) }
     {
-        if let Some(Token::Fraction(size, parts)) = cursor.next() {
-            cursor.take();
+        let Some(next) = cursor.pop() else {
+            return Err(Stop::NoForm);
+        };
+        if let Token::Fraction(size, parts) = next {
             return ended(quotient(true, size, parts));
         }
-        let Some(Token::Digits(size)) = cursor.next() else {
+        let Token::Digits(size) = next else {
             return Err(Stop::NoForm);
         };
         if size == 0 {
             return Err(Stop::NoForm);
         }
-        cursor.take();
         ended(whole(true, size))
     }
 
@@ -110,7 +110,7 @@ impl Levels {
         ensures goes { (place : List ℕ → ℕ) → Goes place (wants place (opens_of self.old) (before_of self.old) (bracket ∷ cursor.old)) result self.new cursor.new }
         ensures left { IfOk result (λ next. left next cursor.new ≤ length cursor.old + 1) }
     {
-        if cursor.taken(Token::Unbracket) {
+        if cursor.takes(b']') {
             return Ok(Next::Ended(Term::App(NIL, Terms::new(alloc))));
         }
         self.open_list(alloc)
@@ -131,7 +131,7 @@ impl Levels {
         ensures goes { (place : List ℕ → ℕ) → Goes place (named place (opens_of self.old) (before_of self.old) name cursor.old) result self.new cursor.new }
         ensures left { IfOk result (λ next. left next cursor.new ≤ length cursor.old + 1) }
     {
-        if cursor.taken(Token::Paren) {
+        if cursor.takes(b'(') {
             return self.open_call(alloc, name);
         }
         constant(alloc, name)

@@ -51,8 +51,7 @@ impl Levels {
         ensures left { IfOk result (λ next. left next cursor.new ≤ length cursor.old) }
     {
         self.put(term)?;
-        if let Some(Token::Comma) = cursor.next() {
-            cursor.take();
+        if cursor.takes(b',') {
             return Ok(Next::Wanted);
         }
         Ok(Next::Done)
@@ -71,15 +70,13 @@ impl Levels {
         ensures left { IfOk result (λ next. left next cursor.new ≤ length cursor.old) }
     {
         self.put(term)?;
-        if let Some(Token::Comma) = cursor.next() {
-            cursor.take();
+        if cursor.takes(b',') {
             self.open(Bracket::Call(name, around))?;
             return Ok(Next::Wanted);
         }
-        let Some(Token::Close) = cursor.next() else {
+        if !cursor.takes(b')') {
             return Err(Stop::NoForm);
-        };
-        cursor.take();
+        }
         let arguments = self.replaced(around);
         let term = called(alloc, name, arguments)?;
         ended(term)
@@ -97,21 +94,18 @@ impl Levels {
         ensures left { IfOk result (λ next. left next cursor.new ≤ length cursor.old) }
     {
         self.put(term)?;
-        if let Some(Token::Comma) = cursor.next() {
-            cursor.take();
+        if cursor.takes(b',') {
             self.open(Bracket::Elements(around))?;
             return Ok(Next::Wanted);
         }
-        if let Some(Token::Bar) = cursor.next() {
-            cursor.take();
+        if cursor.takes(b'|') {
             let elements = self.replaced(Vec::new(alloc));
             self.open(Bracket::Tail(elements, around))?;
             return Ok(Next::Wanted);
         }
-        let Some(Token::Unbracket) = cursor.next() else {
+        if !cursor.takes(b']') {
             return Err(Stop::NoForm);
-        };
-        cursor.take();
+        }
         let elements = self.replaced(around);
         let nil = Term::App(NIL, Terms::new(alloc));
         Ok(Next::Ended(list_of(alloc, elements, nil)?))
@@ -129,13 +123,12 @@ impl Levels {
         ensures goes { (place : List ℕ → ℕ) → Goes place (ends place (tail (map tm_of elements.items) (map tm_of around.items) ∷ opens_of self.old) (before_of self.old) (Some (tm_of term)) cursor.old) result self.new cursor.new }
         ensures left { IfOk result (λ next. left next cursor.new ≤ length cursor.old) }
     {
-        let Some(Token::Unbracket) = cursor.next() else {
+        if !cursor.takes(b']') {
             return Err(Stop::NoForm);
-        };
+        }
         if is_list(&term) {
             return Err(Stop::NoForm);
         }
-        cursor.take();
         let _ = self.replaced(around);
         Ok(Next::Ended(list_of(alloc, elements, term)?))
     }

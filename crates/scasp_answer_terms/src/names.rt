@@ -88,17 +88,16 @@ pub fn quoted_place(alloc: Global, names: &Names, quoted: &str) -> Result<NameId
 pub fn name(alloc: Global, cursor: &mut Cursor<'_>, names: &Names) -> Result<NameId, Stop>
     ensures { Reads (λ f. f) (name_at (place_in names.now) cursor.old) result cursor.new }
 {
-    if let Some(Token::Word(word)) = cursor.next() {
+    let next = cursor.pop();
+    if let Some(Token::Word(word)) = next {
         if word == "not" {
             return Err(Stop::NoForm);
         }
-        cursor.take();
         return Ok(place(names, word));
     }
-    let Some(Token::Quoted(quoted)) = cursor.next() else {
+    let Some(Token::Quoted(quoted)) = next else {
         return Err(Stop::NoForm);
     };
-    cursor.take();
     let name = quoted_place(alloc, names, quoted)?;
     Ok(name)
 }

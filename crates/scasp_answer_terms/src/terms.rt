@@ -88,7 +88,7 @@ pub fn listed_until(
 fn elements(alloc: Global, cursor: &mut Cursor<'_>, names: &Names) -> Result<Terms, Stop>
     ensures { Reads (λ ts. ts) (elements_at (place_in names.now) cursor.old) result cursor.new }
 {
-    if cursor.taken(Token::Unbracket) {
+    if cursor.takes(b']') {
         return Ok(Terms::new(alloc));
     }
     listed_until(alloc, b"]", cursor, names)

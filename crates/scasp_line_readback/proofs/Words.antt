@@ -93,7 +93,7 @@ between-front text u p =
 quoted-front : (text rest : List ℕ) → IsUtf8 text → is_plain text ≡ false → quoted_front (flat_map escaped text ++ 39 ∷ rest) ≡ front (quoted text) (length (flat_map escaped text) + 1)
 quoted-front text rest u p =
     let bytes = flat_map escaped text ++ 39 ∷ rest in
-    ap (λ o. elim o [ None ↦ front bad 0 | Some n ↦ between_quotes (take n bytes) ]) (length-escapes text rest)
+    ap (λ o. elim o [ None ↦ front bad (length bytes) | Some n ↦ between_quotes (take n bytes) ]) (length-escapes text rest)
     ∙ ap between_quotes (take-append_seam (flat_map escaped text) (39 ∷ rest)) ∙ between-front text u p
 
 pub quoted-read : (text rest : List ℕ) → IsUtf8 text → is_plain text ≡ false → tokens_in ((codes "'" ++ flat_map escaped text ++ codes "'") ++ rest) ≡ quoted text ∷ tokens_in rest

@@ -23,7 +23,7 @@ const FAULTY: File = File {
 };
 
 /// A file may have 67,108,864 bytes.
-static FILES: [File; 12] = [
+static FILES: [File; 14] = [
     // Blank lines, without a header and behind one.
     File {
         text: Pieces {
@@ -79,6 +79,27 @@ static FILES: [File; 12] = [
         text: Pieces {
             before: "scasp 1\n",
             piece: "x",
+            times: 67_108_855,
+            behind: "\n",
+            ..EMPTY
+        },
+        ..FAULTY
+    },
+    // One line of a text in quotes that does not end, and one of zeros.
+    File {
+        text: Pieces {
+            before: "scasp 1\n'",
+            piece: "\\'",
+            times: 33_554_427,
+            behind: "\n",
+            ..EMPTY
+        },
+        ..FAULTY
+    },
+    File {
+        text: Pieces {
+            before: "scasp 1\n",
+            piece: "0",
             times: 67_108_855,
             behind: "\n",
             ..EMPTY

@@ -1,6 +1,6 @@
-use Rattle.std.proofs.Common.{◌≡◌, ◌∙◌, ◌+◌, ◌<◌, ◌≤◌, take, drop, sym, ap, subst, length, arith}
+use Rattle.std.proofs.Common.{◌∙◌, ◌+◌, ◌<◌, take, drop, sym, ap, subst, length, arith}
 use Rattle.scasp_answers.specs.Files.{split_lines}
-use Rattle.scasp_answer_files.specs.Inside.{with_line, Splits}
+use Rattle.scasp_answer_files.specs.Inside.{with_line}
 use Rattle.scasp_answer_files.proofs.ByteLemmas.{split-rest, split-line}
 use Rattle.scasp_answer_files.proofs.bytes.line_len.Goals as goal
 

@@ -1,9 +1,10 @@
 use Rattle.std.proofs.Common.{◌≡◌, length}
+use Rattle.scasp_answer_lines.specs.View.{texts_of}
 use Rattle.scasp_answer_files.specs.Texts.{with_tokens}
 use Rattle.scasp_answer_files.proofs.names.add_tokens.Given as goal
 
-abbrev pub invariant-loop-token : goal.invariant-loop-token
-invariant-loop-token l = with_tokens l.names l.cursor ≡ with_tokens l.fn.names l.fn.cursor
+abbrev pub invariant-loop-text : goal.invariant-loop-text
+invariant-loop-text l = with_tokens l.names (texts_of l.cursor) ≡ with_tokens l.fn.names (texts_of l.fn.cursor)
 
-abbrev pub decreases-loop-token : goal.decreases-loop-token
-decreases-loop-token l = length l.cursor
+abbrev pub decreases-loop-text : goal.decreases-loop-text
+decreases-loop-text l = length (texts_of l.cursor)
