@@ -1,3 +1,4 @@
 mod ConLemmas
 mod FitLemmas
 mod LineLemmas
+mod WordLemmas

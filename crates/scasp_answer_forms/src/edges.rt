@@ -1,5 +1,5 @@
 //! Lines that stand at the left edge.
-ghost use Rattle.std.specs.Prelude.{◌≡◌, ◌++◌};
+ghost use Rattle.std.specs.Prelude.{◌≡◌, ℕ, List};
 ghost use Rattle.scasp_phrase.specs.Names.{place_in};
 ghost use Rattle.scasp_answer_lines.specs.Forms as spec;
 ghost use Rattle.scasp_answer_lines.specs.Lines as lines;
@@ -7,11 +7,14 @@ ghost use Rattle.scasp_answer_lines.specs.Readers.{made, number_at, behind_word}
 ghost use Rattle.scasp_answer_lines.specs.Terms.{list_at};
 ghost use Rattle.scasp_answer_lines.specs.Constraints.{con_at};
 ghost use Rattle.scasp_answer_lines.specs.View.{Reads};
+ghost use Rattle.scasp_answer_forms.specs.FirstWords.{text_of};
+ghost use Rattle.scasp_answer_forms.specs.declared.first_words.FirstWord.TheVariants as first;
 ghost use Rattle.scasp_answer_forms.specs.View.{line_of, end_of};
 
 use crate::constraints::constraint;
+use crate::first_words::{BlockWord, FileWord, FirstWord, first_word};
 use crate::line::{End, Line};
-use crate::nodes::node;
+use crate::nodes::{case, node};
 use crate::predicates::{clash, map};
 use crate::reasons::reason;
 use scasp_answer_lines::{Cursor, Stop};
@@ -108,6 +111,58 @@ fn check(cursor: &mut Cursor<'_>) -> Result<Line, Stop>
     Ok(Line::Check(spaced_number(cursor)?))
 }
 
+/// Takes the rest of a line between blocks, whose first word is this.
+fn file_line(word: FileWord, cursor: &mut Cursor<'_>) -> Result<Line, Stop>
+    ensures { (place : List ℕ → ℕ) → Reads line_of (behind_word (spec.forms place) (text_of (first.File word)) cursor.old) result cursor.new }
+{
+    match word {
+        FileWord::Scasp => header(cursor),
+        FileWord::Ended => ending(End::Ended, cursor),
+        FileWord::Stopped => ending(End::Stopped, cursor),
+        FileWord::Spent => ending(End::Spent, cursor),
+        FileWord::Overflow => ending(End::Overflow, cursor),
+        FileWord::Rejected => rejected(cursor),
+    }
+}
+
+/// The same of a line in a block that is of no tree.
+fn block_line(
+    alloc: Global,
+    word: BlockWord,
+    cursor: &mut Cursor<'_>,
+    names: &Names,
+) -> Result<Line, Stop>
+    ensures { Reads line_of (behind_word (spec.forms (place_in names.now)) (text_of (first.Block word)) cursor.old) result cursor.new }
+{
+    match word {
+        BlockWord::Answer => answer(alloc, cursor, names),
+        BlockWord::Given => given(alloc, cursor, names),
+        BlockWord::Sample => sample(alloc, cursor, names),
+        BlockWord::Tree => Ok(Line::Tree),
+        BlockWord::Check => check(cursor),
+        BlockWord::Clash => clash(alloc, cursor),
+        BlockWord::Map => map(alloc, cursor, names),
+        BlockWord::End => Ok(Line::End),
+    }
+}
+
+/// The same of any line.
+fn known_line(
+    alloc: Global,
+    word: FirstWord,
+    cursor: &mut Cursor<'_>,
+    names: &Names,
+) -> Result<Line, Stop>
+    ensures { Reads line_of (behind_word (spec.forms (place_in names.now)) (text_of word) cursor.old) result cursor.new }
+{
+    match word {
+        FirstWord::Node(word) => node(alloc, word, cursor, names),
+        FirstWord::Case(word) => case(alloc, word, cursor, names),
+        FirstWord::Block(word) => block_line(alloc, word, cursor, names),
+        FirstWord::File(word) => file_line(word, cursor),
+    }
+}
+
 /// Takes the rest of a line with this first word, which may be any.
 pub fn any_line(
     alloc: Global,
@@ -117,65 +172,8 @@ pub fn any_line(
 ) -> Result<Line, Stop>
     ensures { Reads line_of (behind_word (spec.forms (place_in names.now)) word.now cursor.old) result cursor.new }
 {
-    if word == "scasp" {
-        header(cursor)
-    } else if word == "ended" {
-        ending(End::Ended, cursor)
-    } else if word == "stopped" {
-        ending(End::Stopped, cursor)
-    } else if word == "spent" {
-        ending(End::Spent, cursor)
-    } else if word == "overflow" {
-        ending(End::Overflow, cursor)
-    } else if word == "rejected" {
-        rejected(cursor)
-    } else {
-        head_line(alloc, word, cursor, names)
-    }
-}
-
-/// The same of a line that stands in a block.
-fn head_line(
-    alloc: Global,
-    word: &str,
-    cursor: &mut Cursor<'_>,
-    names: &Names,
-) -> Result<Line, Stop>
-    ensures { let place = place_in names.now in
-        Reads line_of (behind_word (spec.head_forms place ++ spec.other_forms place ++ spec.node_forms place ++ spec.case_forms place) word.now cursor.old) result cursor.new }
-{
-    if word == "answer" {
-        answer(alloc, cursor, names)
-    } else if word == "given" {
-        given(alloc, cursor, names)
-    } else if word == "sample" {
-        sample(alloc, cursor, names)
-    } else if word == "tree" {
-        Ok(Line::Tree)
-    } else if word == "check" {
-        check(cursor)
-    } else {
-        other_line(alloc, word, cursor, names)
-    }
-}
-
-/// The same of a line in a block that stands behind its trees, or below a line.
-fn other_line(
-    alloc: Global,
-    word: &str,
-    cursor: &mut Cursor<'_>,
-    names: &Names,
-) -> Result<Line, Stop>
-    ensures { let place = place_in names.now in
-        Reads line_of (behind_word (spec.other_forms place ++ spec.node_forms place ++ spec.case_forms place) word.now cursor.old) result cursor.new }
-{
-    if word == "clash" {
-        clash(alloc, cursor)
-    } else if word == "map" {
-        map(alloc, cursor, names)
-    } else if word == "end" {
-        Ok(Line::End)
-    } else {
-        node(alloc, word, cursor, names)
+    match first_word(word) {
+        None => Err(Stop::NoForm),
+        Some(word) => known_line(alloc, word, cursor, names),
     }
 }

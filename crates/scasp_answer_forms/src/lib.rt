@@ -4,6 +4,7 @@
 mod bounds;
 mod constraints;
 mod edges;
+mod first_words;
 mod line;
 mod lines;
 mod nodes;

@@ -16,10 +16,12 @@ use std::alloc::Global;
 fn line(alloc: Global, cursor: &mut Cursor<'_>, names: &Names) -> Result<Line, Stop>
     ensures { Reads line_of (spec.line_at (place_in names.now) cursor.old) result cursor.new }
 {
-    let Some(Token::Word(word)) = cursor.next() else {
+    let Some(first) = cursor.pop() else {
         return Err(Stop::NoForm);
     };
-    cursor.take();
+    let Token::Word(word) = first else {
+        return Err(Stop::NoForm);
+    };
     any_line(alloc, word, cursor, names)
 }
 
@@ -30,7 +32,7 @@ pub fn line_in(alloc: Global, bytes: &[u8], names: &Names) -> Result<Line, Stop>
 {
     let mut cursor = Cursor::new(bytes);
     let line = line(alloc, &mut cursor, names)?;
-    if cursor.next().is_some() {
+    if !cursor.is_over() {
         drop(line);
         return Err(Stop::NoForm);
     }

@@ -1,5 +1,5 @@
 //! Lines of trees.
-ghost use Rattle.std.specs.Prelude.{◌≡◌, ◌++◌};
+ghost use Rattle.std.specs.Prelude.{◌≡◌};
 ghost use Rattle.scasp_phrase.specs.Names.{place_in};
 ghost use Rattle.scasp_answer_lines.specs.Forms as spec;
 ghost use Rattle.scasp_answer_lines.specs.Constraints.{con_at};
@@ -8,9 +8,12 @@ ghost use Rattle.scasp_answer_lines.specs.Lines as lines;
 ghost use Rattle.scasp_answer_lines.specs.Readers.{made, number_at, behind_word};
 ghost use Rattle.scasp_answer_lines.specs.Terms.{atom_at};
 ghost use Rattle.scasp_answer_lines.specs.View.{Reads};
+ghost use Rattle.scasp_answer_forms.specs.FirstWords.{text_of};
+ghost use Rattle.scasp_answer_forms.specs.declared.first_words.FirstWord.TheVariants as first;
 ghost use Rattle.scasp_answer_forms.specs.View.{line_of};
 
 use crate::edges::{spaced_con, spaced_number};
+use crate::first_words::{CaseWord, NodeWord};
 use crate::line::Line;
 use scasp_answer_lines::{Cursor, Stop};
 use scasp_answer_rows::hint;
@@ -113,41 +116,38 @@ fn leaf(cursor: &mut Cursor<'_>) -> Result<Line, Stop>
     Ok(Line::Leaf(spaced_number(cursor)?))
 }
 
-/// Takes the rest of a line with this first word, which is that of a node, a rule or a case.
-pub fn node(alloc: Global, word: &str, cursor: &mut Cursor<'_>, names: &Names) -> Result<Line, Stop>
-    ensures { let place = place_in names.now in
-        Reads line_of (behind_word (spec.node_forms place ++ spec.case_forms place) word.now cursor.old) result cursor.new }
+/// Takes the rest of a line of a node, whose first word is this.
+pub fn node(
+    alloc: Global,
+    word: NodeWord,
+    cursor: &mut Cursor<'_>,
+    names: &Names,
+) -> Result<Line, Stop>
+    ensures { Reads line_of (behind_word (spec.forms (place_in names.now)) (text_of (first.Node word)) cursor.old) result cursor.new }
 {
-    if word == "pos" {
-        pos(alloc, cursor, names)
-    } else if word == "neg" {
-        neg(alloc, cursor, names)
-    } else if word == "loop" {
-        repeated(alloc, cursor, names)
-    } else if word == "seen" {
-        seen(alloc, cursor, names)
-    } else if word == "test" {
-        test(alloc, cursor, names)
-    } else {
-        case(alloc, word, cursor, names)
+    match word {
+        NodeWord::Pos => pos(alloc, cursor, names),
+        NodeWord::Neg => neg(alloc, cursor, names),
+        NodeWord::Loop => repeated(alloc, cursor, names),
+        NodeWord::Seen => seen(alloc, cursor, names),
+        NodeWord::Test => test(alloc, cursor, names),
     }
 }
 
 /// The same of a line of a rule or a case.
-fn case(alloc: Global, word: &str, cursor: &mut Cursor<'_>, names: &Names) -> Result<Line, Stop>
-    ensures { Reads line_of (behind_word (spec.case_forms (place_in names.now)) word.now cursor.old) result cursor.new }
+pub fn case(
+    alloc: Global,
+    word: CaseWord,
+    cursor: &mut Cursor<'_>,
+    names: &Names,
+) -> Result<Line, Stop>
+    ensures { Reads line_of (behind_word (spec.forms (place_in names.now)) (text_of (first.Case word)) cursor.old) result cursor.new }
 {
-    if word == "rule" {
-        rule(cursor)
-    } else if word == "split" {
-        split(alloc, cursor, names)
-    } else if word == "void" {
-        void(alloc, cursor)
-    } else if word == "leaf" {
-        leaf(cursor)
-    } else if word == "head" {
-        Ok(Line::Head)
-    } else {
-        Err(Stop::NoForm)
+    match word {
+        CaseWord::Rule => rule(cursor),
+        CaseWord::Split => split(alloc, cursor, names),
+        CaseWord::Void => void(alloc, cursor),
+        CaseWord::Leaf => leaf(cursor),
+        CaseWord::Head => Ok(Line::Head),
     }
 }
