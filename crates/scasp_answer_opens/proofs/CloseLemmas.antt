@@ -1,9 +1,10 @@
 -- Open lines are closed one by one.
-use Rattle.std.proofs.Common.{◌≡◌, ◌≢◌, ◌∙◌, ℕ, ◌+◌, Bool, true, false, List, [], ◌∷◌, length, Option, None, Some, refl, sym, ap, arith}
+use Rattle.std.proofs.Common.{◌≡◌, ◌≢◌, ◌∙◌, ℕ, ◌+◌, ◌<◌, ◌≤◌, Bool, true, false, List, [], ◌∷◌, ◌++◌, length, Option, None, Some, refl, sym, ap, arith, append-nil}
 use Rattle.std.specs.Prelude.{◌==◌, ◌&&◌, if◌then◌else◌}
 use Rattle.std.proofs.lemmas.Bool.{eq-eqb, ne_eqb}
 use Rattle.scasp_cert.specs.Certificate.{Certificate}
-use Rattle.scasp_answers.specs.Open.{Open, Closed, is_whole, with_top, with_parts, parts_of, closed_from, closed_to}
+use Rattle.scasp_answers.specs.Open.{Open, Part, Closed, is_whole, with_top, parts_of, closed_from, closed_to}
+use Rattle.scasp_answer_opens.specs.View.{filled}
 
 pub closes_here : (depth : ℕ) (opens : List Open) (c : Certificate) → length opens ≡ depth → closed_to depth opens c ≡ Some (record { opens = opens; block = c })
 closes_here depth [] c h = rw (sym h) refl
@@ -34,28 +35,32 @@ pub not_whole : (depth : ℕ) (top : Open) (opens : List Open) (c : Certificate)
 not_whole depth top opens c w n = not-whole depth top opens c n w
 
 -- the last line is closed
-pub closes_last : (depth : ℕ) (top : Open) (old new : List Open) (c : Certificate) → is_whole top ≡ true → old ≡ [] → new ≡ [] → depth ≡ 0
-    → closed_from depth top old c ≡ closed_to depth new (with_top top c)
-closes_last depth top old new c w e f z =
-    ap (λ o. closed_from depth top o c) e
-    ∙ ap (λ d. closed_from d top [] c) z
-    ∙ last
-    ∙ sym (ap (λ o. closed_to depth o (with_top top c)) f ∙ ap (λ d. closed_to d [] (with_top top c)) z)
-  where
-    last : closed_from 0 top [] c ≡ closed_to 0 [] (with_top top c)
-    last = rw w refl
+pub closes_last : (depth : ℕ) (top : Open) (opens : List Open) (c : Certificate) → is_whole top ≡ true → length opens ≡ 0 → depth ≡ 0
+    → closed_from depth top opens c ≡ closed_to depth opens (with_top top c)
+closes_last depth top [] c w e z = rw (z, w) refl
+closes_last depth top (o ∷ opens) c w e z = absurd (omega (arith, e))
 
 -- no line is open around it
-pub closes_edge : (depth : ℕ) (top : Open) (old : List Open) (c : Certificate) → old ≡ [] → depth ≢ 0 → depth ≢ length old + 1 → closed_from depth top old c ≡ None
-closes_edge depth top old c e n m =
+pub closes_edge : (depth : ℕ) (top : Open) (opens : List Open) (c : Certificate) → length opens ≡ 0 → depth ≢ 0 → depth ≢ length opens + 1 → closed_from depth top opens c ≡ None
+closes_edge depth top [] c e n m =
     let t : (depth == 0) ≡ false = ne_eqb depth 0 n in
-    let u : (depth == 1) ≡ false = ne_eqb depth 1 (λ z. m (z ∙ ap (λ o. length o + 1) (sym e))) in
-    ap (λ o. closed_from depth top o c) e ∙ (rw (u, t) refl)
+    let u : (depth == 1) ≡ false = ne_eqb depth 1 m in
+    rw (u, t) refl
+closes_edge depth top (o ∷ opens) c e n m = absurd (omega (arith, e))
 
 -- it becomes a part of the line around it
-pub closes_into : (depth : ℕ) (top o : Open) (old around new : List Open) (c : Certificate) → is_whole top ≡ true → depth ≢ length old + 1 → old ≡ o ∷ around
-    → new ≡ with_parts o (parts_of top.line top.parts) ∷ around → closed_from depth top old c ≡ closed_to depth new c
-closes_into depth top o old around new c w n e f =
-    let t : (depth == length around + 2) ≡ false = ne_eqb depth (length around + 2) (λ z. n (omega (arith, z, ap length e))) in
-    let into : closed_from depth top (o ∷ around) c ≡ closed_to depth (with_parts o (parts_of top.line top.parts) ∷ around) c = rw (t, w) refl in
-    ap (λ l. closed_from depth top l c) e ∙ into ∙ ap (λ l. closed_to depth l c) (sym f)
+pub closes_into : (depth : ℕ) (top : Open) (old new : List Open) (c : Certificate) → is_whole top ≡ true → depth ≢ length old + 1 → 0 < length old
+    → new ≡ filled old (parts_of top.line top.parts) → closed_from depth top old c ≡ closed_to depth new c
+closes_into depth top [] new c w n h e = absurd (omega (arith, h))
+closes_into depth top (o ∷ around) new c w n h e =
+    let t : (depth == length around + 2) ≡ false = ne_eqb depth (length around + 2) (λ z. n (omega (arith, z))) in
+    let into : closed_from depth top (o ∷ around) c ≡ closed_to depth (filled (o ∷ around) (parts_of top.line top.parts)) c = rw (t, w) refl in
+    into ∙ ap (λ l. closed_to depth l c) (sym e)
+
+pub filled_none : (opens : List Open) (ps : List Part) → [] ≡ ps → opens ≡ filled opens ps
+filled_none [] ps e = refl
+filled_none (o ∷ opens) ps e = ap (λ l. record { line = o.line; parts = l } ∷ opens) (sym (append-nil o.parts) ∙ ap (λ l. o.parts ++ l) e)
+
+pub no_more : (old new : List Open) (ps : List Part) → new ≡ filled old ps → length new ≤ length old
+no_more [] new ps e = omega (arith, ap length e)
+no_more (o ∷ old) new ps e = omega (arith, ap length e)

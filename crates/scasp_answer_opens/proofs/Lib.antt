@@ -1,1 +1,2 @@
+mod OpensLemmas
 mod CloseLemmas

@@ -1,10 +1,10 @@
 //! Open lines are closed, one after the other.
-ghost use Rattle.std.specs.Prelude.{◌≡◌, ◌≢◌, ◌≤◌, ◌+◌, ◌∷◌, true, length, IfOk, OnOk};
+ghost use Rattle.std.specs.Prelude.{◌≡◌, ◌≢◌, ◌≤◌, ◌+◌, true, length, IfOk, OnOk};
 ghost use Rattle.scasp_cert.specs.Certificate.{certificate_of};
 ghost use Rattle.scasp_answers.specs.Open as spec;
 ghost use Rattle.scasp_answer_parts.specs.View.{open_of};
 ghost use Rattle.scasp_answer_opens.specs.Closing.{Closes, Leads};
-ghost use Rattle.scasp_answer_opens.specs.View.{opens_of};
+ghost use Rattle.scasp_answer_opens.specs.View.{opens_of, filled};
 
 use crate::opens::Opens;
 use crate::placing::Placing;
@@ -15,21 +15,19 @@ use scasp_list::Memory;
 use std::alloc::Global;
 
 /// Puts the part that a line is into the line around it.
-fn close_into(alloc: Global, top: Open, around: Open, opens: &mut Opens) -> Result<(), Memory>
+#[tactic(auto, using(crate::proofs::CloseLemmas::filled_none))]
+fn close_into(alloc: Global, top: Open, opens: &mut Opens) -> Result<(), Memory>
     requires { spec.is_whole (open_of top) ≡ true }
-    ensures { OnOk result (opens_of opens.new ≡ spec.with_parts (open_of around) (spec.parts_of (open_of top).line (open_of top).parts) ∷ opens_of opens.old) }
+    ensures { OnOk result (opens_of opens.new ≡ filled (opens_of opens.old) (spec.parts_of (open_of top).line (open_of top).parts)) }
 {
-    match top.into_part(alloc) {
-        Ok(part) => opens.push(around.with_part(part)?),
-        Err(error) => {
-            drop(around);
-            Err(error)
-        }
+    match top.into_part(alloc)? {
+        Some(part) => opens.put(part),
+        None => Ok(()),
     }
 }
 
 /// Closes the line that was the innermost open one, if it has all that has to stand below it.
-#[tactic(auto, using(crate::proofs::CloseLemmas::not_whole, crate::proofs::CloseLemmas::closes_into, crate::proofs::CloseLemmas::closes_last, crate::proofs::CloseLemmas::closes_edge))]
+#[tactic(auto, using(crate::proofs::CloseLemmas::not_whole, crate::proofs::CloseLemmas::closes_into, crate::proofs::CloseLemmas::closes_last, crate::proofs::CloseLemmas::closes_edge, crate::proofs::CloseLemmas::no_more))]
 fn close(
     alloc: Global,
     depth: usize,
@@ -45,19 +43,15 @@ fn close(
         drop(top);
         return Ok(Placing::OutOfOrder);
     }
-    match opens.pop() {
-        Some(around) => {
-            close_into(alloc, top, around, opens)?;
-            Ok(Placing::Stands)
-        }
-        None if depth == 0 => {
-            with_top(alloc, top, cert)?;
-            Ok(Placing::Stands)
-        }
-        None => {
-            drop(top);
-            Ok(Placing::OutOfOrder)
-        }
+    if opens.len() > 0 {
+        close_into(alloc, top, opens)?;
+        Ok(Placing::Stands)
+    } else if depth == 0 {
+        with_top(alloc, top, cert)?;
+        Ok(Placing::Stands)
+    } else {
+        drop(top);
+        Ok(Placing::OutOfOrder)
     }
 }
 

@@ -1,9 +1,9 @@
 //! The lines that are open, one below the other.
-ghost use Rattle.std.specs.Prelude.{◌≡◌, ◌∷◌, [], length, OnOk};
-ghost use Rattle.scasp_answer_parts.specs.View.{open_of};
-ghost use Rattle.scasp_answer_opens.specs.View.{opens_of, Pops};
+ghost use Rattle.std.specs.Prelude.{◌≡◌, ◌∷◌, [], length, OnOk, option_copied};
+ghost use Rattle.scasp_answer_parts.specs.View.{open_of, part_of};
+ghost use Rattle.scasp_answer_opens.specs.View.{opens_of, filled, Innermost, Pops};
 
-use scasp_answer_parts::Open;
+use scasp_answer_parts::{Open, Part};
 use scasp_list::Memory;
 use std::alloc::Global;
 
@@ -44,6 +44,27 @@ impl Opens {
         }
         self.list.push(line)?;
         Ok(())
+    }
+
+    /// The innermost line.
+    pub fn last(&self) -> Option<&Open>
+        ensures { Innermost (opens_of self.now) (option_copied result) }
+    {
+        self.list.last()
+    }
+
+    /// Puts the part below the innermost line, if one is open.
+    #[tactic(auto, using(crate::proofs::OpensLemmas::fills_last))]
+    pub(crate) fn put(&mut self, part: Part) -> Result<(), Memory>
+        ensures { OnOk result (opens_of self.new ≡ filled (opens_of self.old) (part_of part ∷ [])) }
+    {
+        match self.list.last_mut() {
+            Some(top) => top.put(part),
+            None => {
+                drop(part);
+                Ok(())
+            }
+        }
     }
 
     /// Takes the innermost line off.

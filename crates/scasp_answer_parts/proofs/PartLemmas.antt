@@ -1,10 +1,9 @@
 -- Parts, one more or one less.
-use Rattle.std.proofs.Common.{◌≡◌, ◌≢◌, ◌∙◌, ℕ, ◌+◌, ◌≤◌, List, [], ◌∷◌, ◌++◌, length, map, reverse, None, Some, refl, sym, ap, arith, length-append}
+use Rattle.std.proofs.Common.{◌≡◌, ◌≢◌, ◌∙◌, List, [], ◌∷◌, ◌++◌, length, map, Some, refl, sym, ap, arith, length-append}
 use Rattle.std.specs.Prelude.{◌==◌, true}
 use Rattle.std.proofs.lemmas.Bool.{eqb-true}
 use Rattle.std.proofs.lemmas.List.{length-map}
 use Rattle.scasp_syntax.specs.declared.con.Con.{Con}
-use Rattle.scasp_cert.specs.Trees.{Tree, Branch, split}
 use Rattle.scasp_cert.specs.View.{tree_of, cover_of, branch_of}
 use Rattle.scasp_cert.specs.declared.tree.Case.{Case}
 use Rattle.scasp_answer_lines.specs.Lines.{split_line}

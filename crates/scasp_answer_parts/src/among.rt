@@ -31,7 +31,9 @@ fn put_node(part: Part, nodes: &mut Nodes) -> Result<(), Memory>
 pub fn nodes_among(alloc: Global, parts: Vec<Part>) -> Result<Nodes, Memory>
     ensures { IfOk result (λ nodes. trees_of nodes ≡ spec.trees_among (parts_in parts.items)) }
 {
-    let mut nodes = Nodes::new(alloc);
+    let mut nodes = Nodes {
+        list: Vec::with_capacity(alloc, parts.len())?,
+    };
     for part in parts {
         put_node(part, &mut nodes)?;
     }
@@ -60,7 +62,9 @@ fn put_cover(part: Part, covers: &mut Covers) -> Result<(), Memory>
 pub fn covers_among(alloc: Global, parts: Vec<Part>) -> Result<Covers, Memory>
     ensures { IfOk result (λ covers. covers_of covers ≡ spec.covers_among (parts_in parts.items)) }
 {
-    let mut covers = Covers::new(alloc);
+    let mut covers = Covers {
+        list: Vec::with_capacity(alloc, parts.len())?,
+    };
     for part in parts {
         put_cover(part, &mut covers)?;
     }
@@ -92,7 +96,7 @@ fn put_case(part: Part, cases: &mut Vec<Case>) -> Result<(), Memory>
 pub fn cases_among(alloc: Global, parts: Vec<Part>) -> Result<Vec<Case>, Memory>
     ensures { IfOk result (λ cases. map branch_of cases.items ≡ spec.cases_among (parts_in parts.items)) }
 {
-    let mut cases = Vec::new(alloc);
+    let mut cases = Vec::with_capacity(alloc, parts.len())?;
     for part in parts {
         put_case(part, &mut cases)?;
     }

@@ -1,5 +1,5 @@
 //! Open lines become parts of the lines around them.
-ghost use Rattle.std.specs.Prelude.{◌≡◌, ◌∷◌, [], true, length, map, IfOk};
+ghost use Rattle.std.specs.Prelude.{◌≡◌, ◌∷◌, [], true, length, map, IfOk, OnOk};
 ghost use Rattle.scasp_cert.specs.View.{branch_of, tree_of};
 ghost use Rattle.scasp_syntax.specs.declared.con.Con.{Con};
 ghost use Rattle.scasp_answer_lines.specs.Lines as lines;
@@ -114,29 +114,12 @@ fn case_part(case: Case, parts: Vec<Part>) -> Result<Option<Part>, Memory>
 }
 
 impl Open {
-    /// The line with this part below it.
-    fn with_one(self, part: Part) -> Result<Open, Memory>
-        ensures { IfOk result (λ line. open_of line ≡ spec.with_parts (open_of self) (part_of part ∷ [])) }
+    /// Puts the part behind those right below the line.
+    pub fn put(&mut self, part: Part) -> Result<(), Memory>
+        ensures { OnOk result (open_of self.new ≡ spec.with_parts (open_of self.old) (part_of part ∷ [])) }
     {
-        let Open { line, mut parts } = self;
-        match parts.push(part) {
-            Ok(()) => Ok(Open { line, parts }),
-            Err(error) => {
-                drop(line);
-                drop(parts);
-                Err(Memory::from(error))
-            }
-        }
-    }
-
-    /// The line with this part below it, if there is one.
-    pub fn with_part(self, part: Option<Part>) -> Result<Open, Memory>
-        ensures { IfOk result (λ line. open_of line ≡ spec.with_parts (open_of self) (listed_part part)) }
-    {
-        match part {
-            Some(part) => self.with_one(part),
-            None => Ok(self),
-        }
+        self.parts.push(part)?;
+        Ok(())
     }
 
     /// The part that the line is with the parts below it, if it is one.

@@ -5,7 +5,6 @@ ghost use Rattle.scasp_answer_lines.specs.Bounds.{line_fits};
 ghost use Rattle.scasp_answer_forms.specs.View.{line_of};
 ghost use Rattle.scasp_answers.specs.Blocks.{at};
 ghost use Rattle.scasp_answers.specs.States as states;
-ghost use Rattle.scasp_answer_parts.specs.View.{open_of};
 ghost use Rattle.scasp_answer_opens.specs.View.{opens_of};
 ghost use Rattle.scasp_answer_states.specs.View.{entry_of, state_of, Follows};
 
@@ -92,34 +91,6 @@ impl State {
         }
     }
 
-    /// Opens the line right below the other one.
-    fn open_under(&mut self, alloc: Global, top: Open, line: Line) -> Result<Placing, Memory>
-        requires { line_fits (line_of line) ≡ true }
-        ensures { Follows (Some (states.with_opens (state_of self.old) (states.opened (line_of line) ∷ open_of top ∷ opens_of self.old.opens) (certificate_of self.old.block.cert))) result self.new }
-    {
-        match self.opens.push(top) {
-            Ok(()) => self.open(alloc, line),
-            Err(error) => {
-                drop(line);
-                Err(error)
-            }
-        }
-    }
-
-    /// Opens the line below the innermost open one, where it may stand there.
-    fn open_below(&mut self, alloc: Global, top: Open, line: Line) -> Result<Placing, Memory>
-        requires { line_fits (line_of line) ≡ true }
-        ensures { Follows (states.below (state_of self.old) (open_of top) (opens_of self.old.opens) (line_of line)) result self.new }
-    {
-        if top.takes(&line) {
-            self.open_under(alloc, top, line)
-        } else {
-            drop(top);
-            drop(line);
-            Ok(Placing::OutOfOrder)
-        }
-    }
-
     /// Opens the line.
     pub(crate) fn open(&mut self, alloc: Global, line: Line) -> Result<Placing, Memory>
         requires { line_fits (line_of line) ≡ true }
@@ -162,12 +133,20 @@ impl State {
     }
 
     /// Reads a line that stands right below the innermost open one, or at the left edge where none is open.
+    #[tactic(auto, using(crate::proofs::StateLemmas::stands_below, crate::proofs::StateLemmas::stands_nowhere))]
     fn stand_below(&mut self, alloc: Global, line: Line) -> Result<Placing, Memory>
         requires { line_fits (line_of line) ≡ true }
         ensures { Follows (states.at_level (state_of self.old) (opens_of self.old.opens) (line_of line)) result self.new }
     {
-        match self.opens.pop() {
-            Some(top) => self.open_below(alloc, top, line),
+        match self.opens.last() {
+            Some(top) => {
+                if top.takes(&line) {
+                    self.open(alloc, line)
+                } else {
+                    drop(line);
+                    Ok(Placing::OutOfOrder)
+                }
+            }
             None => self.stand_at_edge(alloc, line),
         }
     }
