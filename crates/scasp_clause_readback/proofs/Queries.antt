@@ -50,8 +50,8 @@ module _ (w : Style) (style : IsStyle w) (s : State) where
       let text = text_at w.names f in
       let texts = map (query_variable w.names) qs in
       named-step us text texts (in_table w.names s) (free-of (is_anonymous text) q.1)
-      ∙ ap (λ g. named (us ++ Some g ∷ []) texts (record s { names = with_text w.names text })) (name-place w style f q.0)
-      ∙ ap (λ ns. named (us ++ Some f ∷ []) texts (record s { names = ns })) (name-there w style f q.0)
+      ∙ ap (λ g. named (us ++ Some g ∷ []) texts (record (in_table w.names s) { names = with_text w.names text })) (name-place w style f q.0)
+      ∙ ap (λ ns. named (us ++ Some f ∷ []) texts (record (in_table w.names s) { names = ns })) (name-there w style f q.0)
       ∙ named-reads qs (us ++ Some f ∷ []) p.1
       ∙ ap (λ l. Ok (l, in_table w.names s)) (append_assoc us (Some f ∷ []) qs)
 

@@ -67,12 +67,13 @@ query_fits names q =
 
 -- ---- reading
 
+-- the reader with this table, where nothing was wrong
 abbrev pub in_table : List (List ℕ) → State → State
-in_table names s = record s { names = names }
+in_table names s = record s { names = names; fault = None }
 
 -- the reader behind a clause or a query of these variables
 abbrev pub behind_part : List (List ℕ) → List (List ℕ) → State → ℕ → List ℕ → State
-behind_part names variables s at bytes = record s { tokens = tokens_behind 0 at bytes; is_behind_operand = false; names = names; variables = variables }
+behind_part names variables s at bytes = record s { tokens = tokens_behind 0 at bytes; is_behind_operand = false; names = names; variables = variables; fault = None }
 
 -- The step reads the text before these bytes as the clause or the query of these variables; the table stays.
 abbrev pub ReadsPart : List (List ℕ) → Read Part → List ℕ → Part → List (List ℕ) → State → List ℕ → Type 0

@@ -2,14 +2,14 @@
 --     expression := ["-"] product {("+" | "-") product}
 --     product := factor {("*" | "/") factor}
 --     factor := number | variable | "(" expression ")"
-use Rattle.std.specs.Prelude.{ℕ, zero, suc, false, List, [], ◌∷◌, length, Option, None, Some, Ok, option_map}
+use Rattle.std.specs.Prelude.{ℕ, zero, suc, Bool, false, if◌then◌else◌, List, [], ◌∷◌, length, Option, None, Some, Ok, option_map}
 use Rattle.scasp_lexis.specs.declared.sign.Sign.{Sign}
 use Rattle.scasp_lexis.specs.declared.sign.Sign.TheVariants as sign
 use Rattle.scasp_lexis.specs.declared.token.Token.{Token}
 use Rattle.scasp_lexis.specs.declared.token.Token.TheVariants as token
 use Rattle.scasp_phrase.specs.declared.fault.Kind.TheVariants as kind
-use Rattle.scasp_phrase.specs.Steps.{Read, ◌>>=◌, give, stop_at, place_of, token_of, unexpected, take, taken, between}
-use Rattle.scasp_phrase.specs.Names.{variable_at}
+use Rattle.scasp_phrase.specs.Steps.{Read, ◌>>=◌, give, get, stop_at, place_of, token_of, unexpected, take, taken, between}
+use Rattle.scasp_phrase.specs.Names.{variable_at, has_own_number}
 use Rattle.scasp_phrase.specs.Constants.{number}
 use Rattle.scasp_phrase.specs.Terms.{inside}
 use Rattle.scasp_expression.specs.declared.sums.Operation.{Operation}
@@ -20,14 +20,16 @@ use Rattle.scasp_expression.specs.Values.{value_of, operated, negated}
 
 -- ---- factors
 
-abbrev pub variable_value : ℕ → Value
-variable_value x = value_of (x ∷ []) (variable_sum x)
+-- a variable that shares its number with others has no value
+abbrev pub variable_value : Bool → ℕ → Value
+variable_value is_own x = value_of (x ∷ []) (if is_own then variable_sum x else None)
 
 abbrev pub variable_factor : ℕ → List ℕ → Read Value
 variable_factor at text = do
   t ← take
   x ← variable_at at text
-  give (variable_value x)
+  is_own ← get (λ s. has_own_number x s.fault)
+  give (variable_value is_own x)
 
 abbrev pub number_factor : Read Value
 number_factor = do

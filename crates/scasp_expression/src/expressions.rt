@@ -207,16 +207,22 @@ fn variable_factor(reader: &mut Reader<'_>, alloc: Global, text: &str) -> Result
     let at = reader.at();
     reader.take();
     let x = reader.variable_at(alloc, at, text)?;
-    let value = variable_value(alloc, x)?;
+    let value = variable_value(alloc, reader.has_own_number(x), x)?;
     Ok(value)
 }
 
-/// The value that is a variable.
-fn variable_value(alloc: Global, x: u64) -> Result<Value, Memory>
-    ensures { IfOk result (λ value. value ≡ variable_value x) }
+/// The value that is a variable; a number that variables share has none.
+fn variable_value(alloc: Global, is_own: bool, x: u64) -> Result<Value, Memory>
+    ensures { IfOk result (λ value. value ≡ variable_value is_own x) }
 {
     let mut variables = VarList::new(alloc);
     variables.push(x)?;
+    if !is_own {
+        return Ok(Value {
+            variables,
+            sum: None,
+        });
+    }
     match variable_sum(alloc, x) {
         Ok(sum) => Ok(Value {
             variables,

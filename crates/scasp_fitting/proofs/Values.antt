@@ -6,6 +6,7 @@ use Rattle.scasp_lexis.specs.declared.token.Token.{Token}
 use Rattle.scasp_lexis.specs.declared.token.Token.TheVariants as token
 use Rattle.scasp_phrase.specs.declared.fault.Kind.TheVariants as kind
 use Rattle.scasp_phrase.specs.Steps.{State, Read, ◌>>=◌, give, behind, place_of, token_of}
+use Rattle.scasp_phrase.specs.Names.{has_own_number}
 use Rattle.scasp_phrase.specs.Terms.{inside}
 use Rattle.scasp_expression.specs.declared.sums.Operation.{Operation}
 use Rattle.scasp_expression.specs.declared.sums.Sum.{Sum}
@@ -77,7 +78,7 @@ factor_holds inner h s r = by (place_of s.tokens) (token_of s.tokens) (next_is s
     by at (Some (token.Variable text)) k =
         Post_from (IsValue (length s.variables)) s (behind s) _ (follows_behind s r)
         (Post_then (IsVariable (length s.variables)) (IsValue (length s.variables)) (behind s) _ _ (variable_at_holds at text (behind s) (reader_behind s r) k)
-        (λ x t f v. Post_give (IsValue (length s.variables)) t (variable_value x) f.reader (λ fine. variable-listed (length s.variables) x (known t) (v fine))))
+        (λ x t f v. Post_give (IsValue (length s.variables)) t (variable_value (has_own_number x t.fault) x) f.reader (λ fine. variable-listed (length s.variables) x (known t) (v fine))))
     by at (Some (token.Sign g)) k = sign_by g
     by at o k = Post_err (IsValue (length s.variables)) s _
 

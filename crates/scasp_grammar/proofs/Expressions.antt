@@ -7,8 +7,8 @@ use Rattle.scasp_lexis.specs.declared.sign.Sign.TheVariants as sign
 use Rattle.scasp_lexis.specs.declared.token.Token.{Token}
 use Rattle.scasp_lexis.specs.declared.token.Token.TheVariants as token
 use Rattle.scasp_phrase.specs.declared.fault.Kind.TheVariants as kind
-use Rattle.scasp_phrase.specs.Steps.{State, Read, ◌>>=◌, give, take, behind, place_of, token_of}
-use Rattle.scasp_phrase.specs.Names.{variable_at}
+use Rattle.scasp_phrase.specs.Steps.{State, Read, ◌>>=◌, give, get, take, behind, place_of, token_of}
+use Rattle.scasp_phrase.specs.Names.{variable_at, has_own_number}
 use Rattle.scasp_phrase.specs.Constants.{number}
 use Rattle.scasp_phrase.specs.Terms.{inside}
 use Rattle.scasp_expression.specs.declared.sums.Operation.{Operation}
@@ -126,18 +126,18 @@ module _ (room : ℕ) (s : State) where
       }))
 
   variable_factor_holds : (at : ℕ) (text : List ℕ) → bare s.tokens ≡ token.Variable text ∷ bare (drop 1 s.tokens)
-      → Post IsFactor s ((take >>= (λ t. variable_at at text >>= (λ x. give (variable_value x)))) s)
+      → Post IsFactor s ((take >>= (λ t. variable_at at text >>= (λ x. get (λ s. has_own_number x s.fault) >>= (λ is_own. give (variable_value is_own x))))) s)
   variable_factor_holds at text next =
       Post_from IsFactor s (behind s) _ (λ f. f)
       (Post_then (IsNumbered text (behind s)) IsFactor (behind s) _ _ (variable_holds at text (behind s))
-      (λ x t f v. Post_give IsFactor t (variable_value x)
+      (λ x t f v. Post_give IsFactor t (variable_value (has_own_number x t.fault) x)
       (λ fine.
       let v = v fine in
       let (sum, is) = variable-worth x in
       record {
         tree = a_variable_factor text;
         made = worth (x ∷ []) sum;
-        is = ap (λ sum. value_of (x ∷ []) sum) is;
+        is = ap (λ fault. variable_value (has_own_number x fault) x) fine ∙ ap (λ sum. value_of (x ∷ []) sum) is;
         tokens = next ∙ ap (λ ts. token.Variable text ∷ ts) v.tokens;
         value = then-some _ _ _ _ _ v.value (ap (λ o. then_make (only o (known t)) (λ sum k. Some (worth (x ∷ []) sum, k))) is);
       })))

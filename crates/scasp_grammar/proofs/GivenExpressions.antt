@@ -8,8 +8,8 @@ use Rattle.scasp_lexis.specs.declared.token.Token.TheVariants as token
 use Rattle.scasp_lexis.specs.declared.token.Placed.{Placed}
 use Rattle.scasp_phrase.specs.declared.fault.Kind.TheVariants as kind
 use Rattle.scasp_phrase.specs.Constants.{number}
-use Rattle.scasp_phrase.specs.Names.{variable_at}
-use Rattle.scasp_phrase.specs.Steps.{State, Read, then_read, ◌>>=◌, give, note_if, behind, place_of, is_sign}
+use Rattle.scasp_phrase.specs.Names.{variable_at, has_own_number}
+use Rattle.scasp_phrase.specs.Steps.{State, Read, then_read, ◌>>=◌, give, get, note_if, behind, place_of, is_sign}
 use Rattle.scasp_phrase.specs.Terms.{below}
 use Rattle.scasp_expression.specs.declared.sums.Operation.{Operation}
 use Rattle.scasp_expression.specs.declared.sums.Operation.TheVariants as operation
@@ -136,11 +136,13 @@ module _ (room : ℕ) (s : State) (rest : List Token) (c : Worth) (l : Known) wh
   variable-factor-given : (text : List ℕ) → At (token.Variable text ∷ rest) s → factor_meaning room (a_variable_factor text) (known s) ≡ Some (c, l) → Gives (valued c) rest l (factor (below expression room) s)
   variable-factor-given text h e =
       Gives_by (valued c) rest l _ _ (at-token _ h)
-      (Gives_bind same (valued c) c rest rest l (variable_at (place_of s.tokens) text (behind s)) (λ x. give (variable_value x)) (numbered text (known s)) (λ x. variable_worth x) e
+      (Gives_bind same (valued c) c rest rest l (variable_at (place_of s.tokens) text (behind s)) (λ x. get (λ s. has_own_number x s.fault) >>= (λ is_own. give (variable_value is_own x))) (numbered text (known s)) (λ x. variable_worth x) e
       (λ x k i. variable-given (place_of s.tokens) text (behind s) rest x k (At_behind _ rest s h) i)
       (λ x t there i.
       let (sum, is, meant) = only-made (variable_sum x) (λ sum k. Some (worth (x ∷ []) sum, k)) (known t) c l i in
-      Gives_by (valued c) rest l _ _ (ap (λ sum. give (value_of (x ∷ []) sum) t) is) (Gives_ok valued (worth (x ∷ []) sum) c rest t l there meant)))
+      Gives_by (valued c) rest l _ _
+      (ap (λ fault. give (variable_value (has_own_number x fault) x) t) there.fault ∙ ap (λ sum. give (value_of (x ∷ []) sum) t) is)
+      (Gives_ok valued (worth (x ∷ []) sum) c rest t l there meant)))
 
 -- ---- expressions
 

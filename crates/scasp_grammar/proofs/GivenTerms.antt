@@ -16,9 +16,10 @@ use Rattle.scasp_phrase.specs.declared.fault.Kind.TheVariants as kind
 use Rattle.scasp_phrase.specs.declared.reader.TheConstants.{VARIABLE_LIMIT}
 use Rattle.scasp_phrase.specs.declared.terms.TheConstants.{ARITY_LIMIT}
 use Rattle.scasp_phrase.specs.Constants.{number_of, number, is_zero_number, quotient_at, divided, number_term, constant}
-use Rattle.scasp_phrase.specs.Names.{place_in, known_variable, with_variable, new_variable, variable_at}
+use Rattle.scasp_phrase.specs.Names.{place_in, known_variable, with_variable, put_variable, new_variable, variable_at}
 use Rattle.scasp_phrase.specs.Steps.{State, Read, then_read, ◌>>=◌, give, get, stop_at, behind, place_of, is_sign, taken, note_if, series}
 use Rattle.scasp_phrase.specs.Terms.{inside, one_more, several, arguments_in, arguments, compound, list_of, elements, elements_if, term, below}
+use Rattle.scasp_phrase.proofs.VariableLemmas.{few-put}
 use Rattle.scasp_phrase.proofs.TermLemmas.{term_variable, term_name, term_number, term_sign}
 use Rattle.scasp_grammar.specs.Known.{Known, means, numbered}
 use Rattle.scasp_grammar.specs.Trees.{Term, a_variable, a_number, a_fraction, a_name, an_empty_list, a_list, a_list_with, Terms, one_term, more_terms, Arguments, no_arguments, some_arguments}
@@ -39,9 +40,11 @@ variable-given at text s ts x l h e = by (known_variable text s.variables) refl
   where
     new : (b : Bool) → nat_le VARIABLE_LIMIT (length s.variables) ≡ b
         → new_by b text (known s) ≡ Some (x, l)
-        → Gives x ts l (then_read (note_if b at (kind.Limit count.Variables) s) (λ u. λ t. Ok (length s.variables, with_variable text t)))
+        → Gives x ts l (then_read (note_if b at (kind.Limit count.Variables) s) (λ u. put_variable (length s.variables) text))
     new true past e = absurd cc
-    new false past e = Gives_ok same (length s.variables) x ts (with_variable text s) l (record { tokens = h.tokens; fault = h.fault }) e
+    new false past e =
+        Gives_by x ts l _ _ (few-put (length s.variables) past text s)
+        (Gives_ok same (length s.variables) x ts (with_variable text s) l (record { tokens = h.tokens; fault = h.fault }) e)
 
     by : (o : Option ℕ) → known_variable text s.variables ≡ o → Gives x ts l (elim o [ None ↦ new_variable at text s | Some x ↦ Ok (x, s) ])
     by None k = new (nat_le VARIABLE_LIMIT (length s.variables)) refl (sym (numbered-meant text (known s) None k) ∙ e)

@@ -1,6 +1,6 @@
 -- Variables and numbers that are read.
-use Rattle.std.proofs.Common.{◌≡◌, ℕ, Bool, true, false, if◌then◌else◌, List, [], ◌∷◌, ◌++◌, drop, length, Option, None, Some, is_none, Ok, refl, ap, subst, ◌∙◌}
-use Rattle.std.specs.Prelude.{nat_le}
+use Rattle.std.proofs.Common.{◌≡◌, ℕ, ◌-◌, Bool, true, false, if◌then◌else◌, List, [], ◌∷◌, ◌++◌, drop, length, Option, None, Some, is_none, Ok, refl, ap, subst, ◌∙◌}
+use Rattle.std.specs.Prelude.{nat_le, nat_lt}
 use Rattle.scasp_num.specs.Number.{Number}
 use Rattle.scasp_num.specs.Arithmetic.{quotient_of}
 use Rattle.scasp_num.specs.Linear.{is_zero}
@@ -9,8 +9,9 @@ use Rattle.scasp_lexis.specs.declared.token.Token.{Token}
 use Rattle.scasp_lexis.specs.declared.token.Token.TheVariants as token
 use Rattle.scasp_phrase.specs.declared.fault.Count.TheVariants as count
 use Rattle.scasp_phrase.specs.declared.fault.Kind.TheVariants as kind
-use Rattle.scasp_phrase.specs.declared.reader.TheConstants.{VARIABLE_LIMIT}
+use Rattle.scasp_phrase.specs.declared.reader.TheConstants.{VARIABLE_LIMIT, NUMBER_LIMIT}
 use Rattle.scasp_phrase.specs.Names.{known_variable, with_variable, new_variable, variable_at}
+use Rattle.scasp_phrase.proofs.VariableLemmas.{few-not-many}
 use Rattle.scasp_phrase.specs.Steps.{State, ◌>>=◌, then_read, give, get, stop_at, behind, place_of, token_of, taken}
 use Rattle.scasp_phrase.specs.Constants.{number_of, number, is_zero_number, quotient_at, divided, number_term, constant}
 use Rattle.scasp_syntax.specs.Tm.{Tm}
@@ -43,10 +44,16 @@ variable_holds at text s = by (known_variable text s.variables) refl
     by (Some x) e = Post_give (IsNumbered text s) s x (λ fine. record { tokens = refl; value = numbered-meant text (known s) (Some x) e })
     by None e =
         Post_note (IsNumbered text s) s (nat_le VARIABLE_LIMIT (length s.variables)) at (kind.Limit count.Variables) _
-        (λ t f same. Post_ok (IsNumbered text s) t (with_variable text t) (length s.variables) (λ f. f)
-        (λ fine.
-        let (is, past) = same fine in
-        subst (λ t. IsNumbered text s (length s.variables) (with_variable text t)) is (new-numbered text s e past)))
+        (λ t f same. new t same (nat_lt (length s.variables) NUMBER_LIMIT) refl)
+      where
+        new : (t : State) → (t.fault ≡ None → (s ≡ t) × (nat_le VARIABLE_LIMIT (length s.variables) ≡ false)) → (b : Bool) → nat_lt (length s.variables) NUMBER_LIMIT ≡ b
+            → Post (IsNumbered text s) t (if b then Ok (length s.variables, with_variable text t) else Ok (NUMBER_LIMIT - 1, t))
+        new t same true few =
+            Post_ok (IsNumbered text s) t (with_variable text t) (length s.variables) (λ f. f)
+            (λ fine.
+            let (is, past) = same fine in
+            subst (λ t. IsNumbered text s (length s.variables) (with_variable text t)) is (new-numbered text s e past))
+        new t same false many = Post_give (IsNumbered text s) t (NUMBER_LIMIT - 1) (λ fine. absurd (few-not-many (length s.variables) (same fine).1 many))
 
 -- ---- numbers
 

@@ -18,6 +18,7 @@ use Rattle.scasp_lexis.specs.Tokens.{placed, tokens_behind}
 use Rattle.scasp_phrase.specs.declared.reader.TheConstants.{VARIABLE_LIMIT}
 use Rattle.scasp_phrase.specs.Steps.{State, Read, token_of}
 use Rattle.scasp_phrase.specs.Names.{new_variable, variable_at}
+use Rattle.scasp_phrase.proofs.VariableLemmas.{few-numbered}
 use Rattle.scasp_expression.specs.declared.sums.Operation.TheVariants as operation
 use Rattle.scasp_expression.specs.declared.values.Value.{Value}
 use Rattle.scasp_expression.specs.Expressions.{variable_value, repeated, factor_operation, product_operation, product}
@@ -80,7 +81,7 @@ module _ (w : Style) (style : IsStyle w) (x : ℕ) (h : nat_lt x (length w.varia
       below e = grind (arith, nat_tests)
 
       new : (text : List ℕ) (t : State) → nat_le VARIABLE_LIMIT (length t.variables) ≡ false → new_variable at text t ≡ Ok (length t.variables, record t { variables = t.variables ++ text ∷ [] })
-      new text t e = rw e refl
+      new text t e = rw (e, few-numbered _ e) refl
 
   pub variable-found : (n m : ℕ) → count_variable w n x ≡ Some m → Found n m
   variable-found n m e = by (is_known w n x) refl e
@@ -107,8 +108,8 @@ module _ (w : Style) (style : IsStyle w) (inner : Option (Read Value)) (x : ℕ)
   one-read s rest end at =
       let ts = tokens_behind 0 (at + length text) rest in
       ap (λ ts. product inner (record (had w n s) { tokens = ts })) (variable-read text rest at (variable-is w style x h) end.variable)
-      ∙ factor-product inner (record (had w n s) { tokens = placed at (token.Variable text) ∷ ts }) (behind_term (had w m s) (at + length text) rest) (variable_value x)
-      (variable-factor inner (had w n s) (behind_term (had w m s) (at + length text) rest) ts at x text (variable-found w style x h (record s { tokens = ts; is_behind_operand = true }) at n m c))
+      ∙ factor-product inner (record (had w n s) { tokens = placed at (token.Variable text) ∷ ts }) (behind_term (had w m s) (at + length text) rest) (variable_value true x)
+      (variable-factor inner (had w n s) (behind_term (had w m s) (at + length text) rest) ts at x text refl (variable-found w style x h (record s { tokens = ts; is_behind_operand = true }) at n m c))
       (end.no_factor (at + length text))
       ∙ ap (λ e. Ok (e, behind_term (had w m s) (at + length text) rest)) (variable-value x)
 
@@ -123,9 +124,9 @@ module _ (w : Style) (style : IsStyle w) (inner : Option (Read Value)) (x : ℕ)
       let place : e ≡ at + length ((decimal k ++ codes "*") ++ text) = omega (arith, length-append (decimal k ++ codes "*") text, length-append (decimal k) (codes "*")) in
       ap (λ ts. product inner (record (had w n s) { tokens = ts })) (long-tokens text rest (variable-is w style x h) end.variable k at small)
       ∙ times-product inner (record (had w n s) { tokens = placed at (token.Number (Some (integer (pos k)))) ∷ placed b (token.Sign sign.Times) ∷ vs })
-      (record (had w n s) { is_behind_operand = true }) (behind_term (had w m s) e rest) vs b (number_value (pos k)) (variable_value x) (product_value (pos k) x)
+      (record (had w n s) { is_behind_operand = true }) (behind_term (had w m s) e rest) vs b (number_value (pos k)) (variable_value true x) (product_value (pos k) x)
       (number-factor inner (had w n s) (placed b (token.Sign sign.Times) ∷ vs) at (integer (pos k)))
-      (variable-factor inner (record (had w n s) { is_behind_operand = false }) (behind_term (had w m s) e rest) us c' x text (variable-found w style x h (record s { tokens = us; is_behind_operand = true }) c' n m c))
+      (variable-factor inner (record (had w n s) { is_behind_operand = false }) (behind_term (had w m s) e rest) us c' x text refl (variable-found w style x h (record s { tokens = us; is_behind_operand = true }) c' n m c))
       (times-value k x b (behind_term (had w m s) e rest) small)
       (end.no_factor e)
       ∙ ap (λ p. Ok (product_value (pos k) x, behind_term (had w m s) p rest)) place

@@ -9,8 +9,8 @@ use Rattle.scasp_lexis.specs.declared.sign.Sign.TheVariants as sign
 use Rattle.scasp_lexis.specs.declared.token.Token.TheVariants as token
 use Rattle.scasp_lexis.specs.declared.token.Placed.{Placed}
 use Rattle.scasp_lexis.specs.Tokens.{placed}
-use Rattle.scasp_phrase.specs.Steps.{State, Read, then_read, give, token_of, is_sign, is_operand_sign, taken}
-use Rattle.scasp_phrase.specs.Names.{variable_at}
+use Rattle.scasp_phrase.specs.Steps.{State, Read, then_read, ◌>>=◌, give, get, token_of, is_sign, is_operand_sign, taken}
+use Rattle.scasp_phrase.specs.Names.{variable_at, has_own_number}
 use Rattle.scasp_expression.specs.declared.sums.Operation.{Operation}
 use Rattle.scasp_expression.specs.declared.sums.Operation.TheVariants as operation
 use Rattle.scasp_expression.specs.declared.sums.Sum.{Sum}
@@ -28,9 +28,11 @@ module _ (inner : Option (Read Value)) (s : State) where
   pub number-factor : (ts : List Placed) (a : ℕ) (q : Number) → factor inner (record s { tokens = placed a (token.Number (Some q)) ∷ ts }) ≡ Ok (value_of [] (Some (constant_sum q)), record s { tokens = ts; is_behind_operand = true })
   number-factor ts a q = refl
 
-  pub variable-factor : (s1 : State) (ts : List Placed) (a x : ℕ) (text : List ℕ) → variable_at a text (record s { tokens = ts; is_behind_operand = true }) ≡ Ok (x, s1)
-      → factor inner (record s { tokens = placed a (token.Variable text) ∷ ts }) ≡ Ok (variable_value x, s1)
-  variable-factor s1 ts a x text e = ap (λ r. then_read r (λ x. give (variable_value x))) e
+  pub variable-factor : (s1 : State) (ts : List Placed) (a x : ℕ) (text : List ℕ) → s1.fault ≡ None → variable_at a text (record s { tokens = ts; is_behind_operand = true }) ≡ Ok (x, s1)
+      → factor inner (record s { tokens = placed a (token.Variable text) ∷ ts }) ≡ Ok (variable_value true x, s1)
+  variable-factor s1 ts a x text fine e =
+      ap (λ r. then_read r (λ x. get (λ s. has_own_number x s.fault) >>= (λ is_own. give (variable_value is_own x)))) e
+      ∙ ap (λ fault. Ok (variable_value (has_own_number x fault) x, s1)) fine
 
   pub factor-product : (s1 : State) (e : Value) → factor inner s ≡ Ok (e, s1) → factor_operation (token_of s1.tokens) ≡ None → product inner s ≡ Ok (e, s1)
   factor-product s1 e f none = ap (λ r. then_read r (chain factor_operation (factor inner))) f ∙ repeated_none factor_operation (factor inner) (length s1.tokens) e s1 none

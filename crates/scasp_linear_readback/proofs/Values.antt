@@ -70,7 +70,7 @@ variable-sum x =
     ap (λ o. o >>= (λ constant. lowest (pos 1) (pos 1) >>= (λ one. Some (record { constant = constant; pairs = pair_of x one ∷ [] })))) (lowest-integer (pos 0) zero-fits)
     ∙ ap (λ o. o >>= (λ one. Some (record { constant = integer (pos 0); pairs = pair_of x one ∷ [] }))) (lowest-integer (pos 1) one-fits)
 
-pub variable-value : (x : ℕ) → variable_value x ≡ product_value (pos 1) x
+pub variable-value : (x : ℕ) → variable_value true x ≡ product_value (pos 1) x
 variable-value x = ap (value_of (x ∷ [])) (variable-sum x)
 
 product-zero : (n : ℕ) → product_of (integer (pos 0)) (integer (pos n)) ≡ Some (integer (pos 0))
@@ -85,7 +85,7 @@ times-worked n x h =
     ∙ ap (λ o. (o >>= (λ v. Some (pair_of x v ∷ []))) >>= (λ pairs. Some (record { constant = integer (pos 0); pairs = pairs }))) (product-one n h)
 
 -- a whole number times a variable
-pub times-value : (n x at : ℕ) (s : State) → n < 2 ^ 127 → operated operation.Times at (number_value (pos n)) (variable_value x) s ≡ Ok (product_value (pos n) x, s)
+pub times-value : (n x at : ℕ) (s : State) → n < 2 ^ 127 → operated operation.Times at (number_value (pos n)) (variable_value true x) s ≡ Ok (product_value (pos n) x, s)
 times-value n x at s h =
     ap (λ e. operated operation.Times at (number_value (pos n)) e s) (variable-value x)
     ∙ operated-step operation.Times at [] (x ∷ []) (whole_sum (pos n) []) (whole_sum (pos 0) (pair_of x (integer (pos 1)) ∷ [])) (whole_sum (pos 0) (pair_of x (integer (pos n)) ∷ [])) s refl (times-worked n x h)

@@ -1,5 +1,5 @@
 -- Small steps of a reader, computed.
-use Rattle.std.specs.Prelude.{◌≡◌, ℕ, List, [], ◌∷◌, codes, Option, None, Some, Result, Ok, Err, pos, option_map}
+use Rattle.std.specs.Prelude.{◌≡◌, ℕ, List, [], ◌∷◌, replicate, codes, Option, None, Some, Result, Ok, Err, pos, option_map}
 use Rattle.std.proofs.Common.{refl}
 use Rattle.scasp_num.specs.Gcd.{gcd, gcd_within}
 use Rattle.scasp_num.specs.Arithmetic.{number, lowest, quotient_of, product_of}
@@ -59,6 +59,21 @@ a_known_variable = refl
 
 an_anonymous_variable : value_of (variable_at 7 (codes "_") (clause_with (codes "_" ∷ codes "Y" ∷ []))) ≡ Some 2
 an_anonymous_variable = refl
+
+abbrev so_many : ℕ → State
+so_many n = clause_with (replicate n (codes "_"))
+
+the_last_variable_within_the_limit : fault_of (variable_at 7 (codes "X") (so_many 63)) ≡ None
+the_last_variable_within_the_limit = refl
+
+a_variable_too_many : fault_of (variable_at 7 (codes "X") (so_many 64)) ≡ Some (fault_at 7 (kind.Limit count.Variables))
+a_variable_too_many = refl
+
+a_variable_past_the_limit_has_its_number : value_of (variable_at 7 (codes "X") (so_many 127)) ≡ Some 127
+a_variable_past_the_limit_has_its_number = refl
+
+variables_past_all_numbers_share_the_last : value_of (variable_at 7 (codes "X") (so_many 128)) ≡ Some 127
+variables_past_all_numbers_share_the_last = refl
 
 -- ---- terms
 

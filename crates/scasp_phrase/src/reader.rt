@@ -2,7 +2,7 @@
 ghost use Rattle.std.specs.Prelude.{◌≡◌, ◌<◌, [], length, option_copied};
 ghost use Rattle.scasp_phrase.specs.Faults.{fault_at};
 ghost use Rattle.scasp_phrase.specs.Steps.{start, set_list, place_of, token_of, noted, told, kind_of_sign, unexpected_fault, behind, note_if, is_sign, taken, expect, Does};
-ghost use Rattle.scasp_phrase.specs.Names.{interned, known_variable, new_variable, variable_at};
+ghost use Rattle.scasp_phrase.specs.Names.{interned, known_variable, put_variable, new_variable, variable_at, has_own_number};
 
 use crate::fault::{Count, Fault, Kind, Stop};
 use scasp_lexis::{Placed, Sign, Text, Token};
@@ -13,6 +13,10 @@ use std::marker::Model;
 
 /// The most variables that a clause or a query may have.
 pub const VARIABLE_LIMIT: usize = 64;
+
+/// The numbers that variables get: as many past the limit as make any item with them too long. All
+/// variables past these share the last one, so that no text makes a long table.
+pub const NUMBER_LIMIT: usize = 128;
 
 /// A reader of tokens.
 #[derive(Drop)]
@@ -302,10 +306,27 @@ impl<'a> Reader<'a> {
     fn new_variable(&mut self, alloc: Global, at: u64, text: &str) -> Result<u64, Stop>
         ensures { Does (λ x. x) (new_variable at text.now) self.old result self.new }
     {
-        let variable = Text::from_str(alloc, text)?;
         let number = self.variables.len();
         self.note_if(number >= VARIABLE_LIMIT, at, Kind::Limit(Count::Variables));
+        self.put_variable(alloc, number, text)
+    }
+
+    /// The next variable, where the clause has had so many; or the last number that there is.
+    fn put_variable(&mut self, alloc: Global, number: usize, text: &str) -> Result<u64, Stop>
+        ensures { Does (λ x. x) (put_variable number text.now) self.old result self.new }
+    {
+        if number >= NUMBER_LIMIT {
+            return Ok(NUMBER_LIMIT as u64 - 1);
+        }
+        let variable = Text::from_str(alloc, text)?;
         self.variables.push(variable)?;
         Ok(number as u64)
+    }
+
+    /// Whether one variable alone has this number.
+    pub fn has_own_number(&self, x: u64) -> bool
+        ensures { result ≡ has_own_number x self.now.fault }
+    {
+        self.fault.is_none() || x < NUMBER_LIMIT as u64 - 1
     }
 }

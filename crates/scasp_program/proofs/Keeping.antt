@@ -1,9 +1,11 @@
 -- What a step of a reader gives, where the variables of a clause only grow.
-use Rattle.std.proofs.Common.{◌≡◌, ℕ, zero, suc, ◌+◌, ◌<◌, ◌≤◌, Bool, true, false, if◌then◌else◌, List, [], ◌∷◌, ◌++◌, length, codes, Option, None, Some, Result, Ok, Err, refl, ap, subst, length-append, arith}
+use Rattle.std.proofs.Common.{◌≡◌, ℕ, zero, suc, ◌+◌, ◌-◌, ◌<◌, ◌≤◌, nat_lt, Bool, true, false, if◌then◌else◌, List, [], ◌∷◌, ◌++◌, length, codes, Option, None, Some, Result, Ok, Err, refl, ap, subst, length-append, arith}
 use Rattle.std.specs.List.{position_from}
 use Rattle.std.specs.Str.{bytes_eq}
 use Rattle.scasp_lexis.specs.declared.sign.Sign.{Sign}
 use Rattle.scasp_lexis.specs.declared.sign.Sign.TheVariants as sign
+use Rattle.std.proofs.lemmas.Bool.Decides.{nat_tests}
+use Rattle.scasp_phrase.specs.declared.reader.TheConstants.{NUMBER_LIMIT}
 use Rattle.scasp_phrase.specs.declared.fault.Fault.{Fault}
 use Rattle.scasp_phrase.specs.declared.fault.Kind.{Kind}
 use Rattle.scasp_phrase.specs.Steps.{State, Read, then_read, give, note_if, behind, token_of, is_sign, taken, expect, unexpected, between, series}
@@ -103,10 +105,16 @@ variable_at_keeps at text s = by (known_variable text s.variables) refl
     by : (o : Option ℕ) → known_variable text s.variables ≡ o → Post Below (length s.variables) (elim o [ None ↦ new_variable at text s | Some x ↦ Ok (x, s) ])
     by (Some x) e = Post_ok Below _ x s (le_self _) (known-below text s.variables x e)
     by None e =
-        Post_then Any Below _ _ _ (note_if_keeps s _ at _)
-        (λ u t le v.
-        let k : length (t.variables ++ text ∷ []) ≡ length t.variables + 1 = length-append t.variables (text ∷ []) in
-        Post_ok Below _ (length s.variables) (with_variable text t) (omega (arith, k)) (omega (arith, k)))
+        Post_then Any Below _ _ _ (note_if_keeps s _ at _) (λ u t le v. put t le (nat_lt (length s.variables) NUMBER_LIMIT) refl)
+      where
+        put : (t : State) → length s.variables ≤ length t.variables → (b : Bool) → nat_lt (length s.variables) NUMBER_LIMIT ≡ b
+            → Post Below (length t.variables) (if b then Ok (length s.variables, with_variable text t) else Ok (NUMBER_LIMIT - 1, t))
+        put t le true few =
+            let k : length (t.variables ++ text ∷ []) ≡ length t.variables + 1 = length-append t.variables (text ∷ []) in
+            Post_ok Below _ (length s.variables) (with_variable text t) (omega (arith, k)) (omega (arith, k, le))
+        put t le false many =
+            let last : NUMBER_LIMIT - 1 < length s.variables = grind (arith, nat_tests, many) in
+            Post_ok Below _ (NUMBER_LIMIT - 1) t (le_self _) (omega (arith, last, le))
 
 -- ---- brackets and lists
 

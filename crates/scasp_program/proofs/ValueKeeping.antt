@@ -11,6 +11,7 @@ use Rattle.scasp_lexis.specs.declared.sign.Sign.TheVariants as sign
 use Rattle.scasp_lexis.specs.declared.token.Token.{Token}
 use Rattle.scasp_lexis.specs.declared.token.Token.TheVariants as token
 use Rattle.scasp_phrase.specs.Steps.{State, Read, ◌>>=◌, behind, place_of, token_of}
+use Rattle.scasp_phrase.specs.Names.{has_own_number}
 use Rattle.scasp_phrase.specs.Terms.{inside}
 use Rattle.scasp_expression.specs.declared.sums.Operation.{Operation}
 use Rattle.scasp_expression.specs.declared.sums.Sum.{Sum}
@@ -94,8 +95,9 @@ negated-IsValue n false e h = h
 
 -- ---- factors
 
-variable_value-IsValue : (n x : ℕ) → x < n → IsValue n (variable_value x)
-variable_value-IsValue n x h = record { ascending = (tt, tt); below = (h, tt); covered = by (variable_sum x) refl }
+variable_value-IsValue : (n x : ℕ) (is_own : Bool) → x < n → IsValue n (variable_value is_own x)
+variable_value-IsValue n x false h = record { ascending = (tt, tt); below = (h, tt); covered = tt }
+variable_value-IsValue n x true h = record { ascending = (tt, tt); below = (h, tt); covered = by (variable_sum x) refl }
   where
     by : (r : Option Sum) → variable_sum x ≡ r → Covered (x ∷ []) r
     by None e = tt
@@ -124,7 +126,7 @@ factor_keeps inner h s = by (place_of s.tokens) (token_of s.tokens)
     by : (at : ℕ) (o : Option Token) → Post IsValue (length s.variables) (factor_at inner at o s)
     by at (Some (token.Number q)) = Post_then Any IsValue _ _ _ (number_keeps s) (λ p t le u. Post_ok IsValue _ _ t (le_self _) (number-IsValue _ p))
     by at (Some (token.Variable text)) =
-        Post_then Below IsValue _ _ _ (variable_at_keeps at text (behind s)) (λ x t le k. Post_ok IsValue _ (variable_value x) t (le_self _) (variable_value-IsValue _ x k))
+        Post_then Below IsValue _ _ _ (variable_at_keeps at text (behind s)) (λ x t le k. Post_ok IsValue _ (variable_value (has_own_number x t.fault) x) t (le_self _) (variable_value-IsValue _ x _ k))
     by at (Some (token.Sign g)) = sign_by g
     by at o = Post_err IsValue _ _
 

@@ -1,5 +1,5 @@
 -- Names and variables of a reader: a name stands at its place in the table, a variable has its number.
-use Rattle.std.proofs.Common.{◌≡◌, ℕ, suc, ◌+◌, ◌<◌, ◌⊎◌, inl, inr, Bool, true, false, not, ◌&&◌, ◌||◌, ◌==◌, nat_lt, if◌then◌else◌, List, [], ◌∷◌, ◌++◌, length, slice_get, Option, None, Some, Ok, refl, sym, ap, subst, ◌∙◌, length-append, add-one, arith, true≢false}
+use Rattle.std.proofs.Common.{◌≡◌, ℕ, suc, ◌+◌, ◌-◌, ◌<◌, ◌⊎◌, inl, inr, Bool, true, false, not, ◌&&◌, ◌||◌, ◌==◌, nat_lt, if◌then◌else◌, List, [], ◌∷◌, ◌++◌, length, slice_get, Option, None, Some, Ok, refl, sym, ap, subst, ◌∙◌, length-append, add-one, arith, true≢false}
 use Rattle.std.specs.Prelude.{nat_le}
 use Rattle.std.specs.List.{position_from}
 use Rattle.std.specs.Str.{IsUtf8, bytes_eq}
@@ -14,14 +14,15 @@ use Rattle.scasp_list.specs.Each.{Each}
 use Rattle.scasp_list.proofs.EachLemmas.{Each-append}
 use Rattle.scasp_name.specs.Texts.{has_text, with_text, AreDistinct}
 use Rattle.scasp_name.proofs.TextLemmas.{slice_get-with_text, BeginWithLists-with_text}
-use Rattle.scasp_phrase.specs.declared.reader.TheConstants.{VARIABLE_LIMIT}
+use Rattle.scasp_phrase.specs.declared.reader.TheConstants.{VARIABLE_LIMIT, NUMBER_LIMIT}
 use Rattle.scasp_phrase.specs.Names.{place_in, known_variable, with_variable, new_variable, variable_at}
+use Rattle.scasp_phrase.proofs.VariableLemmas.{few-not-many}
 use Rattle.scasp_phrase.specs.Steps.{State, behind}
 use Rattle.scasp_listing.specs.Terms.{Style, variable_text}
 use Rattle.scasp_readback.specs.Endings.{is_variable_text}
 use Rattle.scasp_compound_readback.specs.Styles.{is_anonymous, are_variables, IsTable}
 use Rattle.scasp_compound_readback.specs.Counting.{count_variable}
-use Rattle.scasp_term_fitting.specs.Readers.{IsReader, Keeps, Covers}
+use Rattle.scasp_term_fitting.specs.Readers.{IsReader, known, Keeps, Covers}
 use Rattle.scasp_term_fitting.proofs.Steps.{Follows, Follows_trans, reader_behind, follows_behind, Post, Post_ok, Post_give, Post_note}
 
 pub bytes_eq-same : (x y : List ℕ) → bytes_eq x y ≡ true → x ≡ y
@@ -221,24 +222,27 @@ limited n e = grind (arith, nat_tests, e)
 new_variable_holds : (at : ℕ) (text : List ℕ) (s : State) → IsReader s → is_variable_text text ≡ true → known_variable text s.variables ≡ None
     → Post (IsVariable (length s.variables)) s (new_variable at text s)
 new_variable_holds at text s r h e =
-    let n = length s.variables in
-    Post_note (IsVariable n) s r (nat_le VARIABLE_LIMIT n) at _ _
-    (λ t f same few.
-    let have : s.variables ≡ t.variables = ap (λ (k : Style). k.variables) same in
-    let more : length (t.variables ++ text ∷ []) ≡ n + 1 = length-append t.variables (text ∷ []) ∙ ap (λ (xs : List (List ℕ)). length xs + 1) (sym have) in
-    let new : IsNew t.variables text = subst (λ xs. IsNew xs text) have (unknown-new text s.variables e) in
-    Post_ok (IsVariable n) t (with_variable text t) n
-    (record {
-      reader = record {
-        tokens = f.reader.tokens;
-        style = record { table = f.reader.style.table; variables = variables-push t.variables text f.reader.style.variables h new };
-        limit = λ fine. (let below = limited n (few fine) in omega (arith, below, more));
-      };
-      fault = λ fine. fine;
-      names = λ i text e. e;
-      variables = push-keeps t.variables text;
-    })
-    (λ fine. inr (refl, limited n (few fine), more)))
+    Post_note (IsVariable (length s.variables)) s r (nat_le VARIABLE_LIMIT (length s.variables)) at _ _ (λ t f same few. put t f same few (nat_lt (length s.variables) NUMBER_LIMIT) refl)
+  where
+    put : (t : State) → Follows s t → known s ≡ known t → (t.fault ≡ None → nat_le VARIABLE_LIMIT (length s.variables) ≡ false) → (b : Bool) → nat_lt (length s.variables) NUMBER_LIMIT ≡ b
+        → Post (IsVariable (length s.variables)) t (if b then Ok (length s.variables, with_variable text t) else Ok (NUMBER_LIMIT - 1, t))
+    put t f same few true q =
+        let have : s.variables ≡ t.variables = ap (λ (k : Style). k.variables) same in
+        let more : length (t.variables ++ text ∷ []) ≡ length s.variables + 1 = length-append t.variables (text ∷ []) ∙ ap (λ (xs : List (List ℕ)). length xs + 1) (sym have) in
+        let new : IsNew t.variables text = subst (λ xs. IsNew xs text) have (unknown-new text s.variables e) in
+        Post_ok (IsVariable (length s.variables)) t (with_variable text t) (length s.variables)
+        (record {
+          reader = record {
+            tokens = f.reader.tokens;
+            style = record { table = f.reader.style.table; variables = variables-push t.variables text f.reader.style.variables h new };
+            limit = λ fine. (let below = limited (length s.variables) (few fine) in omega (arith, below, more));
+          };
+          fault = λ fine. fine;
+          names = λ i text e. e;
+          variables = push-keeps t.variables text;
+        })
+        (λ fine. inr (refl, limited (length s.variables) (few fine), more))
+    put t f same few false many = Post_give (IsVariable (length s.variables)) t (NUMBER_LIMIT - 1) f.reader (λ fine. absurd (few-not-many (length s.variables) (few fine) many))
 
 pub variable_at_holds : (at : ℕ) (text : List ℕ) (s : State) → IsReader s → is_variable_text text ≡ true → Post (IsVariable (length s.variables)) s (variable_at at text s)
 variable_at_holds at text s r h = by (known_variable text s.variables) refl

@@ -1,6 +1,5 @@
 -- The tokens of a text are such as can be written: texts of names are UTF-8, those of variables begin as such, and numbers lie within M.
-use Rattle.std.proofs.Common.{◌≡◌, ◌⊎◌, inl, inr, ℕ, true, List, [], ◌∷◌, Option, refl, sym, subst, arith}
-use Rattle.scasp_num.specs.Number.{Number}
+use Rattle.std.proofs.Common.{◌≡◌, ◌⊎◌, inl, inr, ℕ, List, [], ◌∷◌, refl, sym, subst, arith}
 use Rattle.scasp_lexis.specs.declared.token.Token.{Token}
 use Rattle.scasp_lexis.specs.declared.token.Token.TheVariants as token
 use Rattle.scasp_lexis.specs.declared.token.Placed.{Placed}

@@ -10,6 +10,7 @@ use Rattle.scasp_lexis.specs.Tokens.{placed}
 use Rattle.scasp_phrase.specs.declared.reader.TheConstants.{VARIABLE_LIMIT}
 use Rattle.scasp_phrase.specs.Steps.{State, Read, then_read, give, token_of, is_sign}
 use Rattle.scasp_phrase.specs.Names.{place_in, known_variable, new_variable}
+use Rattle.scasp_phrase.proofs.VariableLemmas.{few-numbered}
 use Rattle.scasp_phrase.specs.Terms.{variable_term, compound, term_at_sign}
 
 module _ (s : State) (ts : List Placed) where
@@ -24,7 +25,7 @@ module _ (s : State) (ts : List Placed) where
   first-step a text e h =
       let s' : State = record s { tokens = ts; is_behind_operand = true } in
       let room : nat_le VARIABLE_LIMIT (length s.variables) ≡ false = grind (arith, nat_tests, h) in
-      ap (λ o. then_read (elim o [ None ↦ new_variable a text s' | Some x ↦ Ok (x, s') ]) (λ x. give (var x))) e ∙ rw room refl
+      ap (λ o. then_read (elim o [ None ↦ new_variable a text s' | Some x ↦ Ok (x, s') ]) (λ x. give (var x))) e ∙ rw (room, few-numbered _ room) refl
 
   pub name-step : (inner : Option (Read Tm)) (a : ℕ) (text : List ℕ) → is_sign sign.Open (token_of ts) ≡ false
       → compound inner text (record s { tokens = placed a (token.Name text) ∷ ts }) ≡ Ok (app (place_in s.names text) nil, record s { tokens = ts; is_behind_operand = true; names = with_text s.names text })

@@ -35,7 +35,16 @@ const LONG_LIST: Pieces = Pieces {
     ..LIST
 };
 
-static CASES: [Case; 5] = [
+/// A denial about a sum of 300,001 variables.
+const SUM: Pieces = Pieces {
+    before: ":- _",
+    piece: "+_",
+    times: 300_000,
+    behind: " #> 0.",
+    ..EMPTY
+};
+
+static CASES: [Case; 8] = [
     Case {
         words: &["run", "p"],
         program: LIST,
@@ -70,6 +79,36 @@ static CASES: [Case; 5] = [
             ..EMPTY
         },
         printed: "limit program 80000 clauses\n",
+        status: Status::Limit,
+    },
+    // A known variable behind very many new ones: the 33rd argument.
+    Case {
+        words: &["run", "p"],
+        program: Pieces {
+            before: "p(_",
+            piece: ",_",
+            other: ",X",
+            times: 200_000,
+            behind: ").",
+            ..EMPTY
+        },
+        printed: "limit program 66 arity\n",
+        status: Status::Limit,
+    },
+    // A sum of very many variables; the same with a fault behind it, so the 65th variable.
+    Case {
+        words: &["run", "p"],
+        program: SUM,
+        printed: "limit program 3 items\n",
+        status: Status::Limit,
+    },
+    Case {
+        words: &["run", "p"],
+        program: Pieces {
+            behind: " p.",
+            ..SUM
+        },
+        printed: "limit program 131 variables\n",
         status: Status::Limit,
     },
 ];

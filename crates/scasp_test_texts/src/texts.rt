@@ -119,7 +119,7 @@ fn built(alloc: Global, front: &str, piece: &str, count: u64, back: &str) -> Res
 }
 
 /// Texts with pieces repeated at both ends of each limit, and what is read.
-static LIMITS: [(&str, &str, u64, &str, Outcome); 12] = [
+static LIMITS: [(&str, &str, u64, &str, Outcome); 18] = [
     ("p :- ", "q,", 63, "q.", Ok((1, 0))),
     (
         "p :- ",
@@ -156,6 +156,51 @@ static LIMITS: [(&str, &str, u64, &str, Outcome); 12] = [
     ),
     ("p(", "f(", 199, "a", Err((401, Kind::Expected))),
     ("p(", "f(", 200, "a", Err((401, Kind::Limit(Count::Depth)))),
+    // Sums of variables past the limit: the item has too many flat items, where it ends.
+    (
+        ":- ",
+        "_+",
+        64,
+        "_ #> 0.",
+        Err((3, Kind::Limit(Count::Items))),
+    ),
+    (
+        ":- ",
+        "_+",
+        64,
+        "_ p.",
+        Err((131, Kind::Limit(Count::Variables))),
+    ),
+    (
+        ":- ",
+        "_+",
+        999,
+        "_ #> 0.",
+        Err((3, Kind::Limit(Count::Items))),
+    ),
+    (
+        ":- ",
+        "_+",
+        999,
+        "_ p.",
+        Err((131, Kind::Limit(Count::Variables))),
+    ),
+    // Three variables behind 64 are three flat items, so 65 with the 61 before and the row.
+    (
+        ":- ",
+        "p(_),",
+        60,
+        "p(_,_,_,_),1+_+_+_ #> 0.",
+        Err((314, Kind::Limit(Count::Items))),
+    ),
+    // A product that the 65th variable makes too large: its sign stands before the variable.
+    (
+        ":- p([",
+        "_,",
+        63,
+        "_]), 170141183460469231731687303715884105727*(2*_) #> 0.",
+        Err((176, Kind::NumberTooLarge)),
+    ),
 ];
 
 fn limited(
