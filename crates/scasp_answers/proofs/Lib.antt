@@ -1,3 +1,5 @@
-mod TreeLines
-mod OtherLines
-mod BlockLines
+pub mod BlocksLemmas
+pub mod PartsLemmas
+pub mod OpensLemmas
+pub mod StatesLemmas
+pub mod FilesLemmas

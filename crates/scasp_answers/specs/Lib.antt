@@ -1,5 +1,5 @@
 pub mod Blocks
-pub mod Open
+pub mod Parts
+pub mod Opens
 pub mod States
 pub mod Files
-pub mod Examples

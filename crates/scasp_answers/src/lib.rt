@@ -1,7 +1,8 @@
-//! Answer files, as they are read.
+//! scasp_answers.
 #![tactic(auto)]
 
-mod fault;
-pub mod laws;
-
-pub use fault::{AnswerFault, AnswerKind};
+pub mod blocks;
+pub mod files;
+pub mod opens;
+pub mod parts;
+pub mod states;

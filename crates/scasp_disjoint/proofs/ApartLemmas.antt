@@ -3,13 +3,13 @@ use Rattle.std.proofs.Common.{◌≡◌, ◌∙◌, ℕ, Bool, true, false, List
 use Rattle.std.specs.List.{Contains, list_all}
 use Rattle.std.proofs.lemmas.Bool.{cond-true, cond-false}
 use Rattle.std.proofs.lemmas.Option.{some_pair_parts}
-use Rattle.scasp_acceptance.proofs.ApartLemmas.{shown-apart}
-use Rattle.scasp_acceptance.proofs.HintLemmas.{context-met}
+use Rattle.scasp_checker_rules.proofs.ApartLemmas.{shown-apart}
+use Rattle.scasp_checker_rules.proofs.HintLemmas.{context-met}
 use Rattle.scasp_unify.proofs.Members.{Each-member}
-use Rattle.scasp_acceptance.proofs.NormalityLemmas.{OpenedNormal, context-normal, opened-normal}
-use Rattle.scasp_acceptance.specs.Normality.{AreRowsNormal, LineNormal}
-use Rattle.scasp_acceptance.specs.Pairs.{is_pair, told_on}
-use Rattle.scasp_acceptance.specs.Told.{Told, told, all_told, told_at, told_by_node, told_by_part}
+use Rattle.scasp_checker_rules.proofs.NormalityLemmas.{OpenedNormal, context-normal, opened-normal}
+use Rattle.scasp_checker_rules.specs.Normality.{AreRowsNormal, LineNormal}
+use Rattle.scasp_checker_rules.specs.Pairs.{is_pair, told_on}
+use Rattle.scasp_checker_rules.specs.Told.{Told, told, all_told, told_at, told_by_node, told_by_part}
 use Rattle.scasp_cert.specs.Certificate.{Certificate}
 use Rattle.scasp_cert.specs.Trees.{Tree, pos_tree, neg_tree, loop_tree, seen_tree, test_tree}
 use Rattle.scasp_disjoint.specs.ByLines.{list_of_pair, pair_of, pair_on}

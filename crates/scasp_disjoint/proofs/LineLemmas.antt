@@ -1,12 +1,12 @@
 -- Pairs by the numbers of lines.
 use Rattle.std.proofs.Common.{◌≡◌, ◌∙◌, ℕ, List, Option, ap, sym}
-use Rattle.scasp_acceptance.specs.Told.{Told, all_told}
+use Rattle.scasp_checker_rules.specs.Told.{Told, all_told}
 use Rattle.scasp_cert.specs.Certificate.{Certificate}
 use Rattle.scasp_disjoint.specs.ByLines.{pair_of, pair_on}
 use Rattle.scasp_lines.proofs.WalkLemmas.{certificate-runs}
 use Rattle.scasp_lines.specs.Lines.{lines}
-use Rattle.scasp_shown.proofs.StandingLemmas.{line-told}
-use Rattle.scasp_shown.specs.Standings.{Standing, standings, told_where}
+use Rattle.scasp_lines_walk.proofs.ShownLemmas.StandingLemmas.{line-told}
+use Rattle.scasp_lines_walk.specs.Shown.Standings.{Standing, standings, told_where}
 use Rattle.scasp_syntax.specs.Programs.{numbered}
 use Rattle.scasp_syntax.specs.declared.program.Program.{Program}
 

@@ -1,16 +1,16 @@
 -- Contexts and pairs by the numbers of their lines.
 use Rattle.std.specs.Borrow.{Bor}
 use Rattle.std.specs.Prelude.{◌≡◌, ⊤, ℕ, if◌then◌else◌, Option, None, Some, Result, Ok, Err, List, option_map}
-use Rattle.scasp_acceptance.specs.PairLists.{pair_list}
-use Rattle.scasp_acceptance.specs.Pairs.{is_pair, told_on}
-use Rattle.scasp_acceptance.specs.Told.{Told, all_told}
+use Rattle.scasp_checker_rules.specs.PairLists.{pair_list}
+use Rattle.scasp_checker_rules.specs.Pairs.{is_pair, told_on}
+use Rattle.scasp_checker_rules.specs.Told.{Told, all_told}
 use Rattle.scasp_cert.specs.Certificate.{Certificate}
 use Rattle.scasp_hint.specs.declared.fault.HintFault.{HintFault}
 use Rattle.scasp_lines.specs.Contexts.{context}
 use Rattle.scasp_lines.specs.Lines.{free_of, lines}
 use Rattle.scasp_lines.specs.Walk.{Line}
-use Rattle.scasp_shown.specs.TableView.{told_from}
-use Rattle.scasp_shown.specs.declared.table.Saying.{Saying}
+use Rattle.scasp_lines_walk.specs.Shown.TableView.{told_from}
+use Rattle.scasp_lines_walk.specs.declared.shown.table.Saying.{Saying}
 use Rattle.scasp_syntax.specs.Programs.{numbered}
 use Rattle.scasp_syntax.specs.declared.con.Con.{Con}
 use Rattle.scasp_syntax.specs.declared.program.Program.{Program}

@@ -1,6 +1,6 @@
 //! Above each variable of terms and constraints.
 ghost use Rattle.std.specs.Prelude.{◌≡◌, suc, IfOk};
-ghost use Rattle.scasp_acceptance.specs.PairLists.{above, above_all, above_con, above_cons, above_terms};
+ghost use Rattle.scasp_checker_rules.specs.PairLists.{above, above_all, above_con, above_cons, above_terms};
 ghost use Rattle.scasp_syntax.specs.View.{tm_of};
 
 use scasp_list::Memory;

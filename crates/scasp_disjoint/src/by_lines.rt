@@ -3,15 +3,15 @@ ghost use Rattle.std.specs.Prelude.{◌≡◌, IfOk, option_map};
 ghost use Rattle.scasp_cert.specs.Certificate.{certificate_of};
 ghost use Rattle.scasp_disjoint.specs.ByLines.{Answers, context_on, list_of_pair, pair_of, pair_on, told_both};
 ghost use Rattle.scasp_hint.specs.Showing.{fault_of};
-ghost use Rattle.scasp_shown.specs.Standings.{told_where};
-ghost use Rattle.scasp_shown.specs.TableView.{table_value};
+ghost use Rattle.scasp_lines_walk.specs.Shown.Standings.{told_where};
+ghost use Rattle.scasp_lines_walk.specs.Shown.TableView.{table_value};
 ghost use Rattle.scasp_syntax.specs.Programs.{numbered};
 
 use crate::pairs::{is_pair, pair_list};
 use scasp_cert::Cert;
 use scasp_hint::{HintErr, HintFault, unsat};
+use scasp_lines_walk::shown::{Saying, Table, table_of};
 use scasp_list::Memory;
-use scasp_shown::{Saying, Table, table_of};
 use scasp_syntax::{Cons, Hint, Program};
 use std::alloc::Global;
 use thiserror::Error;
@@ -53,7 +53,11 @@ pub fn context(
     match table.line(line) {
         None => Ok(None),
         Some(row) => {
-            let list = scasp_dues::context(alloc, cert.given.as_slice(), row.opened())?;
+            let list = scasp_lines_places::dues::context(
+                alloc,
+                cert.given.as_slice(),
+                row.opened(),
+            )?;
             Ok(Some(list))
         }
     }

@@ -1,7 +1,7 @@
 //! What holds of lines that are shown apart.
 ghost use Rattle.std.specs.Prelude.{◌≡◌, ◌≢◌, ℕ, List, None, Some};
-ghost use Rattle.scasp_acceptance.specs.Normality.{AreRowsNormal};
-ghost use Rattle.scasp_acceptance.specs.Told.{Told};
+ghost use Rattle.scasp_checker_rules.specs.Normality.{AreRowsNormal};
+ghost use Rattle.scasp_checker_rules.specs.Told.{Told};
 ghost use Rattle.scasp_cert.specs.Certificate.{Certificate};
 ghost use Rattle.scasp_disjoint.specs.ByLines.{list_of_pair, pair_on};
 ghost use Rattle.scasp_hint.specs.Showing.{fault_of};

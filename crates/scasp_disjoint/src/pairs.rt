@@ -1,17 +1,17 @@
 //! Pairs of literals.
 ghost use Rattle.std.specs.Prelude.{◌≡◌, ◌++◌, IfOk, OnOk};
-ghost use Rattle.scasp_acceptance.specs.PairLists.{equal_args, pair_list};
-ghost use Rattle.scasp_acceptance.specs.Pairs.{is_pair};
+ghost use Rattle.scasp_checker_rules.specs.PairLists.{equal_args, pair_list};
+ghost use Rattle.scasp_checker_rules.specs.Pairs.{is_pair};
 ghost use Rattle.scasp_disjoint.specs.Raised.{raising_by};
-ghost use Rattle.scasp_shown.specs.TableView.{told_of};
+ghost use Rattle.scasp_lines_walk.specs.Shown.TableView.{told_of};
 ghost use Rattle.scasp_syntax.specs.Values.{all_under};
 
 use crate::above::{above_all, above_cons};
 use crate::raising::{Raising, push_raised};
-use scasp_dues::context;
+use scasp_lines_places::dues::context;
+use scasp_lines_places::places::under;
+use scasp_lines_walk::shown::Saying;
 use scasp_list::Memory;
-use scasp_places::under;
-use scasp_shown::Saying;
 use scasp_syntax::{Con, Cons, Terms, copy};
 use std::alloc::Global;
 

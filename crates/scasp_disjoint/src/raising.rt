@@ -1,12 +1,12 @@
 //! Constraints with each variable that is not free raised.
 ghost use Rattle.std.specs.Prelude.{◌≡◌, ◌++◌, IfOk, OnOk, map};
-ghost use Rattle.scasp_acceptance.specs.PairLists.{con_raised};
+ghost use Rattle.scasp_checker_rules.specs.PairLists.{con_raised};
 ghost use Rattle.scasp_disjoint.specs.Raised.{raising_by};
 ghost use Rattle.scasp_syntax.specs.View.{tm_of};
 
-use scasp_dues::{raised_from, raised_row};
+use scasp_lines_places::dues::{raised_from, raised_row};
+use scasp_lines_places::places::{Substitution, under};
 use scasp_list::Memory;
-use scasp_places::{Substitution, under};
 use scasp_syntax::{Con, Cons, Term};
 use std::alloc::Global;
 
@@ -26,7 +26,7 @@ impl Substitution for Raising {
 }
 
 /// The constraint with its variables raised; the variables of a row keep their order.
-#[tactic(auto, using(scasp_dues::proofs::TermLemmas::term_is))]
+#[tactic(auto, using(scasp_lines_places::proofs::DuesLemmas::TermLemmas::term_is))]
 pub fn con_raised(alloc: Global, raising: &Raising, constraint: &Con) -> Result<Con, Memory>
     ensures { IfOk result (λ made. made ≡ con_raised raising.now.free raising.now.by constraint.now) }
 {

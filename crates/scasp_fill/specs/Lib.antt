@@ -1,3 +1,2 @@
-pub mod Hinted
-pub mod Filled
-pub mod Inside
+pub mod Filling
+pub mod Finish

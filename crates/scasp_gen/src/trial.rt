@@ -3,7 +3,7 @@ ghost use Rattle.std.specs.Prelude.{◌≡◌, ◌++◌, IfOk, OnOk};
 ghost use Rattle.scasp_gen.specs.Trial.{ended, nodes_from, trial_text};
 
 use scasp_list::Memory;
-use scasp_write::{put, put_number};
+use scasp_print_words::{put, put_number};
 use std::alloc::Global;
 
 /// The clauses behind the nodes. Each node is in or out, by an even loop over negation, and `all(K)` asks that the

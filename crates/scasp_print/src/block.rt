@@ -10,8 +10,8 @@ use crate::terms::{put_list, put_minus};
 use crate::trees::{put_case, put_nodes};
 use scasp_cert::{Cert, Check, Checks, Clash, Clashes};
 use scasp_name::{Memory, Names};
+use scasp_print_words::{put, put_name, put_number};
 use scasp_syntax::{Con, Cons, Pred, PredMap, PredMaps, Terms};
-use scasp_write::{put, put_name, put_number};
 use std::alloc::Global;
 
 #[tactic(auto, unfolding(scasp_cert::specs::Text::Block::answer_line))]

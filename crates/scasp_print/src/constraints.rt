@@ -8,8 +8,8 @@ use crate::pieces::put_var;
 use crate::terms::put_term;
 use scasp_name::{Memory, NameId, Names};
 use scasp_num::{Coeff, Coeffs, Op, Row};
+use scasp_print_words::{put, put_constant, put_integer, put_name, put_number};
 use scasp_syntax::{Con, Term};
-use scasp_write::{put, put_constant, put_integer, put_name, put_number};
 
 fn put_plus(out: &mut Vec<u8>, number: i128) -> Result<(), Memory>
     ensures { OnOk result (out.new.items ≡ out.old.items ++ spec.plus_text number) }

@@ -4,8 +4,8 @@ ghost use Rattle.scasp_cert.specs.Text.Hints as spec;
 
 use scasp_name::Memory;
 use scasp_num::{Step, StepLists, Steps};
+use scasp_print_words::{put, put_integer, put_number, put_separator};
 use scasp_syntax::Hint;
-use scasp_write::{put, put_integer, put_number, put_separator};
 
 #[tactic(auto, unfolding(scasp_cert::specs::Text::Hints::step_text))]
 fn put_step(out: &mut Vec<u8>, step: &Step) -> Result<(), Memory>

@@ -10,8 +10,8 @@ use crate::hints::put_hint;
 use crate::indents::put_indent;
 use crate::terms::{put_atom, put_list, put_lit};
 use scasp_name::{Memory, Names};
+use scasp_print_words::{put, put_number};
 use scasp_syntax::{Atom, Con, Hint, Lit, Terms};
-use scasp_write::{put, put_number};
 
 fn put_pos(
     out: &mut Vec<u8>,

@@ -8,8 +8,10 @@ ghost use Rattle.scasp_print.specs.Inside.Pieces.{all_text, text_of, weight as p
 
 use crate::stack::wait;
 use scasp_name::{Memory, NIL, NameId, Names};
+use scasp_print_words::{
+    is_pair, put, put_constant, put_name, put_number, put_rational, put_separator,
+};
 use scasp_syntax::{Term, Terms};
-use scasp_write::{is_pair, put, put_constant, put_name, put_number, put_rational, put_separator};
 
 /// Puts a variable at the end.
 pub fn put_var(out: &mut Vec<u8>, var: u64) -> Result<(), Memory>

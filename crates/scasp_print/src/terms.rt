@@ -5,8 +5,8 @@ ghost use Rattle.scasp_cert.specs.Text.Terms as spec;
 
 use crate::pieces::{begin_arguments, begin_called, begin_term, put_all};
 use scasp_name::{Memory, NameId, Names};
+use scasp_print_words::put;
 use scasp_syntax::{Atom, Lit, Term, Terms};
-use scasp_write::put;
 
 /// Puts a term at the end.
 pub fn put_term(out: &mut Vec<u8>, names: &Names, term: &Term) -> Result<(), Memory>

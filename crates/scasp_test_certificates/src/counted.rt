@@ -2,8 +2,8 @@
 use crate::made::{boxed, certificate, covers, nodes};
 use scasp_cert::{Case, Cert, Check, Clash, Node, Nodes, flat, lines, skeleton};
 use scasp_name::Memory;
-use scasp_samples::{P, atom, literal};
 use scasp_syntax::{Con, Hint, Term};
+use scasp_test_samples::{P, atom, literal};
 use std::alloc::Global;
 use std::test::Fail;
 

@@ -1,7 +1,7 @@
 //! Deep terms: f of f of .. of a variable, made by bindings of one f each.
-use scasp_copying::reading::read;
 use scasp_list::Memory;
 use scasp_name::NameId;
+use scasp_search_terms::reading::read;
 use scasp_syntax::{TERM_DEPTH, Term, Terms};
 use scasp_unify::Binding;
 use std::alloc::Global;

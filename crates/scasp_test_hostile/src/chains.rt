@@ -1,8 +1,8 @@
 //! Chains of rules.
 use crate::outputs::is_checked;
 use scasp_io::Memory;
+use scasp_test_worked::{Command, ROOMY, SOUND, printed, prints};
 use scasp_top::Status;
-use scasp_worked::{Command, ROOMY, SOUND, printed, prints};
 use std::alloc::Global;
 use std::test::Fail;
 

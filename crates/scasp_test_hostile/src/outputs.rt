@@ -1,8 +1,8 @@
 //! Runs whose output is long, or whose terms are deep.
 use crate::texts::{EMPTY, Pieces, text_of};
 use scasp_io::Memory;
+use scasp_test_worked::{Command, ROOMY, printed};
 use scasp_top::Status;
-use scasp_worked::{Command, ROOMY, printed};
 use std::alloc::Global;
 use std::process::Abort;
 use std::str;

@@ -1,8 +1,8 @@
 //! Programs with long lists, and with very many clauses.
 use crate::texts::{EMPTY, Pieces, text_of};
 use scasp_io::Memory;
+use scasp_test_worked::{Command, SOUND, prints};
 use scasp_top::Status;
-use scasp_worked::{Command, SOUND, prints};
 use std::alloc::Global;
 use std::process::Abort;
 use std::test::Fail;

@@ -1,7 +1,7 @@
 //! Answer files with trees of great depth.
 use scasp_io::Memory;
+use scasp_test_worked::{Command, SOUND, prints};
 use scasp_top::Status;
-use scasp_worked::{Command, SOUND, prints};
 use std::alloc::Global;
 use std::process::Abort;
 use std::test::Fail;

@@ -1,9 +1,9 @@
 //! What opens where a fact is taken at a literal.
 use crate::made::{constant, f, fact, p, two};
-use scasp_dues::context;
+use scasp_lines_places::dues::context;
+use scasp_lines_places::places::{Inside, Place, bound_to, inside_rule};
 use scasp_list::Memory;
 use scasp_num::Rat;
-use scasp_places::{Inside, Place, bound_to, inside_rule};
 use scasp_syntax::{Con, Cons, Term, Terms};
 use std::alloc::Global;
 use std::test::Fail;

@@ -1,8 +1,8 @@
 //! Lists of pairs.
 use crate::made::p_of;
 use scasp_disjoint::{Saying, pair_list};
+use scasp_lines_places::places::Chain;
 use scasp_list::Memory;
-use scasp_places::Chain;
 use scasp_syntax::{Con, Cons, Term};
 use std::alloc::Global;
 use std::test::Fail;

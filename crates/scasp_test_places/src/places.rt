@@ -1,7 +1,7 @@
 //! Places below literals and within cases.
 use crate::made::p_of;
+use scasp_lines_places::places::Place;
 use scasp_list::Memory;
-use scasp_places::Place;
 use std::alloc::Global;
 use std::test::Fail;
 

@@ -1,9 +1,9 @@
 //! Rows under a rule's terms and in a pair.
 use crate::made::two;
 use scasp_disjoint::{Raising, con_raised};
-use scasp_dues::determined;
+use scasp_lines_places::dues::determined;
+use scasp_lines_places::places::ClauseValues;
 use scasp_num::{Op, Rat, RatPair, RatPairs, Row};
-use scasp_places::ClauseValues;
 use scasp_syntax::{Con, Term};
 use std::alloc::Global;
 use std::test::Fail;

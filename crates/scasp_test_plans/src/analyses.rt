@@ -2,10 +2,10 @@
 use scasp_graph::analyse;
 use scasp_name::Memory;
 use scasp_nmr::{CheckItem, checks};
-use scasp_samples::{
+use scasp_syntax::PredMaps;
+use scasp_test_samples::{
     Name, P, P_OF_C, Q, Q_OF_C, R, R_OF_C, Rule, S, S_OF_C, T, U, map_of, program,
 };
-use scasp_syntax::PredMaps;
 use std::alloc::Global;
 use std::process::Abort;
 use std::test::Fail;

@@ -1,7 +1,7 @@
 //! Maps that a program keeps, or breaks at a clause.
 use scasp_graph::{MapFault, map_holds};
 use scasp_name::Memory;
-use scasp_samples::{Name, P, Q, R, Rule, map_of, numbers, program};
+use scasp_test_samples::{Name, P, Q, R, Rule, map_of, numbers, program};
 use std::alloc::Global;
 use std::process::Abort;
 use std::test::Fail;

@@ -1,8 +1,8 @@
 //! Small programs, whose models were found by hand and by going through all sets of their atoms.
 use scasp_model::{AtomList, GroundClause, GroundProgram, is_stable, is_without_not, least};
 use scasp_name::Memory;
-use scasp_samples::{Name, P, Q, R, Rule, S, T, atom, literal};
 use scasp_syntax::Sequence;
+use scasp_test_samples::{Name, P, Q, R, Rule, S, T, atom, literal};
 use std::alloc::Global;
 use std::process::Abort;
 use std::test::Fail;

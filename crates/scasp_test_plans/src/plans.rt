@@ -1,7 +1,7 @@
 //! The rules of the predicates of a small program.
 use scasp_dual::{Plan, plan};
-use scasp_samples::{Literal, Name, P, Q, R, Rule, S, program};
 use scasp_syntax::FlatItem;
+use scasp_test_samples::{Literal, Name, P, Q, R, Rule, S, program};
 use std::test::Fail;
 
 /// p :- not q, r. q :- not r. r :- p. :- s. p.

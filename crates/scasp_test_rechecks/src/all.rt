@@ -1,7 +1,9 @@
 //! All answers of a program.
 use scasp_io::Memory;
+use scasp_test_worked::{
+    Command, FORALL_OVER_FACTS, FORALL_OVER_NUMBERS, PASSED, Row, SOUND, printed,
+};
 use scasp_top::Status;
-use scasp_worked::{Command, FORALL_OVER_FACTS, FORALL_OVER_NUMBERS, PASSED, Row, SOUND, printed};
 use std::alloc::Global;
 use std::process::Abort;
 use std::str;

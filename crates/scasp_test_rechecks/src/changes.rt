@@ -1,10 +1,10 @@
 //! Answers that were changed after they were printed.
 use scasp_io::Memory;
-use scasp_top::Status;
-use scasp_worked::{
+use scasp_test_worked::{
     Command, DEFAULT, EVEN_LOOP, FACT, FACT_PRINTED, FORALL_OVER_FACTS, LINEAR_DENIAL,
     NUMBER_OR_NOT, Row, SOUND, THROUGH_NEGATION, prints,
 };
+use scasp_top::Status;
 use std::alloc::Global;
 use std::process::Abort;
 use std::test::Fail;

@@ -1,7 +1,7 @@
 //! An answer file that is cut at each of its bytes.
 use scasp_io::Memory;
+use scasp_test_worked::{LINEAR_DENIAL, SOUND, printed_bytes};
 use scasp_top::Status;
-use scasp_worked::{LINEAR_DENIAL, SOUND, printed_bytes};
 use std::alloc::Global;
 use std::process::Abort;
 use std::test::Fail;

@@ -1,7 +1,7 @@
 //! Faults of the two files that `check` reads, and devices that fail.
 use scasp_io::Memory;
+use scasp_test_worked::{Command, Device, FACT_PRINTED, FACT_PROGRAM, SOUND, printed, prints};
 use scasp_top::Status;
-use scasp_worked::{Command, Device, FACT_PRINTED, FACT_PROGRAM, SOUND, printed, prints};
 use std::alloc::Global;
 use std::process::Abort;
 use std::test::Fail;

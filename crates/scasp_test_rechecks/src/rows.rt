@@ -1,9 +1,9 @@
 //! What worked programs print, read back and checked.
 use scasp_io::Memory;
-use scasp_top::Status;
-use scasp_worked::{
+use scasp_test_worked::{
     BIRDS, LIMITS, LOOPS, NUMBERS, PASSED, QUERIES, REMARKS, Row, SOUND, TERMS, prints,
 };
+use scasp_top::Status;
 use std::alloc::Global;
 use std::process::Abort;
 use std::test::Fail;

@@ -1,10 +1,10 @@
 //! Words, texts that are refused, and devices that fail.
 use scasp_io::Memory;
-use scasp_top::Status;
-use scasp_worked::{
+use scasp_test_worked::{
     BIRDS, Command, Device, FACT_PRINTED, FACT_PROGRAM, FORALL_OVER_FACTS, Row, SOUND, printed,
     printed_bytes, prints,
 };
+use scasp_top::Status;
 use std::alloc::Global;
 use std::process::Abort;
 use std::test::Fail;

@@ -4,7 +4,7 @@ use scasp_io::{
     MemSink, Memory, ReadErr, SinkFault, SureFiles, SureSink, read_file, read_sure, write_all,
     write_sure,
 };
-use scasp_samples::one;
+use scasp_test_samples::one;
 use std::alloc::Global;
 use std::test::Fail;
 

@@ -1,6 +1,6 @@
 //! Whole runs of worked programs.
 use scasp_io::Memory;
-use scasp_worked::{
+use scasp_test_worked::{
     BIRDS, LIMITS, LOOPS, NUMBERS, PASSED, QUERIES, REMARKS, Row, SOUND, TERMS, prints,
 };
 use std::alloc::Global;

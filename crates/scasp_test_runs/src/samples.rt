@@ -1,6 +1,6 @@
 //! Bytes and files that several tests read.
 use scasp_io::{Bytes, CallList, MemFile, MemFileList, MemFiles, Memory};
-use scasp_samples::one;
+use scasp_test_samples::one;
 use std::alloc::{AllocError, Global};
 
 /// So many bytes, each other than the one before.

@@ -1,5 +1,5 @@
 //! Tokens of texts.
-use scasp_lexis::{Sign, Token, tokens};
+use scasp_reader_tokens::{Sign, Token, tokens};
 use std::alloc::Global;
 use std::test::Fail;
 

@@ -1,7 +1,7 @@
 //! Terms read from tokens.
-use scasp_lexis::{Placed, tokens};
 use scasp_name::Names;
-use scasp_phrase::Reader;
+use scasp_reader_terms::Reader;
+use scasp_reader_tokens::{Placed, tokens};
 use scasp_syntax::{Term, size};
 use std::alloc::Global;
 use std::test::Fail;

@@ -1,7 +1,7 @@
 //! Texts, and the programs that are read from them.
 use scasp_name::{NameId, Names};
-use scasp_phrase::Stop;
-use scasp_program::read_program;
+use scasp_reader::programs::read_program;
+use scasp_reader_terms::Stop;
 use scasp_syntax::{Item, Items, Program};
 use std::alloc::Global;
 use std::test::Fail;

@@ -2,9 +2,9 @@
 use crate::written::{Sum, Told, Tried, Written};
 use scasp_name::{Memory, NameId, Names};
 use scasp_num::{Rat, RatPair, RatPairs, Row, RowErr, Step, StepLists, Steps};
-use scasp_program::read_program;
-use scasp_samples::{Name, atom, one};
+use scasp_reader::programs::read_program;
 use scasp_syntax::{Atom, Con, Cons, Hint, Program, Term, Terms};
+use scasp_test_samples::{Name, atom, one};
 use std::alloc::Global;
 
 fn constant(alloc: Global, place: u64) -> Term {

@@ -6,7 +6,7 @@ use crate::written::Tried::{BySides, ByStep, ByTerms};
 use crate::written::Written::{A, N, V};
 use crate::written::{Sample, Sum};
 use scasp_num::{Op, Step};
-use scasp_samples::{P, P_OF_C, Q, Q_OF_C, R};
+use scasp_test_samples::{P, P_OF_C, Q, Q_OF_C, R};
 
 /// -2*V0+3 < 0
 pub const ABOVE: Sum = Sum(&[(0, -2)], 3, Op::Lt);

@@ -7,7 +7,7 @@ use crate::written::Tried::ByTerms;
 use crate::written::Written::{N, Ratio, V};
 use crate::written::{Sample, Sum};
 use scasp_num::Op;
-use scasp_samples::{P, P_OF_C, Q, Q_OF_C};
+use scasp_test_samples::{P, P_OF_C, Q, Q_OF_C};
 
 /// -1 =< 0
 const ALWAYS: Sum = Sum(&[], -1, Op::Le);

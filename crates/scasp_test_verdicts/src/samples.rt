@@ -4,7 +4,7 @@ use crate::written::Sample;
 use crate::written::Told::{Equal, HasNotShape, IsNot, Number};
 use crate::written::Tried::ByTerms;
 use crate::written::Written::{A, B, C, F, V};
-use scasp_samples::{P, P_OF_C, Q, Q_OF_C, R, R_OF_C, S, S_OF_C};
+use scasp_test_samples::{P, P_OF_C, Q, Q_OF_C, R, R_OF_C, S, S_OF_C};
 
 pub const NOTHING: Sample = Sample {
     text: "",

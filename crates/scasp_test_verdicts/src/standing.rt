@@ -8,13 +8,13 @@ use crate::written::Told::{Compares, Equal, IsNot, NoNumber, Number};
 use crate::written::Written::{A, B, F, V};
 use crate::written::{Change, Sample, Told, Written};
 use scasp_cert::Cert;
+use scasp_checker_answer::same_con;
 use scasp_disjoint::context;
-use scasp_dues::Due;
-use scasp_faults::same_con;
+use scasp_lines_places::dues::Due;
+use scasp_lines_walk::traversal::{Line, Lines, Part};
 use scasp_name::Memory;
-use scasp_samples::{Name, P, Q, R, S};
 use scasp_syntax::{Lit, Program, same_lit};
-use scasp_traversal::{Line, Lines, Part};
+use scasp_test_samples::{Name, P, Q, R, S};
 use std::alloc::Global;
 use std::test::Fail;
 

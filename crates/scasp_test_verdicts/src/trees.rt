@@ -3,8 +3,8 @@ use crate::made::{applied, con, cons, hint, terms};
 use crate::written::{Change, Line, Lines, Sample, Told, Tried, Written};
 use scasp_cert::{Case, Cert, Check, Checks, Clash, Clashes, Cover, Covers, Node, Nodes};
 use scasp_name::Memory;
-use scasp_samples::{Name, map_of};
 use scasp_syntax::{Cons, Lit, PredMaps, Terms};
+use scasp_test_samples::{Name, map_of};
 use std::alloc::Global;
 
 /// A part of a certificate, and how deep it stands.

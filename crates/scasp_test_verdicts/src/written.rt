@@ -1,8 +1,8 @@
 //! What the tables of the tests write.
-use scasp_acceptance::Reason;
+use scasp_checker::verdict::Verdict;
+use scasp_checker_rules::Reason;
 use scasp_num::{Op, Step};
-use scasp_samples::Name;
-use scasp_verdict::Verdict;
+use scasp_test_samples::Name;
 
 /// A variable, a constant, f of a variable, f of the constant a, a whole number, or a fraction.
 #[derive(Clone, Copy)]

@@ -7,19 +7,19 @@ use Rattle.scasp_syntax.specs.WellFormed.{are_well_formed}
 use Rattle.scasp_syntax.specs.declared.clause.Clause.{Clause}
 use Rattle.scasp_syntax.specs.declared.clause.Query.{Query}
 use Rattle.scasp_syntax.specs.declared.program.Program.{Program}
-use Rattle.scasp_phrase.specs.declared.fault.Fault.{Fault}
-use Rattle.scasp_text.specs.declared.texts.Reading.{Reading}
-use Rattle.scasp_program.specs.Programs.{program_in, reading_of}
-use Rattle.scasp_answers.specs.States.{Entry}
-use Rattle.scasp_answers.specs.declared.fault.AnswerFault.{AnswerFault}
+use Rattle.scasp_reader_terms.specs.declared.fault.Fault.{Fault}
+use Rattle.scasp_reader.specs.declared.texts.texts.Reading.{Reading}
+use Rattle.scasp_reader.specs.Programs.Programs.{program_in, reading_of}
+use Rattle.scasp_answers.specs.Blocks.States.{Entry}
+use Rattle.scasp_answers.specs.declared.blocks.fault.AnswerFault.{AnswerFault}
 use Rattle.scasp_io.specs.Counts.{Rose}
-use Rattle.scasp_words.specs.declared.command.Command.{Command}
-use Rattle.scasp_words.specs.declared.command.Command.TheVariants.{Run, Check, Trial}
-use Rattle.scasp_recheck.specs.Meaning.{IsAccepted}
-use Rattle.scasp_recheck.specs.Texts.{recheck_text, rechecked_of}
-use Rattle.scasp_recheck.specs.declared.checking.Rechecked.{Rechecked}
-use Rattle.scasp_recheck.specs.declared.checking.Rechecked.TheVariants as check
-use Rattle.scasp_recheck.proofs.MeaningLemmas.{means_accepted}
+use Rattle.scasp_command_words.specs.declared.command.Command.{Command}
+use Rattle.scasp_command_words.specs.declared.command.Command.TheVariants.{Run, Check, Trial}
+use Rattle.scasp_command_check.specs.Meaning.{IsAccepted}
+use Rattle.scasp_command_check.specs.Texts.{recheck_text, rechecked_of}
+use Rattle.scasp_command_check.specs.declared.checking.Rechecked.{Rechecked}
+use Rattle.scasp_command_check.specs.declared.checking.Rechecked.TheVariants as check
+use Rattle.scasp_command_check.proofs.MeaningLemmas.{means_accepted}
 use Rattle.scasp_top.specs.Agreeing.{ChecksAgree, ChecksMean}
 use Rattle.scasp_top.specs.Ends.{check_status, IsCheck}
 use Rattle.scasp_top.specs.Outputs.{answers_in, program_file, without_faults, AreBytes, Checks, Failed, IsAnswers, IsProgram, Outputs, Outside, Says, unread, refused, unread_answers, refused_answers, nothing, usage, no_program, runs, no_answers, checks, tries}

@@ -1,14 +1,14 @@
 -- The causes of the statuses for faults.
 use Rattle.std.proofs.Common.{◌≡◌, ◌⊎◌, inl, inr, ℕ, Bool, true, false, Option, None, Some, List, refl, sym, subst, ◌∙◌, ap}
 use Rattle.scasp_io.specs.Counts.{Rose}
-use Rattle.scasp_words.specs.declared.command.Command.{Command}
-use Rattle.scasp_words.specs.declared.command.Command.TheVariants.{Run, Check, Trial}
-use Rattle.scasp_run.specs.declared.ends.RunEnd.{RunEnd}
-use Rattle.scasp_run.specs.declared.ends.RunEnd.TheVariants as run
-use Rattle.scasp_recheck.specs.declared.checking.Rechecked.{Rechecked}
-use Rattle.scasp_recheck.specs.declared.checking.Rechecked.TheVariants as check
-use Rattle.scasp_trial.specs.declared.first.Trial.{Trial as Trying}
-use Rattle.scasp_trial.specs.declared.first.Trial.TheVariants as trial
+use Rattle.scasp_command_words.specs.declared.command.Command.{Command}
+use Rattle.scasp_command_words.specs.declared.command.Command.TheVariants.{Run, Check, Trial}
+use Rattle.scasp_command_run.specs.declared.ends.RunEnd.{RunEnd}
+use Rattle.scasp_command_run.specs.declared.ends.RunEnd.TheVariants as run
+use Rattle.scasp_command_check.specs.declared.checking.Rechecked.{Rechecked}
+use Rattle.scasp_command_check.specs.declared.checking.Rechecked.TheVariants as check
+use Rattle.scasp_command_trial.specs.declared.first.Trial.{Trial as Trying}
+use Rattle.scasp_command_trial.specs.declared.first.Trial.TheVariants as trial
 use Rattle.scasp_top.specs.Ends.{run_status, check_status, trial_status}
 use Rattle.scasp_top.specs.Outputs.{Outside, without_faults, program_file, HasReadFault, unread, refused, unread_answers, refused_answers, Outputs, nothing, usage, no_program, runs, no_answers, checks, tries, is_refused, is_tried}
 use Rattle.scasp_io.specs.Taken.{TakesWhole}

@@ -1,9 +1,9 @@
 -- What the sink took of a command.
 use Rattle.std.proofs.Common.{◌≡◌, ◌≤◌, ℕ, Option, Some, List, refl, subst}
 use Rattle.scasp_syntax.specs.declared.program.Program.{Program}
-use Rattle.scasp_answers.specs.States.{Entry}
-use Rattle.scasp_words.specs.declared.command.Command.{Command}
-use Rattle.scasp_words.specs.declared.command.Command.TheVariants.{Run, Check, Trial}
+use Rattle.scasp_answers.specs.Blocks.States.{Entry}
+use Rattle.scasp_command_words.specs.declared.command.Command.{Command}
+use Rattle.scasp_command_words.specs.declared.command.Command.TheVariants.{Run, Check, Trial}
 use Rattle.scasp_top.specs.Inside.Halts.{IfLine, Tells}
 use Rattle.scasp_top.specs.Outputs.{outside, program_file, Checks, IsAnswers, IsNoAnswers, IsNoProgram, IsProgram, Outputs, Outside, Runs, TriesNodes, nothing, no_program, runs, no_answers, checks, tries}
 use Rattle.scasp_top.specs.Reports.{Reports}

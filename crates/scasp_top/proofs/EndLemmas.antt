@@ -1,16 +1,16 @@
 -- What the sink took of a run and of a check.
 use Rattle.std.proofs.Common.{◌≡◌, ℕ, Option, None, Some, List, All, refl, subst}
 use Rattle.scasp_syntax.specs.declared.program.Program.{Program}
-use Rattle.scasp_answers.specs.States.{Entry}
+use Rattle.scasp_answers.specs.Blocks.States.{Entry}
 use Rattle.scasp_io.specs.Bytes.{behind, TakesPrefix}
 use Rattle.scasp_io.specs.Counts.{Rose}
 use Rattle.scasp_io.specs.Taken.{TakesFirst, TakesWhole}
-use Rattle.scasp_run.specs.Jobs.{job}
-use Rattle.scasp_run.specs.Runs.{IsRun}
-use Rattle.scasp_run.specs.declared.ends.RunEnd.{RunEnd}
-use Rattle.scasp_recheck.specs.Outputs.{KeepsWorth, TakesLines}
-use Rattle.scasp_recheck.specs.Texts.{block_lines, recheck_text, rechecked_of}
-use Rattle.scasp_recheck.specs.declared.checking.Rechecked.{Rechecked}
+use Rattle.scasp_command_run.specs.Jobs.{job}
+use Rattle.scasp_command_run.specs.Runs.{IsRun}
+use Rattle.scasp_command_run.specs.declared.ends.RunEnd.{RunEnd}
+use Rattle.scasp_command_check.specs.Outputs.{KeepsWorth, TakesLines}
+use Rattle.scasp_command_check.specs.Texts.{block_lines, recheck_text, rechecked_of}
+use Rattle.scasp_command_check.specs.declared.checking.Rechecked.{Rechecked}
 use Rattle.scasp_top.specs.Ends.{run_status, check_status}
 use Rattle.scasp_top.specs.Outputs.{asked_answers, Checks, Runs}
 use Rattle.scasp_top.specs.Reports.{Reports, whole, part}

@@ -6,16 +6,16 @@ use Rattle.scasp_io.specs.Counts.{Rose}
 use Rattle.scasp_gen.specs.Trial.{trial_text}
 use Rattle.scasp_name.specs.Texts.{list_names}
 use Rattle.scasp_syntax.specs.declared.program.Program.{Program}
-use Rattle.scasp_phrase.specs.Faults.{fault_at}
-use Rattle.scasp_phrase.specs.declared.fault.Count.TheVariants as count
-use Rattle.scasp_phrase.specs.declared.fault.Fault.{Fault}
-use Rattle.scasp_phrase.specs.declared.fault.Kind.TheVariants as kind
-use Rattle.scasp_text.specs.Texts.{read}
-use Rattle.scasp_text.specs.declared.texts.TheConstants.{BYTE_LIMIT}
-use Rattle.scasp_program.specs.Programs.{program_in, reading_of}
-use Rattle.scasp_answers.specs.Files.{byte_limit, fault, file_in}
-use Rattle.scasp_answers.specs.declared.fault.AnswerFault.{AnswerFault}
-use Rattle.scasp_answers.specs.declared.fault.AnswerKind.TheVariants as answer
+use Rattle.scasp_reader_terms.specs.Faults.{fault_at}
+use Rattle.scasp_reader_terms.specs.declared.fault.Count.TheVariants as count
+use Rattle.scasp_reader_terms.specs.declared.fault.Fault.{Fault}
+use Rattle.scasp_reader_terms.specs.declared.fault.Kind.TheVariants as kind
+use Rattle.scasp_reader.specs.Texts.Texts.{read}
+use Rattle.scasp_reader.specs.declared.texts.texts.TheConstants.{BYTE_LIMIT}
+use Rattle.scasp_reader.specs.Programs.Programs.{program_in, reading_of}
+use Rattle.scasp_answers.specs.Blocks.Files.{byte_limit, fault, file_in}
+use Rattle.scasp_answers.specs.declared.blocks.fault.AnswerFault.{AnswerFault}
+use Rattle.scasp_answers.specs.declared.blocks.fault.AnswerKind.TheVariants as answer
 use Rattle.scasp_top.specs.Inside.Halts.{IfLine}
 use Rattle.scasp_top.specs.Outputs.{answers_in, outside, AreBytes, IsNoAnswers, IsNoProgram, RefusesAnswers, RefusesProgram, Says, Tries, TriesNodes, is_refused, is_tried, refused, refused_answers, unread_answers}
 use Rattle.scasp_top.specs.Texts.{answers_refusal, program_refusal, refusal_line, refusal_status}

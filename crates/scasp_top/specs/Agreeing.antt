@@ -1,9 +1,9 @@
 -- What a check prints, and how it ends, is settled by the bytes of both files.
 use Rattle.std.specs.Prelude.{◌≡◌, ◌≢◌, ℕ, All, List, Option, Some}
 use Rattle.scasp_syntax.specs.declared.program.Program.{Program}
-use Rattle.scasp_answers.specs.States.{Entry}
-use Rattle.scasp_recheck.specs.Meaning.{IsAccepted}
-use Rattle.scasp_words.specs.declared.command.Command.TheVariants.{Check}
+use Rattle.scasp_answers.specs.Blocks.States.{Entry}
+use Rattle.scasp_command_check.specs.Meaning.{IsAccepted}
+use Rattle.scasp_command_words.specs.declared.command.Command.TheVariants.{Check}
 use Rattle.scasp_top.specs.Outputs.{Checks, Outputs, Outside, without_faults}
 use Rattle.scasp_top.specs.declared.status.Status.{Status}
 use Rattle.scasp_top.specs.declared.status.Status.TheVariants.{Done, Memory, Refused}

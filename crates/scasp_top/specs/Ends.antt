@@ -2,14 +2,14 @@
 use Rattle.std.specs.Prelude.{◌≡◌, ℕ, Option, None, Some, List, take}
 use Rattle.std.specs.List.{concat}
 use Rattle.scasp_syntax.specs.declared.program.Program.{Program}
-use Rattle.scasp_answers.specs.States.{Entry}
-use Rattle.scasp_run.specs.declared.ends.RunEnd.{RunEnd}
-use Rattle.scasp_run.specs.declared.ends.RunEnd.TheVariants as run
-use Rattle.scasp_recheck.specs.Texts.{block_lines, recheck_text, rechecked_of}
-use Rattle.scasp_recheck.specs.declared.checking.Rechecked.{Rechecked}
-use Rattle.scasp_recheck.specs.declared.checking.Rechecked.TheVariants as check
-use Rattle.scasp_trial.specs.declared.first.Trial.{Trial}
-use Rattle.scasp_trial.specs.declared.first.Trial.TheVariants as trial
+use Rattle.scasp_answers.specs.Blocks.States.{Entry}
+use Rattle.scasp_command_run.specs.declared.ends.RunEnd.{RunEnd}
+use Rattle.scasp_command_run.specs.declared.ends.RunEnd.TheVariants as run
+use Rattle.scasp_command_check.specs.Texts.{block_lines, recheck_text, rechecked_of}
+use Rattle.scasp_command_check.specs.declared.checking.Rechecked.{Rechecked}
+use Rattle.scasp_command_check.specs.declared.checking.Rechecked.TheVariants as check
+use Rattle.scasp_command_trial.specs.declared.first.Trial.{Trial}
+use Rattle.scasp_command_trial.specs.declared.first.Trial.TheVariants as trial
 use Rattle.scasp_top.specs.declared.status.Status.{Status}
 use Rattle.scasp_top.specs.declared.status.Status.TheVariants as status
 

@@ -2,13 +2,13 @@
 use Rattle.std.proofs.Common.{lit<}
 use Rattle.std.specs.Prelude.{◌≡◌, true, None, Some, [], ◌∷◌, codes, decimal, refl}
 use Rattle.std.proofs.lemmas.Fmt.{decimal_digit}
-use Rattle.scasp_phrase.specs.declared.fault.Count.TheVariants as count
-use Rattle.scasp_phrase.specs.declared.fault.Kind.TheVariants as kind
-use Rattle.scasp_answers.specs.declared.fault.AnswerKind.TheVariants as answer
-use Rattle.scasp_run.specs.declared.ends.RunEnd.TheVariants as run
-use Rattle.scasp_recheck.specs.declared.checking.Rechecked.TheVariants as check
+use Rattle.scasp_reader_terms.specs.declared.fault.Count.TheVariants as count
+use Rattle.scasp_reader_terms.specs.declared.fault.Kind.TheVariants as kind
+use Rattle.scasp_answers.specs.declared.blocks.fault.AnswerKind.TheVariants as answer
+use Rattle.scasp_command_run.specs.declared.ends.RunEnd.TheVariants as run
+use Rattle.scasp_command_check.specs.declared.checking.Rechecked.TheVariants as check
 use Rattle.scasp_top.specs.Codes.{code_of}
-use Rattle.scasp_trial.specs.declared.first.Trial.TheVariants as trial
+use Rattle.scasp_command_trial.specs.declared.first.Trial.TheVariants as trial
 use Rattle.scasp_top.specs.Ends.{run_status, check_status, trial_status}
 use Rattle.scasp_top.specs.Outputs.{asked_answers}
 use Rattle.scasp_top.specs.Texts.{read_line, refusal_line, refusal_status, program_refusal, answers_refusal}

@@ -2,24 +2,24 @@
 use Rattle.std.specs.Prelude.{◌≡◌, ◌==◌, ◌⊎◌, ℕ, if◌then◌else◌, Option, None, Some, IfSome, List, [], length, All, Ok, Err}
 use Rattle.scasp_name.specs.Texts.{list_names}
 use Rattle.scasp_syntax.specs.declared.program.Program.{Program}
-use Rattle.scasp_phrase.specs.declared.fault.Fault.{Fault}
-use Rattle.scasp_program.specs.Programs.{program_in, reading_of}
-use Rattle.scasp_answers.specs.Files.{Reading, file_in}
-use Rattle.scasp_answers.specs.States.{Entry}
-use Rattle.scasp_answers.specs.declared.fault.AnswerFault.{AnswerFault}
-use Rattle.scasp_answer_files.specs.Texts.{with_names}
+use Rattle.scasp_reader_terms.specs.declared.fault.Fault.{Fault}
+use Rattle.scasp_reader.specs.Programs.Programs.{program_in, reading_of}
+use Rattle.scasp_answers.specs.Blocks.Files.{Reading, file_in}
+use Rattle.scasp_answers.specs.Blocks.States.{Entry}
+use Rattle.scasp_answers.specs.declared.blocks.fault.AnswerFault.{AnswerFault}
+use Rattle.scasp_answers.specs.Files.Texts.{with_names}
 use Rattle.scasp_io.specs.Counts.{Rose}
-use Rattle.scasp_words.specs.declared.command.Command.{Command}
-use Rattle.scasp_words.specs.declared.command.Command.TheVariants.{Run, Check, Trial}
+use Rattle.scasp_command_words.specs.declared.command.Command.{Command}
+use Rattle.scasp_command_words.specs.declared.command.Command.TheVariants.{Run, Check, Trial}
 use Rattle.scasp_gen.specs.Trial.{trial_text}
-use Rattle.scasp_run.specs.Jobs.{job}
-use Rattle.scasp_run.specs.Runs.{IsRun}
-use Rattle.scasp_run.specs.declared.ends.RunEnd.{RunEnd}
-use Rattle.scasp_recheck.specs.Outputs.{KeepsWorth}
-use Rattle.scasp_recheck.specs.declared.checking.Rechecked.{Rechecked}
-use Rattle.scasp_trial.specs.Texts.{trial_line}
-use Rattle.scasp_trial.specs.Trials.{IsTrial}
-use Rattle.scasp_trial.specs.declared.first.Trial.{Trial as Trying}
+use Rattle.scasp_command_run.specs.Jobs.{job}
+use Rattle.scasp_command_run.specs.Runs.{IsRun}
+use Rattle.scasp_command_run.specs.declared.ends.RunEnd.{RunEnd}
+use Rattle.scasp_command_check.specs.Outputs.{KeepsWorth}
+use Rattle.scasp_command_check.specs.declared.checking.Rechecked.{Rechecked}
+use Rattle.scasp_command_trial.specs.Texts.{trial_line}
+use Rattle.scasp_command_trial.specs.Trials.{IsTrial}
+use Rattle.scasp_command_trial.specs.declared.first.Trial.{Trial as Trying}
 use Rattle.scasp_top.specs.Ends.{IsCheck, run_status, check_status, trial_status}
 use Rattle.scasp_top.specs.Texts.{usage_line, read_line, refusal_line, refusal_status, program_refusal, answers_refusal}
 use Rattle.scasp_top.specs.declared.refusals.Input.TheVariants as input

@@ -1,11 +1,11 @@
 -- The lines that are printed where no program is run and no answers are checked.
 use Rattle.std.specs.Prelude.{ℕ, Bool, true, false, if◌then◌else◌, List, ◌++◌, codes, decimal}
-use Rattle.scasp_phrase.specs.declared.fault.Count.{Count}
-use Rattle.scasp_phrase.specs.declared.fault.Count.TheVariants as count
-use Rattle.scasp_phrase.specs.declared.fault.Kind.{Kind}
-use Rattle.scasp_phrase.specs.declared.fault.Kind.TheVariants as kind
-use Rattle.scasp_answers.specs.declared.fault.AnswerKind.{AnswerKind}
-use Rattle.scasp_answers.specs.declared.fault.AnswerKind.TheVariants as answer
+use Rattle.scasp_reader_terms.specs.declared.fault.Count.{Count}
+use Rattle.scasp_reader_terms.specs.declared.fault.Count.TheVariants as count
+use Rattle.scasp_reader_terms.specs.declared.fault.Kind.{Kind}
+use Rattle.scasp_reader_terms.specs.declared.fault.Kind.TheVariants as kind
+use Rattle.scasp_answers.specs.declared.blocks.fault.AnswerKind.{AnswerKind}
+use Rattle.scasp_answers.specs.declared.blocks.fault.AnswerKind.TheVariants as answer
 use Rattle.scasp_top.specs.declared.refusals.Input.{Input}
 use Rattle.scasp_top.specs.declared.refusals.Input.TheVariants as input
 use Rattle.scasp_top.specs.declared.status.Status.{Status}

@@ -1,7 +1,7 @@
 //! The command `check`.
 ghost use Rattle.std.specs.Prelude.{◌≡◌, Some, map};
-ghost use Rattle.scasp_answer_files.specs.View.{entry_of};
-ghost use Rattle.scasp_words.specs.declared.command.Command.TheVariants as command;
+ghost use Rattle.scasp_answers.specs.Files.View.{entry_of};
+ghost use Rattle.scasp_command_words.specs.declared.command.Command.TheVariants as command;
 ghost use Rattle.scasp_top.specs.Ends as spec;
 ghost use Rattle.scasp_top.specs.Outputs.{outside, Checks, Outputs};
 ghost use Rattle.scasp_top.specs.Reports.{Reports};
@@ -9,9 +9,9 @@ ghost use Rattle.scasp_top.specs.Reports.{Reports};
 use crate::halt::tell;
 use crate::inputs::{answers_in_file, program_in_file};
 use crate::status::Status;
-use scasp_answer_files::Entries;
+use scasp_answers::files::Entries;
+use scasp_command_check::{Rechecked, recheck};
 use scasp_io::{Files, OutputErr, Sink};
-use scasp_recheck::{Rechecked, recheck};
 use scasp_syntax::Program;
 use std::alloc::Global;
 

@@ -1,23 +1,23 @@
 //! The files of a command.
 ghost use Rattle.std.specs.Prelude.{◌≡◌, ◌≤◌, ℕ, List, Ok, IfOk, IfErr, map};
 ghost use Rattle.scasp_name.specs.Texts.{list_names};
-ghost use Rattle.scasp_program.specs.Programs.{program_in, reading_of};
-ghost use Rattle.scasp_answer_files.specs.View.{entry_of};
+ghost use Rattle.scasp_reader.specs.Programs.Programs.{program_in, reading_of};
+ghost use Rattle.scasp_answers.specs.Files.View.{entry_of};
 ghost use Rattle.scasp_top.specs.Inside.Halts.{IfLine};
 ghost use Rattle.scasp_top.specs.Outputs.{answers_in, outside, IsAnswers, IsNoAnswers, IsNoProgram, IsProgram, RefusesAnswers, RefusesProgram};
 
 use crate::halt::{Halt, line};
 use crate::refusals::{answers_refusal, program_refusal};
 use crate::status::Status;
-use scasp_answer_files::{AnswerErr, BYTE_LIMIT as ANSWER_LIMIT, Entries, read_answers};
-use scasp_answers::{AnswerFault, AnswerKind};
+use scasp_answers::blocks::{AnswerFault, AnswerKind};
+use scasp_answers::files::{AnswerErr, BYTE_LIMIT as ANSWER_LIMIT, Entries, read_answers};
 use scasp_io::{Files, ReadErr, read_file};
 use scasp_list::Memory;
 use scasp_name::Names;
-use scasp_phrase::{Count, Fault, Kind, Stop};
-use scasp_program::read_program;
+use scasp_reader::programs::read_program;
+use scasp_reader::texts::BYTE_LIMIT;
+use scasp_reader_terms::{Count, Fault, Kind, Stop};
 use scasp_syntax::{Nested, Program};
-use scasp_text::BYTE_LIMIT;
 use std::alloc::Global;
 
 /// The program that the bytes spell, and its table of names; or the line of the first fault.

@@ -8,9 +8,9 @@ ghost use Rattle.scasp_top.specs.declared.refusals.Input.TheVariants as input;
 use crate::halt::Halt;
 use crate::status::Status;
 use itoa::Buffer;
-use scasp_answers::{AnswerFault, AnswerKind};
+use scasp_answers::blocks::{AnswerFault, AnswerKind};
 use scasp_list::Memory;
-use scasp_phrase::{Count, Fault, Kind};
+use scasp_reader_terms::{Count, Fault, Kind};
 use std::alloc::Global;
 
 /// Which file of a command.

@@ -1,6 +1,6 @@
 //! The command `run`.
 ghost use Rattle.std.specs.Prelude.{◌≡◌, Some};
-ghost use Rattle.scasp_words.specs.declared.command.Command.TheVariants as command;
+ghost use Rattle.scasp_command_words.specs.declared.command.Command.TheVariants as command;
 ghost use Rattle.scasp_top.specs.Ends as spec;
 ghost use Rattle.scasp_top.specs.Outputs.{asked_answers, outside, Outputs, Runs};
 ghost use Rattle.scasp_top.specs.Reports.{Reports};
@@ -8,9 +8,9 @@ ghost use Rattle.scasp_top.specs.Reports.{Reports};
 use crate::halt::tell;
 use crate::inputs::program_in_file;
 use crate::status::Status;
+use scasp_command_run::{RunEnd, run};
 use scasp_io::{Files, OutputErr, Sink};
 use scasp_name::Names;
-use scasp_run::{RunEnd, run};
 use scasp_syntax::Program;
 use std::alloc::Global;
 

@@ -3,7 +3,7 @@ ghost use Rattle.std.specs.Prelude.{◌≡◌, ◌⊎◌, Some, None, map, strin
 ghost use Rattle.scasp_io.specs.Counts.{Rose};
 ghost use Rattle.scasp_io.specs.Lookup.{bytes_or_none};
 ghost use Rattle.scasp_io.specs.Taken.{TakesWhole};
-ghost use Rattle.scasp_words.specs.Commands.{command_of};
+ghost use Rattle.scasp_command_words.specs.Commands.{command_of};
 ghost use Rattle.scasp_top.specs.Outputs.{outside, without_faults, HasReadFault, Outputs};
 ghost use Rattle.scasp_top.specs.Reports.{Reports};
 
@@ -12,8 +12,8 @@ use crate::halt::print;
 use crate::run_command::run_file;
 use crate::status::Status;
 use crate::trial_command::try_nodes;
+use scasp_command_words::{Command, WordErr, parse_words};
 use scasp_io::{Files, Sink, SureFiles, SureSink};
-use scasp_words::{Command, WordErr, parse_words};
 use std::alloc::Global;
 
 const USAGE_LINE: &[u8] =

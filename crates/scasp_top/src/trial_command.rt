@@ -1,6 +1,6 @@
 //! The command `trial`.
 ghost use Rattle.std.specs.Prelude.{◌≡◌, Some, IfOk};
-ghost use Rattle.scasp_words.specs.declared.command.Command.TheVariants as command;
+ghost use Rattle.scasp_command_words.specs.declared.command.Command.TheVariants as command;
 ghost use Rattle.scasp_top.specs.Ends as spec;
 ghost use Rattle.scasp_top.specs.Inside.Halts.{IfLine};
 ghost use Rattle.scasp_top.specs.Outputs.{Outputs, Outside, Tries, TriesNodes};
@@ -9,12 +9,12 @@ ghost use Rattle.scasp_top.specs.Reports.{Reports};
 use crate::halt::{Halt, tell};
 use crate::inputs::read_text;
 use crate::status::Status;
+use scasp_command_trial::{Trial, trial_line, try_first};
 use scasp_gen::trial_program;
 use scasp_io::Sink;
 use scasp_list::Memory;
 use scasp_name::Names;
 use scasp_syntax::Program;
-use scasp_trial::{Trial, trial_line, try_first};
 use std::alloc::Global;
 
 /// How many calls a trial may make.

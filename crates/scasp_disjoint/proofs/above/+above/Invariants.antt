@@ -1,6 +1,6 @@
 use Rattle.std.proofs.Common.{◌≡◌, max, drop}
 use Rattle.scasp_syntax.specs.View.{tms_of}
-use Rattle.scasp_acceptance.specs.PairLists.{above_all}
+use Rattle.scasp_checker_rules.specs.PairLists.{above_all}
 use Rattle.scasp_disjoint.proofs.above.+above.Given as goal
 
 abbrev pub invariant-above_all-loop-term : goal.invariant-above_all-loop-term

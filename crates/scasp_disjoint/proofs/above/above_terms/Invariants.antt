@@ -1,5 +1,5 @@
 use Rattle.std.proofs.Common.{◌≡◌, max, drop}
-use Rattle.scasp_acceptance.specs.PairLists.{above_terms}
+use Rattle.scasp_checker_rules.specs.PairLists.{above_terms}
 use Rattle.scasp_disjoint.proofs.above.above_terms.Given as goal
 
 abbrev pub invariant-loop-k : goal.invariant-loop-k

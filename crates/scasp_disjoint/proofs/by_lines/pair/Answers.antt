@@ -1,9 +1,9 @@
 use Rattle.std.proofs.Common.{◌≡◌, ◌∙◌, None, Some, ap}
 use Rattle.std.specs.Prelude.{option_map}
-use Rattle.scasp_acceptance.specs.PairLists.{pair_list}
+use Rattle.scasp_checker_rules.specs.PairLists.{pair_list}
 use Rattle.scasp_cert.specs.Certificate.{certificate_of}
 use Rattle.scasp_disjoint.specs.ByLines.{list_of_pair, told_both}
-use Rattle.scasp_shown.specs.TableView.{table_value, told_from}
+use Rattle.scasp_lines_walk.specs.Shown.TableView.{table_value, told_from}
 use Rattle.scasp_disjoint.proofs.LineLemmas.{pair_found}
 use Rattle.scasp_disjoint.proofs.by_lines.pair.Goals as goal
 

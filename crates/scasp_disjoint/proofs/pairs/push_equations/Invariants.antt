@@ -1,7 +1,7 @@
 use Rattle.std.proofs.Common.{◌≡◌, ◌++◌, drop}
 use Rattle.scasp_syntax.specs.Values.{all_under}
 use Rattle.scasp_syntax.specs.View.{tms_of}
-use Rattle.scasp_acceptance.specs.PairLists.{equal_args}
+use Rattle.scasp_checker_rules.specs.PairLists.{equal_args}
 use Rattle.scasp_disjoint.specs.Raised.{raising_by}
 use Rattle.scasp_disjoint.proofs.pairs.push_equations.Given as goal
 

@@ -1,5 +1,5 @@
 use Rattle.std.proofs.Common.{◌≡◌, ◌++◌, map, take}
-use Rattle.scasp_acceptance.specs.PairLists.{con_raised}
+use Rattle.scasp_checker_rules.specs.PairLists.{con_raised}
 use Rattle.scasp_disjoint.proofs.raising.push_raised.Given as goal
 
 abbrev pub invariant-loop-constraint : goal.invariant-loop-constraint

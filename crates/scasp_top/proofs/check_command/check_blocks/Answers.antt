@@ -1,5 +1,5 @@
 use Rattle.std.proofs.Common.{map}
-use Rattle.scasp_answer_files.specs.View.{entry_of}
+use Rattle.scasp_answers.specs.Files.View.{entry_of}
 use Rattle.scasp_top.proofs.EndLemmas.{takes-check, takes-check_part, takes-lines}
 use Rattle.scasp_top.proofs.check_command.check_blocks.Goals as goal
 

@@ -1,6 +1,6 @@
 use Rattle.std.proofs.Common.{map, refl}
-use Rattle.scasp_answer_files.specs.View.{entry_of}
-use Rattle.scasp_words.specs.declared.command.Command.TheVariants.{Check}
+use Rattle.scasp_answers.specs.Files.View.{entry_of}
+use Rattle.scasp_command_words.specs.declared.command.Command.TheVariants.{Check}
 use Rattle.scasp_top.proofs.CommandLemmas.{goes-on-check, stops-at-answers, stops-at-program}
 use Rattle.scasp_top.proofs.check_command.check_files.Goals as goal
 

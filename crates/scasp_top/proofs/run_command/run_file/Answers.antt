@@ -1,5 +1,5 @@
 use Rattle.std.proofs.Common.{refl}
-use Rattle.scasp_words.specs.declared.command.Command.TheVariants.{Run}
+use Rattle.scasp_command_words.specs.declared.command.Command.TheVariants.{Run}
 use Rattle.scasp_top.proofs.CommandLemmas.{goes-on-run, stops-at-program}
 use Rattle.scasp_top.proofs.run_command.run_file.Goals as goal
 

@@ -1,5 +1,0 @@
-use Rattle.scasp_acceptance.proofs.AcceptedLemmas.{accepted-no_fault}
-use Rattle.scasp_acceptance.proofs.laws.accepted_where_no_fault_is.Goals as goal
-
-pub returns : goal.returns
-returns c = accepted-no_fault

@@ -1,3 +1,0 @@
-mod ByteLemmas
-mod ReadLemmas
-pub mod TextLemmas

@@ -1,4 +1,0 @@
-mod ConLemmas
-mod FitLemmas
-mod LineLemmas
-mod WordLemmas

@@ -1,7 +1,0 @@
-use Rattle.scasp_answer_lines.proofs.PastLemmas.{past-sign}
-use Rattle.scasp_answer_lines.proofs.cursor.Cursor.past_sign.Goals as goal
-
-pub returns-then-takes-clause-some : goal.returns-then-takes-clause-some
-returns-then-takes-clause-some c =
-    let next = rw c.if-takes.true at c.takes.ensures in
-    past-sign c.args.first c.args.behind.now c.args.text.now c.args.self.now c.takes.new.self c.requires.text c.requires.sign next

@@ -1,7 +1,0 @@
-use Rattle.std.proofs.Common.{◌≡◌, false, drop}
-use Rattle.scasp_lexis.specs.Bytes.{farther}
-use Rattle.scasp_answer_lines.specs.Tokens.{quoted_length}
-use Rattle.scasp_answer_lines.proofs.quotes.quoted_len.Given as goal
-
-abbrev pub invariant-loop-at : goal.invariant-loop-at
-invariant-loop-at l = farther l.at (quoted_length l.is_escaped (drop l.at l.bytes)) ≡ quoted_length false l.bytes

@@ -1,2 +1,0 @@
-mod OpensLemmas
-mod CloseLemmas

@@ -1,3 +1,0 @@
-pub mod Leads
-mod TreeLeads
-pub mod BlockLeads

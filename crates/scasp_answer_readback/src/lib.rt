@@ -1,4 +1,0 @@
-//! What is written of answers is read back: laws that join the lines of certificates with reading.
-#![tactic(auto)]
-
-pub mod laws;

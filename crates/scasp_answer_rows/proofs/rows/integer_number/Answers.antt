@@ -1,8 +1,0 @@
-use Rattle.std.proofs.Common.{◌∙◌, ap, pos}
-use Rattle.scasp_num.specs.Arithmetic.{lowest}
-use Rattle.scasp_num.proofs.Numbers.{stored}
-use Rattle.scasp_dues.proofs.NormalLemmas.{integer_is}
-use Rattle.scasp_answer_rows.proofs.rows.integer_number.Goals as goal
-
-pub returns : goal.returns
-returns c = integer_is c.args.value c.in-Ok.number (c.in-Ok.ensures.value ∙ ap (λ z. lowest z (pos 1)) (stored c.args.value c.requires))

@@ -1,2 +1,0 @@
-mod EdgeLemmas
-mod StateLemmas

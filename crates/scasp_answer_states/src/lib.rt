@@ -1,7 +1,0 @@
-//! What has been read of an answer file, and which line may come next.
-#![tactic(auto)]
-
-mod edge;
-mod state;
-
-pub use state::{Block, Entries, Entry, Phase, State};

@@ -1,0 +1,2 @@
+pub mod OpensLemmas
+pub mod CloseLemmas

@@ -1,0 +1,7 @@
+use Rattle.std.proofs.Common.{◌∙◌, ap, sym}
+use Rattle.scasp_answers.specs.Files.Texts.{with_tokens}
+use Rattle.scasp_answers.proofs.FilesLemmas.TextLemmas.{with-texts}
+use Rattle.scasp_answers.proofs.files.names.add_tokens.Goals as goal
+
+pub returns : goal.returns
+returns c = ap (with_tokens c.loop-text.names) (sym c.in_default.ensures.none) ∙ c.loop-text.invariant ∙ with-texts c.args.names.now c.args.cursor.now

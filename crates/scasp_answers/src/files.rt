@@ -1,0 +1,10 @@
+//! Answer files, read from their bytes.
+
+mod bytes;
+mod error;
+mod names;
+mod read;
+
+pub use crate::states::{Block, Entries, Entry};
+pub use error::AnswerErr;
+pub use read::{BYTE_LIMIT, MARK_LIMIT, read_answers};

@@ -1,0 +1,4 @@
+pub mod ConLemmas
+pub mod FitLemmas
+pub mod LineLemmas
+pub mod WordLemmas

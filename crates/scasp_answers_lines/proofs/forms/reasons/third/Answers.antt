@@ -1,0 +1,20 @@
+use Rattle.std.proofs.Common.{◌≡◌, ◌∙◌, ℕ, List, drop, map, codes, refl, sym, subst}
+use Rattle.scasp_answers_terms.specs.Tokens.Readers.{Parsed, alone, any_of}
+use Rattle.scasp_answers_terms.specs.Tokens.Reasons.{reasons}
+use Rattle.scasp_answers_terms.specs.Tokens.Tokens.{Token}
+use Rattle.scasp_answers_terms.specs.Tokens.View.{Reads}
+use Rattle.scasp_answers_lines.proofs.FormsLemmas.ConLemmas.{skip-one}
+use Rattle.scasp_answers_lines.proofs.forms.reasons.third.Goals as goal
+
+abbrev readers : List (List ℕ) → List (List Token → Parsed (List ℕ))
+readers rs = map (λ r. alone r r) rs
+
+pub returns : goal.returns
+returns c =
+    let others : any_of (readers (drop 10 reasons)) c.args.cursor.now ≡ any_of (readers (drop 15 reasons)) c.skips-5.new.self =
+    skip-one (codes "no ancestor") (readers (drop 11 reasons)) c.args.cursor.now c.skips.new.self c.if-skips.ensures.passes (c.if-skips.ensures.kept refl)
+    ∙ skip-one (codes "loop without negation") (readers (drop 12 reasons)) c.skips.new.self c.skips-2.new.self c.if-skips-2.ensures.passes (c.if-skips-2.ensures.kept refl)
+    ∙ skip-one (codes "not in scope") (readers (drop 13 reasons)) c.skips-2.new.self c.skips-3.new.self c.if-skips-3.ensures.passes (c.if-skips-3.ensures.kept refl)
+    ∙ skip-one (codes "hint step") (readers (drop 14 reasons)) c.skips-3.new.self c.skips-4.new.self c.if-skips-4.ensures.passes (c.if-skips-4.ensures.kept refl)
+    ∙ skip-one (codes "hint overflow") (readers (drop 15 reasons)) c.skips-4.new.self c.skips-5.new.self c.if-skips-5.ensures.passes (c.if-skips-5.ensures.kept refl) in
+    subst (λ read. Reads (λ r. r.now) read c.fourth.result c.fourth.new.cursor) (sym others) c.fourth.ensures

@@ -1,0 +1,5 @@
+//! scasp_answers_lines.
+#![tactic(auto)]
+
+pub mod forms;
+pub mod rows;

@@ -1,6 +1,0 @@
-use Rattle.std.proofs.Common.{◌≡◌, map, take}
-use Rattle.scasp_successors.specs.Items.{item_raised}
-use Rattle.scasp_calls.proofs.bodies.items_raised.Given as goal
-
-abbrev pub invariant-loop-item : goal.invariant-loop-item
-invariant-loop-item l = l.made ≡ map (item_raised l.by) (take l.item-index l.items)

@@ -1,6 +1,0 @@
-use Rattle.std.proofs.Common.{◌≡◌}
-use Rattle.scasp_successors.specs.Reading.{count_from}
-use Rattle.scasp_cases.proofs.beginning.counted.Given as goal
-
-abbrev pub invariant-loop-place : goal.invariant-loop-place
-invariant-loop-place l = l.made ≡ count_from l.first l.place

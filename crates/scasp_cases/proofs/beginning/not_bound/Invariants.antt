@@ -1,6 +1,0 @@
-use Rattle.std.proofs.Common.{◌≡◌, ◌++◌, drop, filter, not}
-use Rattle.scasp_successors.specs.Splits.{is_bound_in}
-use Rattle.scasp_cases.proofs.beginning.not_bound.Given as goal
-
-abbrev pub invariant-loop-x : goal.invariant-loop-x
-invariant-loop-x l = l.made ++ filter (λ x. not (is_bound_in l.bindings x)) (drop l.x-index l.xs) ≡ filter (λ x. not (is_bound_in l.bindings x)) l.xs

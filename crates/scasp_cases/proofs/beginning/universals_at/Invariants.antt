@@ -1,6 +1,0 @@
-use Rattle.std.proofs.Common.{◌≡◌, drop}
-use Rattle.scasp_successors.specs.Cases.{universals_at}
-use Rattle.scasp_cases.proofs.beginning.universals_at.Given as goal
-
-abbrev pub invariant-loop-x : goal.invariant-loop-x
-invariant-loop-x l = universals_at l.depth (drop l.x-index l.xs) l.made.items ≡ universals_at l.depth l.xs l.fn.made

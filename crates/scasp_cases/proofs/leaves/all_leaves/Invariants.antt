@@ -1,7 +1,0 @@
-use Rattle.std.proofs.Common.{◌≡◌, map}
-use Rattle.scasp_successors.specs.Cases.{leaf_at}
-use Rattle.scasp_successors.specs.Reading.{count_from}
-use Rattle.scasp_cases.proofs.leaves.all_leaves.Given as goal
-
-abbrev pub invariant-loop-place : goal.invariant-loop-place
-invariant-loop-place l = l.made ≡ map (leaf_at l.state l.body) (count_from 0 l.place)

@@ -1,6 +1,0 @@
-use Rattle.std.proofs.Common.{◌≡◌, ◌∷◌, ◌++◌}
-use Rattle.std.specs.Vec.Iter.{into_iter_items}
-use Rattle.scasp_cases.proofs.lists.with_first.Given as goal
-
-abbrev pub invariant-loop-later : goal.invariant-loop-later
-invariant-loop-later g l = l.made ++ into_iter_items l.later-iterator ≡ l.fn.item ∷ l.fn.list

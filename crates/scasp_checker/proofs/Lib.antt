@@ -1,0 +1,4 @@
+pub mod WalkLemmas
+pub mod PartnersLemmas
+pub mod PairsLemmas
+pub mod VerdictLemmas

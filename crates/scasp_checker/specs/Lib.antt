@@ -1,0 +1,4 @@
+pub mod Walk
+pub mod Partners
+pub mod Pairs
+pub mod Verdict

@@ -1,0 +1,7 @@
+//! scasp_checker.
+#![tactic(auto)]
+
+pub mod pairs;
+pub mod partners;
+pub mod verdict;
+pub mod walk;

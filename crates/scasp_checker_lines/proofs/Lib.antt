@@ -1,0 +1,3 @@
+pub mod LineFaultsLemmas
+pub mod NodeFaultsLemmas
+pub mod TableFaultsLemmas

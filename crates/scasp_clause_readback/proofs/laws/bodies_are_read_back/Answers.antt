@@ -1,5 +1,0 @@
-use Rattle.scasp_clause_readback.proofs.Bodies.{body-read}
-use Rattle.scasp_clause_readback.proofs.laws.bodies_are_read_back.Goals as goal
-
-pub returns : goal.returns
-returns c = λ w items n m s rest style g k. body-read w style items n m g k s rest

@@ -1,5 +1,0 @@
-use Rattle.scasp_clause_readback.proofs.Clauses.{clause-read}
-use Rattle.scasp_clause_readback.proofs.laws.clauses_are_read_back.Goals as goal
-
-pub returns : goal.returns
-returns c = λ names c s rest table g. clause-read names table c g s rest

@@ -1,6 +1,0 @@
-use Rattle.std.proofs.Common.{◌∷◌}
-use Rattle.scasp_clause_readback.proofs.ItemTokens.{of-any, stop-ends, comma-ends}
-use Rattle.scasp_clause_readback.proofs.laws.ends_of_items_are_written.Goals as goal
-
-pub returns : goal.returns
-returns c = record { comma = λ i rest. of-any i (44 ∷ 32 ∷ rest) (comma-ends (32 ∷ rest)); stop = λ i rest. of-any i (46 ∷ 10 ∷ rest) (stop-ends rest) }

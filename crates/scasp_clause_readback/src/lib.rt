@@ -1,4 +1,0 @@
-//! Clauses that are written are read back: laws that join their texts with the grammar of a program.
-#![tactic(auto)]
-
-pub mod laws;

@@ -1,0 +1,38 @@
+-- Which words are a command, and which one.
+use Rattle.std.specs.Prelude.{ℕ, Option, None, Some, option_map, unwrap_or, if◌then◌else◌, List, [], ◌∷◌, codes}
+use Rattle.std.specs.Str.{bytes_eq}
+use Rattle.scasp_command_words.specs.Numbers.{number_between}
+use Rattle.scasp_command_words.specs.Options.{with_options}
+use Rattle.scasp_command_words.specs.declared.command.Command.{Command}
+use Rattle.scasp_command_words.specs.declared.command.Command.TheVariants.{Run, Check, Trial}
+use Rattle.scasp_command_words.specs.declared.command.TheConstants.{DEFAULT_BUDGET, DEFAULT_ANSWERS, MOST_NODES}
+use Rattle.scasp_command_words.specs.declared.options.Options.{Options}
+
+-- behind `run`: FILE, and options
+abbrev pub run_of : List (List ℕ) → Option Command
+run_of [] = None
+run_of (file ∷ options) =
+    option_map (λ (o : Options). Run file (unwrap_or o.budget DEFAULT_BUDGET) (unwrap_or o.answers DEFAULT_ANSWERS))
+    (with_options (record { budget = None; answers = None }) options)
+
+-- behind `check`: PROGRAM ANSWERS
+abbrev pub check_of : List (List ℕ) → Option Command
+check_of [] = None
+check_of (program ∷ []) = None
+check_of (program ∷ answers ∷ []) = Some (Check program answers)
+check_of (program ∷ answers ∷ word ∷ words) = None
+
+-- behind `trial`: N
+abbrev pub trial_of : List (List ℕ) → Option Command
+trial_of [] = None
+trial_of (number ∷ []) = option_map Trial (number_between 1 MOST_NODES number)
+trial_of (number ∷ word ∷ words) = None
+
+-- the command that the words are
+abbrev pub command_of : List (List ℕ) → Option Command
+command_of [] = None
+command_of (word ∷ words) =
+    if bytes_eq word (codes "run") then run_of words
+    else if bytes_eq word (codes "check") then check_of words
+    else if bytes_eq word (codes "trial") then trial_of words
+    else None

@@ -1,0 +1,19 @@
+-- The options of a run: `--budget N` and `--answers N` in any order, each at most once.
+use Rattle.std.specs.Prelude.{ℕ, ◌&&◌, is_none, Option, None, Some, option_map, option_and_then, if◌then◌else◌, List, [], ◌∷◌, codes}
+use Rattle.std.specs.Str.{bytes_eq}
+use Rattle.scasp_command_words.specs.Numbers.{number_between}
+use Rattle.scasp_command_words.specs.declared.options.Options.{Options}
+use Rattle.scasp_command_words.specs.declared.options.TheConstants.{MOST}
+
+-- the options with one more, which was not given before
+abbrev pub with_option : Options → List ℕ → List ℕ → Option Options
+with_option given name number =
+    if bytes_eq name (codes "--budget") && is_none given.budget then option_map (λ n. record given { budget = Some n }) (number_between 1 MOST number)
+    else if bytes_eq name (codes "--answers") && is_none given.answers then option_map (λ n. record given { answers = Some n }) (number_between 0 MOST number)
+    else None
+
+-- the options with those that the words spell
+abbrev pub with_options : Options → List (List ℕ) → Option Options
+with_options given [] = Some given
+with_options given (name ∷ []) = None
+with_options given (name ∷ number ∷ more) = option_and_then (λ o. with_options o more) (with_option given name number)

@@ -1,0 +1,107 @@
+//! Commands.
+ghost use Rattle.std.specs.Prelude.{◌≡◌, Some, None, IfOk, IsErrOf, map, string_bytes};
+ghost use Rattle.scasp_command_words.specs.Commands.{command_of, run_of, check_of, trial_of};
+
+use crate::error::WordErr;
+use crate::number::number_between;
+use crate::options::{Options, with_options};
+use crate::word::Word;
+use std::alloc::Global;
+
+/// How many calls the search for answers to a query may make where the words do not say.
+pub const DEFAULT_BUDGET: u64 = 50_000;
+
+/// How many answers to a query are asked for where the words do not say.
+pub const DEFAULT_ANSWERS: u64 = 1;
+
+/// How many nodes a trial program may have.
+pub const MOST_NODES: u64 = 1_000;
+
+/// What the words ask for.
+#[derive(Debug, Drop)]
+pub enum Command {
+    /// Answers to the queries of a program.
+    Run {
+        file: Word,
+        /// How many calls the search for answers to one query may make.
+        budget: u64,
+        /// How many answers to each query are asked for; 0 asks for all.
+        answers: u64,
+    },
+    /// Whether the answers in a file are right.
+    Check {
+        program: Word,
+        answers: Word,
+    },
+    /// The first answer of the trial program of so many nodes.
+    Trial {
+        n: u32,
+    },
+}
+
+/// The command that the words behind `run` are: a file, and options.
+fn run_command(alloc: Global, words: &[String]) -> Result<Command, WordErr>
+    ensures ok { IfOk result (λ command. run_of (map string_bytes words.now) ≡ Some command) }
+    ensures usage { IsErrOf result WordErr.Usage → run_of (map string_bytes words.now) ≡ None }
+{
+    let [file, options @ ..] = words else {
+        return Err(WordErr::Usage);
+    };
+    let none = Options {
+        budget: None,
+        answers: None,
+    };
+    let Some(given) = with_options(none, options) else {
+        return Err(WordErr::Usage);
+    };
+    Ok(Command::Run {
+        file: Word::from_text(alloc, file.as_str())?,
+        budget: given.budget.unwrap_or(DEFAULT_BUDGET),
+        answers: given.answers.unwrap_or(DEFAULT_ANSWERS),
+    })
+}
+
+/// The command that the words behind `check` are: a program and answers.
+fn check_command(alloc: Global, words: &[String]) -> Result<Command, WordErr>
+    ensures ok { IfOk result (λ command. check_of (map string_bytes words.now) ≡ Some command) }
+    ensures usage { IsErrOf result WordErr.Usage → check_of (map string_bytes words.now) ≡ None }
+{
+    match words {
+        [program, answers] => Ok(Command::Check {
+            program: Word::from_text(alloc, program.as_str())?,
+            answers: Word::from_text(alloc, answers.as_str())?,
+        }),
+        _ => Err(WordErr::Usage),
+    }
+}
+
+/// The command that the words behind `trial` are: how many nodes.
+fn trial_command(words: &[String]) -> Result<Command, WordErr>
+    ensures ok { IfOk result (λ command. trial_of (map string_bytes words.now) ≡ Some command) }
+    ensures usage { IsErrOf result WordErr.Usage → trial_of (map string_bytes words.now) ≡ None }
+{
+    let [number] = words else {
+        return Err(WordErr::Usage);
+    };
+    let Some(n) = number_between(1, MOST_NODES, number.as_str()) else {
+        return Err(WordErr::Usage);
+    };
+    Ok(Command::Trial { n: n as u32 })
+}
+
+/// The command that the words are.
+///
+/// # Errors
+///
+/// `Usage` exactly where the words are no command; `Memory` for want of memory.
+pub fn parse_words(alloc: Global, words: &Vec<String>) -> Result<Command, WordErr>
+    ensures ok { IfOk result (λ command. command_of (map string_bytes words.now.items) ≡ Some command) }
+    ensures usage { IsErrOf result WordErr.Usage → command_of (map string_bytes words.now.items) ≡ None }
+{
+    match words.as_slice() {
+        [word, behind @ ..] if word.as_str() == "run" => run_command(alloc, behind),
+        [word, behind @ ..] if word.as_str() == "check" => check_command(alloc, behind),
+        [word, behind @ ..] if word.as_str() == "trial" => trial_command(behind),
+        _ => Err(WordErr::Usage),
+    }
+}

@@ -1,9 +1,0 @@
-use Rattle.std.proofs.Common.{◌≡◌, ◌≤◌, ◌++◌, drop, length}
-use Rattle.scasp_successors.specs.Regions.{regions}
-use Rattle.scasp_copying.proofs.regions.push_regions.Given as goal
-
-abbrev pub invariant-loop-place : goal.invariant-loop-place
-invariant-loop-place l = (l.place ≤ length l.covers) × (l.list ≡ l.fn.list ++ regions (drop l.place l.covers))
-
-abbrev pub decreases-loop-place : goal.decreases-loop-place
-decreases-loop-place l = l.place

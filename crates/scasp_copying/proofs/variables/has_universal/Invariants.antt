@@ -1,6 +1,0 @@
-use Rattle.std.proofs.Common.{◌≡◌, drop}
-use Rattle.scasp_successors.specs.Variables.{has_universal}
-use Rattle.scasp_copying.proofs.variables.has_universal.Given as goal
-
-abbrev pub invariant-loop-x : goal.invariant-loop-x
-invariant-loop-x l = has_universal l.state (drop l.x-index l.xs) ≡ has_universal l.state l.xs

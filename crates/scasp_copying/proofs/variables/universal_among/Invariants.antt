@@ -1,6 +1,0 @@
-use Rattle.std.proofs.Common.{◌≡◌, ◌++◌, drop, filter}
-use Rattle.scasp_successors.specs.Variables.{is_universal}
-use Rattle.scasp_copying.proofs.variables.universal_among.Given as goal
-
-abbrev pub invariant-loop-x : goal.invariant-loop-x
-invariant-loop-x l = l.found ++ filter (is_universal l.state) (drop l.x-index l.xs) ≡ filter (is_universal l.state) l.xs

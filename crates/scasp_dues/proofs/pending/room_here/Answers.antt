@@ -1,4 +1,0 @@
-use Rattle.scasp_dues.proofs.pending.room_here.Goals as goal
-
-pub returns-in-Case : goal.returns-in-Case
-returns-in-Case c = rw c.in-Case.is (c.room_of_case.ensures c.args.program.now.clauses)

@@ -1,8 +1,0 @@
-use Rattle.std.proofs.Common.{drop, map}
-use Rattle.scasp_shown.specs.TableView.{told_from}
-use Rattle.scasp_ends.specs.Inside.Apart.{IsLeft, pairs_of}
-use Rattle.scasp_ends.proofs.pairs.are_apart.Given as goal
-
-abbrev pub invariant-loop-place : goal.invariant-loop-place
-invariant-loop-place l =
-    IsLeft (pairs_of l.free l.given (map told_from (drop l.place l.sayings))) (pairs_of l.free l.given (map told_from l.sayings))

@@ -1,9 +1,0 @@
-use Rattle.std.proofs.Common.{drop, map}
-use Rattle.scasp_shown.specs.TableView.{told_from, told_of}
-use Rattle.scasp_ends.specs.Inside.Apart.{IsLeft, lists_behind}
-use Rattle.scasp_ends.proofs.pairs.is_apart_from.Given as goal
-
-abbrev pub invariant-loop-second : goal.invariant-loop-second
-invariant-loop-second l =
-    IsLeft (lists_behind l.free l.given (told_of l.first) (map told_from (drop l.second-index l.behind)))
-    (lists_behind l.free l.given (told_of l.first) (map told_from l.behind))

@@ -1,6 +1,0 @@
-use Rattle.std.proofs.Common.{◌≡◌, drop, ◌++◌}
-use Rattle.scasp_expression.specs.Sums.{negated_pairs}
-use Rattle.scasp_expression.proofs.sums.push_negated.Given as goal
-
-abbrev pub invariant-loop-k : goal.invariant-loop-k
-invariant-loop-k l = l.pairs ++ negated_pairs (drop l.k-index l.others) ≡ l.fn.pairs ++ negated_pairs l.others

@@ -1,8 +1,0 @@
-use Rattle.std.proofs.Common.{◌≡◌, drop}
-use Rattle.scasp_syntax.specs.Tm.{items}
-use Rattle.scasp_syntax.specs.Values.{giving}
-use Rattle.scasp_acceptance.specs.BoundedTruth.{summed}
-use Rattle.scasp_faults.proofs.sample.summed.Given as goal
-
-abbrev pub invariant-loop-k : goal.invariant-loop-k
-invariant-loop-k l = summed (giving (items l.values)) (drop l.k-index l.coeffs) l.sum ≡ summed (giving (items l.values)) l.coeffs l.constant

@@ -1,0 +1,11 @@
+pub mod HintedLemmas
+pub mod WalkLemmas
+pub mod OwnLemmas
+pub mod LineLemmas
+pub mod ClashLemmas
+pub mod FillLemmas
+pub mod UnknownLemmas
+pub mod RebuiltLemmas
+pub mod ClashFoundLemmas
+pub mod StepLemmas
+pub mod LeftLemmas

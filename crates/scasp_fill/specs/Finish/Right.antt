@@ -1,0 +1,16 @@
+-- What a tree of the search comes to: a right answer with its nodes, or none.
+use Rattle.std.specs.Prelude.{◌≡◌}
+use Rattle.scasp_checker_rules.specs.Accepted.{Accepts}
+use Rattle.scasp_cert.specs.Certificate.{Certificate}
+use Rattle.scasp_cert.specs.Skeleton.{skeleton}
+use Rattle.scasp_syntax.specs.declared.program.Program.{Program}
+use Rattle.scasp_checker.specs.Verdict.Right.{IsRight}
+
+-- The certificate is right, and it is the given one but for hints and clash lines.
+pub record Completes (p : Program) (tree c : Certificate) : Type 0 where
+  pub same : skeleton c ≡ skeleton tree
+  pub right : IsRight p c
+
+-- no hints and clash lines make it accepted
+abbrev pub HasNoAccepted : Program → Certificate → Type 0
+HasNoAccepted p tree = (c : Certificate) → skeleton c ≡ skeleton tree → ¬ Accepts p c

@@ -1,6 +1,0 @@
-use Rattle.std.proofs.Common.{◌≡◌, ◌+◌, ◌++◌, drop}
-use Rattle.scasp_successors.specs.Trees.{literal_lines}
-use Rattle.scasp_finished.proofs.building.literal_lines.Given as goal
-
-abbrev pub invariant-loop-place : goal.invariant-loop-place
-invariant-loop-place l = l.made ++ literal_lines (l.place + 1) (drop l.place l.lines) ≡ literal_lines 1 l.lines

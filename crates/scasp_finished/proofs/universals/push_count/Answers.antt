@@ -1,7 +1,0 @@
-use Rattle.std.proofs.Common.{ap, ◌∙◌}
-use Rattle.scasp_successors.specs.Reading.{count_from}
-use Rattle.scasp_finished.proofs.CountLemmas.{counted-next}
-use Rattle.scasp_finished.proofs.universals.push_count.Goals as goal
-
-pub loop-x-preserved : goal.loop-x-preserved
-loop-x-preserved c = counted-next c.loop-x.found c.push.new.self _ c.loop-x.x _ c.loop-x-test.true c.in_ok-push.ensures.ok c.loop-x.invariant

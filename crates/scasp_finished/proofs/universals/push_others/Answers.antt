@@ -1,6 +1,0 @@
-use Rattle.scasp_finished.proofs.CountLemmas.{others-next}
-use Rattle.scasp_finished.proofs.universals.push_others.Goals as goal
-
-pub loop-x-preserved : goal.loop-x-preserved
-loop-x-preserved c =
-    others-next c.args.but.now c.loop-x.found c.push_unless.new.found _ c.loop-x.x _ c.loop-x-test.true c.in_ok-push_unless.ensures c.loop-x.invariant

@@ -1,8 +1,0 @@
--- What lines make of what those behind them make.
-use Rattle.std.specs.Prelude.{ℕ, List, [], ◌∷◌}
-use Rattle.scasp_states.specs.declared.lines.Line.{Line}
-use Rattle.scasp_successors.specs.Trees.{Built, put}
-
-abbrev pub onto : List ℕ → List Line → Built → Built
-onto ats [] b = b
-onto ats (l ∷ ls) b = put ats l (onto ats ls b)

@@ -1,9 +1,0 @@
-use Rattle.scasp_fitting.proofs.Atoms.{atom_holds}
-use Rattle.scasp_fitting.proofs.laws.atoms_that_are_read_fit.Goals as goal
-
-pub returns : goal.returns
-returns c = record {
-  fit = λ s t x w r e fine c. ((atom_holds s r).holds x t e fine).fit w c;
-  counted = λ s t x w r e fine c. ((atom_holds s r).holds x t e fine).counted w c;
-  reader = λ s t x r e. ((atom_holds s r).follows x t e).reader;
-}

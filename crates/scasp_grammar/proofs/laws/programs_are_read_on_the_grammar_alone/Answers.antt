@@ -1,5 +1,0 @@
-use Rattle.scasp_grammar.proofs.Programs.{program-is, is-program}
-use Rattle.scasp_grammar.proofs.laws.programs_are_read_on_the_grammar_alone.Goals as goal
-
-pub returns : goal.returns
-returns c = λ names bytes r. (program-is names bytes r, is-program names bytes r)

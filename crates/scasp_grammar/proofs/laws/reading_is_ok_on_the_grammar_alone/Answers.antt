@@ -1,6 +1,0 @@
-use Rattle.scasp_grammar.proofs.Texts.{read-is-text}
-use Rattle.scasp_grammar.proofs.GivenTexts.{text-is-read}
-use Rattle.scasp_grammar.proofs.laws.reading_is_ok_on_the_grammar_alone.Goals as goal
-
-pub returns : goal.returns
-returns c = λ names bytes r. (read-is-text names bytes r, text-is-read names bytes r)

@@ -1,0 +1,2 @@
+pub mod AnswerReadbackLemmas
+pub mod LineReadbackLemmas

@@ -1,0 +1,2 @@
+pub mod AnswerReadback
+pub mod LineReadback

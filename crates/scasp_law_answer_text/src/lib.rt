@@ -1,0 +1,5 @@
+//! scasp_law_answer_text.
+#![tactic(auto)]
+
+pub mod answer_readback;
+pub mod line_readback;

@@ -1,0 +1,9 @@
+use Rattle.scasp_law_program_text.proofs.FittingLemmas.Items.{item_holds}
+use Rattle.scasp_law_program_text.proofs.fitting.laws.items_that_are_read_fit.Goals as goal
+
+pub returns : goal.returns
+returns c = record {
+  fit = λ s t x w r e fine c. ((item_holds s r).holds x t e fine).fit w c;
+  counted = λ s t x w r e fine c. ((item_holds s r).holds x t e fine).counted w c;
+  reader = λ s t x r e. ((item_holds s r).follows x t e).reader;
+}

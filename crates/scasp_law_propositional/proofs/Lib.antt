@@ -1,0 +1,2 @@
+pub mod PropositionalLemmas
+pub mod RunsLemmas

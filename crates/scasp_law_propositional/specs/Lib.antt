@@ -1,0 +1,2 @@
+pub mod Propositional
+pub mod Runs

@@ -1,5 +1,0 @@
-use Rattle.scasp_line_readback.proofs.Lists.{list-read}
-use Rattle.scasp_line_readback.proofs.laws.lists_are_read_back.Goals as goal
-
-pub returns : goal.returns
-returns c = λ names ts rest t n f. list-read names t ts rest (n, f)

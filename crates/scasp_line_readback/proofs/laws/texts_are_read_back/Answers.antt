@@ -1,5 +1,0 @@
-use Rattle.scasp_line_readback.proofs.Files.{text-read}
-use Rattle.scasp_line_readback.proofs.laws.texts_are_read_back.Goals as goal
-
-pub returns : goal.returns
-returns c = λ names pieces t e h. text-read names t (c.blocks_are_lines.ensures names) pieces e h

@@ -1,4 +1,0 @@
-//! What is written of a line of an answer file is read back: laws that join the text of lines with reading.
-#![tactic(auto)]
-
-pub mod laws;

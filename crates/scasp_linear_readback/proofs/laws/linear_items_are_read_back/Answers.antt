@@ -1,5 +1,0 @@
-use Rattle.scasp_linear_readback.proofs.LinearItems.{linear-is, linear-read}
-use Rattle.scasp_linear_readback.proofs.laws.linear_items_are_read_back.Goals as goal
-
-pub returns : goal.returns
-returns c = λ w l n m s rest style h count end. linear-read w style l (linear-is w l h) n m count s rest end

@@ -1,0 +1,2 @@
+pub mod TraversalLemmas
+pub mod ShownLemmas

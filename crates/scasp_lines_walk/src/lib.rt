@@ -1,0 +1,5 @@
+//! scasp_lines_walk.
+#![tactic(auto)]
+
+pub mod shown;
+pub mod traversal;

@@ -1,9 +1,0 @@
--- What pairs are tested against.
-use Rattle.std.specs.Prelude.{◌≡◌, ℕ}
-use Rattle.scasp_acceptance.specs.Pairs.{clash_of}
-use Rattle.scasp_pairs.specs.Inside.Clashes.{clash_in}
-use Rattle.scasp_pairs.specs.declared.clash_lines.Against.{Against}
-
--- the clash line of each two lines is found
-abbrev pub Finds : Against → Type 0
-Finds a = (i j : ℕ) → clash_in a.clashes i j ≡ clash_of i j a.cert.now.clashes

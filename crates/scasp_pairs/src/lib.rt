@@ -1,8 +1,0 @@
-//! Pairs of literals, which have to be shown apart.
-#![tactic(auto)]
-
-mod clash_lines;
-mod clashes;
-mod pairs;
-
-pub use pairs::accept_apart;

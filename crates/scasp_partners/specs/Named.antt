@@ -1,9 +1,0 @@
--- Literals that differ by a name or a number.
-use Rattle.std.specs.Prelude.{Bool, ◌&&◌, nat_eq, length}
-use Rattle.scasp_acceptance.specs.Told.{Told}
-use Rattle.scasp_faults.specs.NameClashes.{clash_among}
-use Rattle.scasp_syntax.specs.Tm.{items}
-
--- they have as many arguments, and differ by a name or a number
-abbrev pub differ_by_names : Told → Told → Bool
-differ_by_names a b = nat_eq (length (items a.atom.args)) (length (items b.atom.args)) && clash_among a.atom.args b.atom.args

@@ -1,8 +1,0 @@
-//! Pairs of literals: found by predicate and sign, and told apart by names.
-#![tactic(auto)]
-
-mod named;
-mod partners;
-
-pub use named::differ_by_names;
-pub use partners::{Partners, items_in, partners_of};

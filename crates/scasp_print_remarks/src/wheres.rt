@@ -1,0 +1,92 @@
+//! What the given constraints say of the variables that an answer shows.
+ghost use Rattle.std.specs.Prelude.{◌≡◌, ◌++◌, true, OnOk, if◌then◌else◌, codes};
+ghost use Rattle.scasp_project.specs.Projection.{projection};
+ghost use Rattle.scasp_print_remarks.specs.Remarks as spec;
+
+use scasp_name::{Memory, Names};
+use scasp_print::put_con;
+use scasp_print_words::{put, put_separator};
+use scasp_project::{Projected, project};
+use scasp_rows::LinErr;
+use scasp_syntax::{Con, ConLists, Cons, VarList};
+
+/// Puts constraints with commas between them.
+fn put_cons(out: &mut Vec<u8>, names: &Names, constraints: &[Con]) -> Result<(), Memory>
+    ensures { OnOk result (out.new.items ≡ out.old.items ++ spec.cons_text names.now true constraints.now) }
+{
+    let mut is_first = true;
+    for constraint in constraints {
+        put_separator(out, is_first, ", ")?;
+        put_con(out, names, constraint)?;
+        is_first = false;
+    }
+    Ok(())
+}
+
+/// Puts the line of an alternative.
+fn put_alternative(
+    out: &mut Vec<u8>,
+    names: &Names,
+    is_first: bool,
+    constraints: &[Con],
+) -> Result<(), Memory>
+    ensures { OnOk result (out.new.items ≡ out.old.items ++ ((if is_first then codes "% where " else codes "% or ") ++ spec.cons_text names.now true constraints.now ++ codes "\n")) }
+{
+    put(out, if is_first { "% where " } else { "% or " })?;
+    put_cons(out, names, constraints)?;
+    put(out, "\n")
+}
+
+/// Puts a line for each alternative.
+fn put_alternative_lines(out: &mut Vec<u8>, names: &Names, lists: &[Cons]) -> Result<(), Memory>
+    ensures { OnOk result (out.new.items ≡ out.old.items ++ spec.alternative_lines names.now true lists.now) }
+{
+    let mut is_first = true;
+    for constraints in lists {
+        put_alternative(out, names, is_first, constraints.as_slice())?;
+        is_first = false;
+    }
+    Ok(())
+}
+
+/// Whether some alternative has no constraints.
+fn has_empty(lists: &[Cons]) -> bool
+    ensures { result ≡ spec.has_empty lists.now }
+{
+    for constraints in lists {
+        if constraints.len() == 0 {
+            return true;
+        }
+    }
+    false
+}
+
+/// Puts what the alternatives say.
+fn put_alternatives(out: &mut Vec<u8>, names: &Names, lists: &ConLists) -> Result<(), Memory>
+    ensures { OnOk result (out.new.items ≡ out.old.items ++ spec.alternatives_text names.now lists.now) }
+{
+    if lists.len() == 0 {
+        put(out, "% where false\n")
+    } else if has_empty(lists.as_slice()) {
+        Ok(())
+    } else {
+        put_alternative_lines(out, names, lists.as_slice())
+    }
+}
+
+/// Puts what the constraints say of the variables.
+pub(crate) fn put_where(
+    out: &mut Vec<u8>,
+    names: &Names,
+    given: &Cons,
+    shown: &VarList,
+) -> Result<(), Memory>
+    ensures { OnOk result (out.new.items ≡ out.old.items ++ spec.where_text names.now (projection given.now shown.now)) }
+{
+    match project(given, shown) {
+        Ok(Projected::Alternatives(lists)) => put_alternatives(out, names, &lists),
+        Ok(Projected::TooMany) => put(out, "% where more\n"),
+        Err(LinErr::Overflow) => put(out, "% where overflow\n"),
+        Err(LinErr::Memory) => Err(Memory),
+    }
+}

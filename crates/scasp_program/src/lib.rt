@@ -1,9 +1,0 @@
-//! A program's text read as a program: well formed, with the generated denials behind its clauses.
-#![tactic(auto)]
-
-mod denials;
-pub mod laws;
-mod reading;
-
-pub use denials::denial_of;
-pub use reading::read_program;

@@ -1,5 +1,0 @@
-//! Runs of propositional programs, which pass over no tree of the search. It has no code, but definitions, and laws as public
-//! functions.
-#![tactic(auto)]
-
-pub mod laws;

@@ -1,4 +1,0 @@
-//! What is written of a program is read back: laws that join the texts of `scasp_cert` with the reader.
-#![tactic(auto)]
-
-pub mod laws;

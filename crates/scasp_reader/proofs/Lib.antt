@@ -1,0 +1,3 @@
+pub mod BodiesLemmas
+pub mod TextsLemmas
+pub mod ProgramsLemmas

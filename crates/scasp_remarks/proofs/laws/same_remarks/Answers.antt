@@ -1,5 +1,0 @@
-use Rattle.scasp_remarks.proofs.SkeletonLemmas.{remarks-same}
-use Rattle.scasp_remarks.proofs.laws.same_remarks.Goals as goal
-
-pub returns : goal.returns
-returns c = remarks-same

@@ -1,5 +1,0 @@
-use Rattle.scasp_run.proofs.AgreeLemmas.{agree}
-use Rattle.scasp_run.proofs.laws.runs_agree.Goals as goal
-
-pub returns : goal.returns
-returns c = agree

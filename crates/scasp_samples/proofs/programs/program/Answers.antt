@@ -1,5 +1,0 @@
-use Rattle.scasp_samples.proofs.WellFormedLemmas.{made-below}
-use Rattle.scasp_samples.proofs.programs.program.Goals as goal
-
-pub invariant_of-result : goal.invariant_of-result
-invariant_of-result c = record { well_formed = made-below (λ r. r.0) (λ r. r.1.now) (λ b. b.now) c.args.rules.now c.args.bodies.now _ _ c.in_ok-clauses.ensures c.in_ok-queries.ensures }

@@ -1,4 +1,0 @@
-use Rattle.scasp_search.proofs.free.answer.Goals as goal
-
-pub returns : goal.returns
-returns c = c.answer_at.ensures c.args.goal.now.checks

@@ -1,0 +1,2 @@
+pub mod AssumeLemmas
+pub mod EquateLemmas

@@ -1,0 +1,2 @@
+pub mod Assume
+pub mod Equate

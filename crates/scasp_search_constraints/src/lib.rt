@@ -1,0 +1,5 @@
+//! scasp_search_constraints.
+#![tactic(auto)]
+
+pub mod assume;
+pub mod equate;

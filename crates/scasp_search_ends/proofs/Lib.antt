@@ -1,0 +1,2 @@
+pub mod FinishedLemmas
+pub mod EndsLemmas

@@ -1,0 +1,10 @@
+//! The end of a branch of the written search: whether its literals are apart, and the sample of its answer.
+
+mod answers;
+mod differing;
+mod pairs;
+mod plain;
+mod sampling;
+
+pub use answers::answer_at;
+pub use sampling::sample;

@@ -1,0 +1,5 @@
+//! scasp_search_ends.
+#![tactic(auto)]
+
+pub mod ends;
+pub mod finished;

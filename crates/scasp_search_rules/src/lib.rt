@@ -1,0 +1,5 @@
+//! scasp_search_rules.
+#![tactic(auto)]
+
+pub mod states;
+pub mod successors;

@@ -1,5 +1,0 @@
-use Rattle.scasp_soundness.proofs.DisjointLemmas.{apart-said}
-use Rattle.scasp_soundness.proofs.laws.apart.Goals as goal
-
-pub returns : goal.returns
-returns c = apart-said

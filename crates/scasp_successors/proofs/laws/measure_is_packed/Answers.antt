@@ -1,8 +1,0 @@
-use Rattle.scasp_successors.proofs.FallLemmas.{more_is_less, lighter_is_less}
-use Rattle.scasp_successors.proofs.laws.measure_is_packed.Goals as goal
-
-pub returns-clause-more : goal.returns-clause-more
-returns-clause-more c = more_is_less
-
-pub returns-clause-lighter : goal.returns-clause-lighter
-returns-clause-lighter c = lighter_is_less

@@ -1,5 +1,0 @@
-//! What comes after each state of the written search: one room for each rule. It has no code, but definitions, and laws as public
-//! functions.
-#![tactic(auto)]
-
-pub mod laws;

@@ -1,4 +1,0 @@
-//! Terms that are read can be written, and read again: laws of what a reader gives.
-#![tactic(auto)]
-
-pub mod laws;

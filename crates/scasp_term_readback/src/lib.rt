@@ -1,4 +1,0 @@
-//! Terms that are written are read back: laws that join their texts with the grammar of terms.
-#![tactic(auto)]
-
-pub mod laws;

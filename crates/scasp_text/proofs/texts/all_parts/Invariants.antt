@@ -1,9 +1,0 @@
-use Rattle.std.proofs.Common.{◌≡◌}
-use Rattle.scasp_text.specs.Texts.{parts_within, parts}
-use Rattle.scasp_text.proofs.texts.all_parts.Given as goal
-
-abbrev pub invariant-loop-left : goal.invariant-loop-left
-invariant-loop-left l = parts_within l.left l.parts l.reader ≡ parts l.fn.reader
-
-abbrev pub decreases-loop-left : goal.decreases-loop-left
-decreases-loop-left l = l.left

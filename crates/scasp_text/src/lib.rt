@@ -1,8 +1,0 @@
-//! The whole text of a program, as it is written: its clauses and queries, or the first fault with its place.
-#![tactic(auto)]
-
-mod clauses;
-mod texts;
-
-pub use clauses::{Part, clause};
-pub use texts::{BYTE_LIMIT, CLAUSE_LIMIT, Parts, Reading, read_text};

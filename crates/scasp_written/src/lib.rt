@@ -1,0 +1,5 @@
+//! scasp_written.
+#![tactic(auto)]
+
+pub mod steps;
+pub mod written;
