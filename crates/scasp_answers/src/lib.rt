@@ -1,8 +1,11 @@
-//! scasp_answers.
+//! Answer files read from their bytes: blocks of certificates, or the first fault with its line.
 #![tactic(auto)]
 
 pub mod blocks;
-pub mod files;
-pub mod opens;
-pub mod parts;
-pub mod states;
+mod files;
+mod opens;
+mod parts;
+mod states;
+
+pub use blocks::{AnswerFault, AnswerKind};
+pub use files::{AnswerErr, BYTE_LIMIT, Block, Entries, Entry, MARK_LIMIT, read_answers};

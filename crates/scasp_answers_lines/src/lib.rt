@@ -1,5 +1,7 @@
-//! scasp_answers_lines.
+//! The lines of an answer file, of all forms, read from their bytes.
 #![tactic(auto)]
 
-pub mod forms;
-pub mod rows;
+mod forms;
+mod rows;
+
+pub use forms::{End, Line, fits, line_in};

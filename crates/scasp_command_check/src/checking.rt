@@ -12,7 +12,7 @@ ghost use Rattle.scasp_command_check.specs.Worths.{worth_of};
 
 use crate::lines::{block_line, checked_line};
 use crate::worth::{Worth, find_worth, see_worth};
-use scasp_answers::files::{Block, Entries, Entry};
+use scasp_answers::{Block, Entries, Entry};
 use scasp_io::{OutputErr, Sink, write_all};
 use scasp_list::Memory;
 use scasp_syntax::Program;

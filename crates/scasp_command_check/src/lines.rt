@@ -4,9 +4,9 @@ ghost use Rattle.scasp_cert.specs.Certificate.{certificate_of};
 ghost use Rattle.scasp_command_check.specs.Texts as spec;
 
 use crate::worth::Worth;
-use scasp_answers::files::Block;
+use scasp_answers::Block;
 use scasp_cert::{Cert, flat};
-use scasp_checker::verdict::Reason;
+use scasp_checker::Reason;
 use scasp_list::Memory;
 use scasp_print_words::{put, put_number};
 use std::alloc::Global;

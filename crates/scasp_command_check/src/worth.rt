@@ -4,7 +4,7 @@ ghost use Rattle.scasp_cert.specs.Certificate.{certificate_of};
 ghost use Rattle.scasp_command_check.specs.Worths.{worth_of, Says};
 
 use scasp_cert::Cert;
-use scasp_checker::verdict::{CheckErr, Refusal, Verdict, check};
+use scasp_checker::{CheckErr, Refusal, Verdict, check};
 use scasp_graph::MapFault;
 use scasp_law_promise::see_rows;
 use scasp_list::Memory;

@@ -8,10 +8,10 @@ ghost use Rattle.scasp_search_rules.specs.Successors.Machine.{answered};
 
 use crate::ends::QueryEnd;
 use scasp_cert::Cert;
-use scasp_fill::finish::{Finished, finish};
+use scasp_fill::{Finished, finish};
 use scasp_list::Memory;
 use scasp_syntax::Program;
-use scasp_written::written::{Event, Written};
+use scasp_written::{Event, Written};
 use std::alloc::Global;
 
 /// What the search comes to next.

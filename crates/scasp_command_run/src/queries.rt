@@ -21,7 +21,7 @@ use scasp_cert::Cert;
 use scasp_io::{OutputErr, Sink};
 use scasp_list::Memory;
 use scasp_syntax::Program;
-use scasp_written::written::Written;
+use scasp_written::Written;
 use std::alloc::Global;
 
 /// How the run of a query ended, and whether an answer was printed.

@@ -12,10 +12,10 @@ ghost use Rattle.scasp_command_trial.specs.Inside.{Leads};
 ghost use Rattle.scasp_command_trial.specs.Trials.{IsTrial, Tries};
 
 use scasp_cert::{Cert, flat, lines};
-use scasp_fill::finish::{Finished, finish};
+use scasp_fill::{Finished, finish};
 use scasp_list::Memory;
 use scasp_syntax::Program;
-use scasp_written::written::{Event, Written};
+use scasp_written::{Event, Written};
 use std::alloc::Global;
 
 /// What a trial comes to.

@@ -10,7 +10,7 @@ ghost use Rattle.scasp_syntax.specs.Programs.{numbered};
 use crate::pairs::{is_pair, pair_list};
 use scasp_cert::Cert;
 use scasp_hint::{HintErr, HintFault, unsat};
-use scasp_lines_walk::shown::{Saying, Table, table_of};
+use scasp_lines_walk::{Saying, Table, table_of};
 use scasp_list::Memory;
 use scasp_syntax::{Cons, Hint, Program};
 use std::alloc::Global;
@@ -53,11 +53,7 @@ pub fn context(
     match table.line(line) {
         None => Ok(None),
         Some(row) => {
-            let list = scasp_lines_places::dues::context(
-                alloc,
-                cert.given.as_slice(),
-                row.opened(),
-            )?;
+            let list = scasp_lines_places::context(alloc, cert.given.as_slice(), row.opened())?;
             Ok(Some(list))
         }
     }

@@ -11,4 +11,4 @@ pub use above::{above_all, above_con, above_cons};
 pub use by_lines::{ApartErr, apart, context, pair};
 pub use pairs::{is_pair, pair_list};
 pub use raising::{Raising, con_raised};
-pub use scasp_lines_walk::shown::Saying;
+pub use scasp_lines_walk::Saying;

@@ -8,9 +8,8 @@ ghost use Rattle.scasp_syntax.specs.Values.{all_under};
 
 use crate::above::{above_all, above_cons};
 use crate::raising::{Raising, push_raised};
-use scasp_lines_places::dues::context;
-use scasp_lines_places::places::under;
-use scasp_lines_walk::shown::Saying;
+use scasp_lines_places::{context, under};
+use scasp_lines_walk::Saying;
 use scasp_list::Memory;
 use scasp_syntax::{Con, Cons, Terms, copy};
 use std::alloc::Global;

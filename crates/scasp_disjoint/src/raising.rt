@@ -4,8 +4,7 @@ ghost use Rattle.scasp_checker_rules.specs.PairLists.{con_raised};
 ghost use Rattle.scasp_disjoint.specs.Raised.{raising_by};
 ghost use Rattle.scasp_syntax.specs.View.{tm_of};
 
-use scasp_lines_places::dues::{raised_from, raised_row};
-use scasp_lines_places::places::{Substitution, under};
+use scasp_lines_places::{Substitution, raised_from, raised_row, under};
 use scasp_list::Memory;
 use scasp_syntax::{Con, Cons, Term};
 use std::alloc::Global;

@@ -1,4 +1,5 @@
-//! scasp_law_program_text.
+//! Laws of program texts: the grammar apart from the reader, and that what is written is read back. It has no code, but
+//! definitions, and laws as public functions.
 #![tactic(auto)]
 
 pub mod clause_readback;

@@ -1,4 +1,5 @@
-//! scasp_law_propositional.
+//! Laws of propositional programs, of which no finished tree of the search is passed over. It has no code, but definitions, and
+//! laws as public functions.
 #![tactic(auto)]
 
 pub mod propositional;

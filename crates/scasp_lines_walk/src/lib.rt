@@ -1,5 +1,8 @@
-//! scasp_lines_walk.
+//! The lines of a certificate, one after the other with what stands around each, and a table of them.
 #![tactic(auto)]
 
-pub mod shown;
-pub mod traversal;
+mod shown;
+mod traversal;
+
+pub use shown::{Saying, Table, shown_at, table_of};
+pub use traversal::{Line, Lines, Part};

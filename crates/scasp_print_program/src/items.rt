@@ -8,7 +8,7 @@ use crate::terms::{put_lit, put_term};
 use scasp_list::Memory;
 use scasp_num::{Op, Row};
 use scasp_print_words::{put, put_integer, put_separator};
-use scasp_reader::bodies::DEPTH_LIMIT;
+use scasp_reader::DEPTH_LIMIT;
 use scasp_syntax::{Item, Items, Lin, VarList};
 
 fn put_plus(out: &mut Vec<u8>, number: i128) -> Result<(), Memory>

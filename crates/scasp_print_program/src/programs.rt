@@ -7,7 +7,7 @@ use crate::clauses::{put_clause, put_query};
 use scasp_graph::predicates;
 use scasp_list::Memory;
 use scasp_name::Names;
-use scasp_reader::programs::denial_of;
+use scasp_reader::denial_of;
 use scasp_syntax::{Clause, Item, Pred, Preds, Program, Query, same_lit};
 use std::alloc::Global;
 

@@ -8,7 +8,7 @@ use crate::style::Shown;
 use scasp_list::Memory;
 use scasp_name::{NIL, NameId};
 use scasp_print_words::{is_pair, put, put_name, put_rational, put_separator};
-use scasp_reader::bodies::DEPTH_LIMIT;
+use scasp_reader::DEPTH_LIMIT;
 use scasp_syntax::{Atom, Lit, Term, Terms};
 
 /// Puts a name without arguments at the end, as a term.

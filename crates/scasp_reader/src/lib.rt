@@ -1,6 +1,10 @@
-//! scasp_reader.
+//! A program's text read as a program: well formed, with the generated denials behind its clauses.
 #![tactic(auto)]
 
-pub mod bodies;
+mod bodies;
 pub mod programs;
-pub mod texts;
+mod texts;
+
+pub use bodies::{DEPTH_LIMIT, ITEM_LIMIT};
+pub use programs::{denial_of, read_program};
+pub use texts::{BYTE_LIMIT, CLAUSE_LIMIT, Part, Parts, Reading, read_text};

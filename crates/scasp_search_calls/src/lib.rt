@@ -1,5 +1,8 @@
-//! scasp_search_calls.
+//! Tests and calls of literals in states of the search, and cases of a cover that begin and end.
 #![tactic(auto)]
 
-pub mod calls;
-pub mod cases;
+mod calls;
+mod cases;
+
+pub use calls::{call, covered, head_args, leave_literal, push_shows, show_test, vars_of_clause};
+pub use cases::{begin_cases, check_clause, close_case, push_lines, split_first, with_first};

@@ -1,5 +1,8 @@
-//! scasp_search_ends.
+//! The end of a branch of the search: the certificate of a state with nothing left to do, and its sample.
 #![tactic(auto)]
 
-pub mod ends;
-pub mod finished;
+mod ends;
+mod finished;
+
+pub use ends::answer_at;
+pub use finished::About;

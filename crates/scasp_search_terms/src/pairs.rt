@@ -7,7 +7,7 @@ ghost use Rattle.scasp_search_rules.specs.Successors.Pairs.{all_pairs_of, from_f
 
 use crate::reading::read;
 use scasp_list::Memory;
-use scasp_search_rules::states::{Pair, Pairs};
+use scasp_search_rules::{Pair, Pairs};
 use scasp_syntax::{DeepCopy, Term, Terms, copy};
 use scasp_unify::Binding;
 use std::alloc::Global;

@@ -4,7 +4,7 @@ ghost use Rattle.scasp_search_rules.specs.Successors.Items.{with_line};
 ghost use Rattle.scasp_search_rules.specs.Successors.Regions.{asked_with, before, context, equation, regions, with_given};
 
 use scasp_list::Memory;
-use scasp_search_rules::states::{Cover, Line, State, Task, Tasks};
+use scasp_search_rules::{Cover, Line, State, Task, Tasks};
 use scasp_syntax::{Con, Cons, DeepCopy, Term};
 use scasp_unify::Binding;
 use std::alloc::Global;

@@ -5,7 +5,7 @@ ghost use Rattle.scasp_search_rules.specs.Successors.Splits.{equation_parting, i
 use crate::constraints::push_all_vars;
 use scasp_list::Memory;
 use scasp_name::NameId;
-use scasp_search_rules::states::Parting;
+use scasp_search_rules::Parting;
 use scasp_syntax::{Con, DeepCopy, Term, Terms, VarList, copy};
 use scasp_unify::Binding;
 use std::alloc::Global;

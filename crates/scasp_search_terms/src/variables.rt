@@ -6,7 +6,7 @@ ghost use Rattle.scasp_search_rules.specs.Successors.Variables.{bind, depth_of, 
 
 use crate::constraints::{con_vars, push_vars};
 use scasp_list::Memory;
-use scasp_search_rules::states::{Kind, Made, State, Variables};
+use scasp_search_rules::{Kind, Made, State, Variables};
 use scasp_syntax::{Con, Term, VarList};
 use scasp_unify::Binding;
 use std::alloc::Global;

@@ -1,6 +1,5 @@
 //! Files: how many entries and blocks are read, or the first fault with its place.
-use scasp_answers::blocks::{AnswerFault, AnswerKind};
-use scasp_answers::files::{AnswerErr, BYTE_LIMIT, MARK_LIMIT, read_answers};
+use scasp_answers::{AnswerErr, AnswerFault, AnswerKind, BYTE_LIMIT, MARK_LIMIT, read_answers};
 use scasp_name::Names;
 use std::alloc::Global;
 use std::rt::HostRuntime;

@@ -1,6 +1,6 @@
 //! Lines: whether a text is one, and whether its numbers fit.
-use scasp_answers_lines::forms::{Line, fits, line_in};
-use scasp_answers_terms::tokens::Stop;
+use scasp_answers_lines::{Line, fits, line_in};
+use scasp_answers_terms::Stop;
 use scasp_name::Names;
 use std::alloc::Global;
 use std::rt::HostRuntime;

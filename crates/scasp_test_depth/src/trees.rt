@@ -1,6 +1,6 @@
 //! Deep trees: p by its rule `p :- p.`, again and again, and at last the loop to the first line.
 use scasp_cert::{Cert, Checks, Clashes, Node, Nodes, flat, lines};
-use scasp_checker::verdict::{CheckErr, Reason, check};
+use scasp_checker::{CheckErr, Reason, check};
 use scasp_list::Memory;
 use scasp_search_trees::{DEPTH_LIMIT, Stacks, put_node, put_pos, trees_and_checks};
 use scasp_syntax::{Cons, PredMaps, Terms};

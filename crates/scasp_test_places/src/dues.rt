@@ -1,8 +1,9 @@
 //! What is due below a line.
 use crate::made::{p_of, rule, two};
 use scasp_cert::{Cert, Checks, Clashes, Nodes};
-use scasp_lines_places::dues::{Due, Dues, head_dues, leaf_dues, query_dues, rule_dues, top};
-use scasp_lines_places::places::{Inside, Place, inside_rule};
+use scasp_lines_places::{
+    Due, Dues, Inside, Place, head_dues, inside_rule, leaf_dues, query_dues, rule_dues, top,
+};
 use scasp_list::Memory;
 use scasp_syntax::{
     Clauses, Con, Cons, Items, PredMaps, Program, Queries, Query, Term, Terms, VarNames,

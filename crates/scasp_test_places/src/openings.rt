@@ -1,7 +1,6 @@
 //! What opens where a fact is taken at a literal.
 use crate::made::{constant, f, fact, p, two};
-use scasp_lines_places::dues::context;
-use scasp_lines_places::places::{Inside, Place, bound_to, inside_rule};
+use scasp_lines_places::{Inside, Place, bound_to, context, inside_rule};
 use scasp_list::Memory;
 use scasp_num::Rat;
 use scasp_syntax::{Con, Cons, Term, Terms};

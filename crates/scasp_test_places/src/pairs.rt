@@ -1,7 +1,7 @@
 //! Lists of pairs.
 use crate::made::p_of;
 use scasp_disjoint::{Saying, pair_list};
-use scasp_lines_places::places::Chain;
+use scasp_lines_places::Chain;
 use scasp_list::Memory;
 use scasp_syntax::{Con, Cons, Term};
 use std::alloc::Global;

@@ -1,6 +1,6 @@
 //! Places below literals and within cases.
 use crate::made::p_of;
-use scasp_lines_places::places::Place;
+use scasp_lines_places::Place;
 use scasp_list::Memory;
 use std::alloc::Global;
 use std::test::Fail;

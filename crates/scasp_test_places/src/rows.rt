@@ -1,8 +1,7 @@
 //! Rows under a rule's terms and in a pair.
 use crate::made::two;
 use scasp_disjoint::{Raising, con_raised};
-use scasp_lines_places::dues::determined;
-use scasp_lines_places::places::ClauseValues;
+use scasp_lines_places::{ClauseValues, determined};
 use scasp_num::{Op, Rat, RatPair, RatPairs, Row};
 use scasp_syntax::{Con, Term};
 use std::alloc::Global;

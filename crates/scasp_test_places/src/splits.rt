@@ -1,8 +1,8 @@
 //! The two sides of a split.
 use crate::made::f;
-use scasp_lines_places::dues::context;
-use scasp_lines_places::places::{
-    Bounds, Inside, Place, Sides, both_sides, in_scope, inside_check, is_universal, replaced_value,
+use scasp_lines_places::{
+    Bounds, Inside, Place, Sides, both_sides, context, in_scope, inside_check, is_universal,
+    replaced_value,
 };
 use scasp_list::Memory;
 use scasp_syntax::{Clause, Con, Items, Term};

@@ -1,7 +1,7 @@
 //! Trials: of the generated programs as commands, and of other programs as values.
 use scasp_command_trial::{Trial, trial_line, try_first};
 use scasp_name::Names;
-use scasp_reader::programs::read_program;
+use scasp_reader::read_program;
 use scasp_test_worked::{Command, Device, SOUND, printed, prints};
 use scasp_top::Status;
 use std::alloc::Global;

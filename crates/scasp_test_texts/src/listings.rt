@@ -1,7 +1,7 @@
 //! Programs written as text, and read again.
 use scasp_name::Names;
 use scasp_print_program::print_program;
-use scasp_reader::programs::read_program;
+use scasp_reader::read_program;
 use std::alloc::Global;
 use std::test::Fail;
 

@@ -1,6 +1,6 @@
 //! Texts, and the programs that are read from them.
 use scasp_name::{NameId, Names};
-use scasp_reader::programs::read_program;
+use scasp_reader::read_program;
 use scasp_reader_terms::Stop;
 use scasp_syntax::{Item, Items, Program};
 use std::alloc::Global;

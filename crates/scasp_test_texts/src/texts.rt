@@ -1,7 +1,6 @@
 //! Whole texts: how many clauses and queries are read, or the first fault with its place.
 use scasp_name::Names;
-use scasp_reader::programs::read_program;
-use scasp_reader::texts::read_text;
+use scasp_reader::{read_program, read_text};
 use scasp_reader_terms::{Count, Fault, Kind, Stop};
 use std::alloc::Global;
 use std::test::Fail;

@@ -7,7 +7,7 @@ use crate::written::Told::{Equal, HasNotShape, IsNot};
 use crate::written::Written::{A, B, F, V};
 use crate::written::{Change, Sample, Told};
 use scasp_cert::{flat, lines, skeleton};
-use scasp_checker::verdict::{CheckErr, Reason, Refusal, check};
+use scasp_checker::{CheckErr, Reason, Refusal, check};
 use scasp_checker_answer::same_con;
 use scasp_disjoint::{ApartErr, apart, context, pair};
 use scasp_hint::HintFault;

@@ -2,7 +2,7 @@
 use crate::written::{Sum, Told, Tried, Written};
 use scasp_name::{Memory, NameId, Names};
 use scasp_num::{Rat, RatPair, RatPairs, Row, RowErr, Step, StepLists, Steps};
-use scasp_reader::programs::read_program;
+use scasp_reader::read_program;
 use scasp_syntax::{Atom, Con, Cons, Hint, Program, Term, Terms};
 use scasp_test_samples::{Name, atom, one};
 use std::alloc::Global;

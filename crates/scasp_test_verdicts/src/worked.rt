@@ -10,7 +10,7 @@ use crate::trees::certificate;
 use crate::written::Tried::ByStep;
 use crate::written::Written::A;
 use crate::written::{Change, Outcome, Sample};
-use scasp_checker::verdict::{CheckErr, Verdict, check};
+use scasp_checker::{CheckErr, Verdict, check};
 use scasp_graph::MapFault;
 use scasp_name::Memory;
 use scasp_test_samples::Q;

@@ -1,5 +1,5 @@
 //! What the tables of the tests write.
-use scasp_checker::verdict::Verdict;
+use scasp_checker::Verdict;
 use scasp_checker_rules::Reason;
 use scasp_num::{Op, Step};
 use scasp_test_samples::Name;

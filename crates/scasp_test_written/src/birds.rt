@@ -1,11 +1,11 @@
 //! An ordinary program with classical negation and denials: what each query gives first, and what the checker says of it.
 use crate::runs::{Run, Told, check as check_run};
 use scasp_cert::Cert;
-use scasp_checker::verdict::{Verdict, check};
+use scasp_checker::{Verdict, check};
 use scasp_name::Names;
-use scasp_reader::programs::read_program;
+use scasp_reader::read_program;
 use scasp_syntax::Program;
-use scasp_written::written::{Event, Written};
+use scasp_written::{Event, Written};
 use std::alloc::Global;
 use std::test::Fail;
 

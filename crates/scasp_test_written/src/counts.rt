@@ -1,7 +1,7 @@
 //! How many answers a whole search has.
 use scasp_name::Names;
-use scasp_reader::programs::read_program;
-use scasp_written::written::{Event, Written};
+use scasp_reader::read_program;
+use scasp_written::{Event, Written};
 use std::alloc::Global;
 use std::test::Fail;
 

@@ -2,9 +2,9 @@
 use scasp_cert::Cert;
 use scasp_name::Names;
 use scasp_print::print_cert;
-use scasp_reader::programs::read_program;
+use scasp_reader::read_program;
 use scasp_syntax::Program;
-use scasp_written::written::{Event, Written};
+use scasp_written::{Event, Written};
 use std::alloc::Global;
 use std::process::Abort;
 use std::test::Fail;

@@ -9,7 +9,7 @@ ghost use Rattle.scasp_top.specs.Reports.{Reports};
 use crate::halt::tell;
 use crate::inputs::{answers_in_file, program_in_file};
 use crate::status::Status;
-use scasp_answers::files::Entries;
+use scasp_answers::Entries;
 use scasp_command_check::{Rechecked, recheck};
 use scasp_io::{Files, OutputErr, Sink};
 use scasp_syntax::Program;

@@ -9,13 +9,13 @@ ghost use Rattle.scasp_top.specs.Outputs.{answers_in, outside, IsAnswers, IsNoAn
 use crate::halt::{Halt, line};
 use crate::refusals::{answers_refusal, program_refusal};
 use crate::status::Status;
-use scasp_answers::blocks::{AnswerFault, AnswerKind};
-use scasp_answers::files::{AnswerErr, BYTE_LIMIT as ANSWER_LIMIT, Entries, read_answers};
+use scasp_answers::{
+    AnswerErr, AnswerFault, AnswerKind, BYTE_LIMIT as ANSWER_LIMIT, Entries, read_answers,
+};
 use scasp_io::{Files, ReadErr, read_file};
 use scasp_list::Memory;
 use scasp_name::Names;
-use scasp_reader::programs::read_program;
-use scasp_reader::texts::BYTE_LIMIT;
+use scasp_reader::{BYTE_LIMIT, read_program};
 use scasp_reader_terms::{Count, Fault, Kind, Stop};
 use scasp_syntax::{Nested, Program};
 use std::alloc::Global;

@@ -8,7 +8,7 @@ ghost use Rattle.scasp_top.specs.declared.refusals.Input.TheVariants as input;
 use crate::halt::Halt;
 use crate::status::Status;
 use itoa::Buffer;
-use scasp_answers::blocks::{AnswerFault, AnswerKind};
+use scasp_answers::{AnswerFault, AnswerKind};
 use scasp_list::Memory;
 use scasp_reader_terms::{Count, Fault, Kind};
 use std::alloc::Global;

@@ -1,5 +1,8 @@
-//! scasp_written.
+//! The search as it is written down: rules in order, depth first, over whole copied states.
 #![tactic(auto)]
 
-pub mod steps;
+mod steps;
 pub mod written;
+
+pub use steps::{pays, successors};
+pub use written::{Event, Written};

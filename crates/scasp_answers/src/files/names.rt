@@ -4,8 +4,7 @@ ghost use Rattle.scasp_answers_terms.specs.Tokens.View.{token_of};
 ghost use Rattle.scasp_answers.specs.Files.Texts as spec;
 
 use crate::files::bytes::{indent, is_remark, line_len};
-use scasp_answers_terms::terms::unescaped;
-use scasp_answers_terms::tokens::{Cursor, Token};
+use scasp_answers_terms::{Cursor, Token, unescaped};
 use scasp_list::Memory;
 use scasp_name::Names;
 use std::alloc::Global;

@@ -6,7 +6,7 @@ ghost use Rattle.scasp_answers.specs.Parts.View.{open_of, parts_in};
 ghost use Rattle.scasp_answers.specs.Opens.Tops.{with_trees, with_checks, IsTop};
 
 use crate::parts::{Open, Part, case_among, nodes_among};
-use scasp_answers_lines::forms::Line;
+use scasp_answers_lines::Line;
 use scasp_cert::{Cert, Check};
 use scasp_list::Memory;
 use std::alloc::Global;

@@ -8,7 +8,7 @@ ghost use Rattle.scasp_answers.specs.Parts.View.{open_of, parts_in};
 
 use crate::parts::open_line::{Open, Part};
 use crate::parts::room::{Room, may_stand, room_below};
-use scasp_answers_lines::forms::Line;
+use scasp_answers_lines::Line;
 use std::alloc::Global;
 
 impl Open {

@@ -3,7 +3,7 @@ ghost use Rattle.std.specs.Prelude.{◌≡◌, true};
 ghost use Rattle.scasp_answers_terms.specs.Tokens.Bounds.{line_fits};
 ghost use Rattle.scasp_answers_lines.specs.Forms.View.{line_of};
 
-use scasp_answers_lines::forms::Line;
+use scasp_answers_lines::Line;
 use scasp_cert::{Case, Cover, Node};
 
 /// What stands right below a line.

@@ -9,7 +9,7 @@ ghost use Rattle.scasp_answers.specs.Parts.View.{part_of, parts_in, open_of, lis
 
 use crate::parts::among::{case_among, cases_among, covers_among, nodes_among};
 use crate::parts::open_line::{Open, Part};
-use scasp_answers_lines::forms::Line;
+use scasp_answers_lines::Line;
 use scasp_cert::{Case, Cover, Node};
 use scasp_list::Memory;
 use scasp_syntax::{Atom, Con, Terms};

@@ -4,7 +4,7 @@ ghost use Rattle.scasp_answers_lines.specs.Forms.View.{line_of};
 ghost use Rattle.scasp_answers.specs.Blocks.Open as spec;
 ghost use Rattle.scasp_answers.specs.Parts.View.{room_of};
 
-use scasp_answers_lines::forms::Line;
+use scasp_answers_lines::Line;
 
 /// What may stand right below a line.
 #[derive(Clone, Copy)]

@@ -9,7 +9,7 @@ ghost use Rattle.scasp_answers.specs.States.View.{phase_of, state_of, Follows};
 
 use crate::opens::Placing;
 use crate::states::state::{Entry, Phase, State};
-use scasp_answers_lines::forms::{End, Line};
+use scasp_answers_lines::{End, Line};
 use scasp_cert::Clash;
 use scasp_list::Memory;
 use scasp_syntax::{Con, PredMap, Terms};

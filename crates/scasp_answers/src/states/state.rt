@@ -10,7 +10,7 @@ ghost use Rattle.scasp_answers.specs.States.View.{entry_of, state_of, Follows};
 
 use crate::opens::{Opens, Placing, close_to};
 use crate::parts::Open;
-use scasp_answers_lines::forms::{End, Line};
+use scasp_answers_lines::{End, Line};
 use scasp_cert::{Cert, Checks, Clashes, Nodes};
 use scasp_list::{Memory, Sequence};
 use scasp_syntax::{Cons, PredMaps, Terms};

@@ -7,7 +7,7 @@ ghost use Rattle.scasp_answers_terms.specs.Tokens.Bounds as spec;
 ghost use Rattle.scasp_answers_lines.specs.Forms.View.{line_of};
 
 use crate::forms::line::Line;
-use scasp_answers_terms::tokens::{is_count, is_place};
+use scasp_answers_terms::{is_count, is_place};
 use scasp_list::Memory;
 use scasp_num::{Coeff, Rat, Row, Step, Steps};
 use scasp_syntax::{Con, Hint, Term, Terms};

@@ -10,8 +10,7 @@ ghost use Rattle.scasp_syntax.specs.declared.con.Con.TheVariants as con;
 ghost use Rattle.scasp_answers_terms.specs.Tokens.View.{Reads};
 
 use crate::rows::row_con;
-use scasp_answers_terms::terms::{name, term};
-use scasp_answers_terms::tokens::{Cursor, Stop, Token, is_count, is_place};
+use scasp_answers_terms::{Cursor, Stop, Token, is_count, is_place, name, term};
 use scasp_name::{NameId, Names};
 use scasp_syntax::{Con, Term};
 use std::alloc::Global;

@@ -7,7 +7,7 @@ ghost use Rattle.scasp_answers_lines.specs.Forms.View.{line_of, Finds};
 
 use crate::forms::edges::any_line;
 use crate::forms::line::Line;
-use scasp_answers_terms::tokens::{Cursor, Stop, Token};
+use scasp_answers_terms::{Cursor, Stop, Token};
 use scasp_name::Names;
 use std::alloc::Global;
 

@@ -4,7 +4,7 @@ ghost use Rattle.scasp_answers_terms.specs.Tokens.Readers.{alone, any_of};
 ghost use Rattle.scasp_answers_terms.specs.Tokens.Reasons as spec;
 ghost use Rattle.scasp_answers_terms.specs.Tokens.View.{Reads};
 
-use scasp_answers_terms::tokens::{Cursor, Stop};
+use scasp_answers_terms::{Cursor, Stop};
 
 /// Takes a reason, of those from the sixteenth on.
 fn fourth(cursor: &mut Cursor<'_>) -> Result<&'static str, Stop>

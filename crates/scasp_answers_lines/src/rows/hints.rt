@@ -4,7 +4,7 @@ ghost use Rattle.scasp_answers_terms.specs.Tokens.Tokens.{minus};
 ghost use Rattle.scasp_answers_terms.specs.Tokens.Hints as spec;
 ghost use Rattle.scasp_answers_terms.specs.Tokens.View.{Reads};
 
-use scasp_answers_terms::tokens::{Cursor, Stop, Token, bounded_integer, is_count};
+use scasp_answers_terms::{Cursor, Stop, Token, bounded_integer, is_count};
 use scasp_list::Memory;
 use scasp_num::{Step, StepLists, Steps};
 use scasp_syntax::Hint;

@@ -16,7 +16,7 @@ ghost use Rattle.scasp_answers_terms.specs.Tokens.View.{Reads};
 ghost use Rattle.scasp_answers_lines.specs.Rows.Inside.{linear_of};
 
 use crate::rows::sums::{Sum, any_sum};
-use scasp_answers_terms::tokens::{Cursor, Stop};
+use scasp_answers_terms::{Cursor, Stop};
 use scasp_list::Memory;
 use scasp_num::{Coeff, Op, Rat, RatPair, RatPairs, Row, RowErr};
 use scasp_syntax::{Con, Term};

@@ -7,7 +7,7 @@ ghost use Rattle.scasp_answers_terms.specs.Tokens.Rows as spec;
 ghost use Rattle.scasp_answers_terms.specs.Tokens.View.{Reads};
 ghost use Rattle.scasp_answers_lines.specs.Rows.Inside.{sum_of, goes, left, Goes};
 
-use scasp_answers_terms::tokens::{Cursor, Stop, Token, bounded_integer, bounded_place};
+use scasp_answers_terms::{Cursor, Stop, Token, bounded_integer, bounded_place};
 use scasp_num::Coeff;
 use std::alloc::Global;
 

@@ -4,7 +4,7 @@ ghost use Rattle.scasp_checker.specs.Partners.Named.{differ_by_names};
 ghost use Rattle.scasp_lines_walk.specs.Shown.TableView.{told_of};
 
 use scasp_checker_answer::clash_among;
-use scasp_lines_walk::shown::Saying;
+use scasp_lines_walk::Saying;
 
 /// Whether they have as many arguments and differ by a name or a number: then their terms show them apart, and no list of
 /// constraints is needed for that. The recursion is as deep as the terms are.

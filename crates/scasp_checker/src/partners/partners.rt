@@ -5,8 +5,8 @@ ghost use Rattle.scasp_lines_walk.specs.Shown.TableView.{told_from, told_of};
 ghost use Rattle.scasp_syntax.specs.declared.atom.Pred.{Pred as ThisPred};
 ghost use Rattle.scasp_checker.specs.Partners.Partners.{behind_of, grouped, group_of, has_first, told_in};
 
-use scasp_lines_places::places::Chain;
-use scasp_lines_walk::shown::Saying;
+use scasp_lines_places::Chain;
+use scasp_lines_walk::Saying;
 use scasp_list::Memory;
 use scasp_syntax::Pred;
 use std::alloc::Global;

@@ -20,15 +20,13 @@ use crate::walk::rules::{Rules, names_its_rules};
 use crate::walk::tabled::Tabled;
 use scasp_cert::{Case, Covers, Node, Nodes};
 use scasp_checker_answer::{CheckErr, has_count_of, want};
-use scasp_checker_lines::line_faults::{Common, accept_head, accept_leaf, accept_split};
-use scasp_checker_lines::node_faults::{
-    accept_literal, accept_loop, accept_positive, accept_test, accept_void, asks_negated,
+use scasp_checker_lines::{
+    Common, accept_head, accept_leaf, accept_literal, accept_loop, accept_positive, accept_seen,
+    accept_split, accept_test, accept_void, asks_negated,
 };
-use scasp_checker_lines::table_faults::accept_seen;
 use scasp_checker_rules::Reason;
-use scasp_lines_places::dues::Due;
-use scasp_lines_places::places::{Body, Place};
-use scasp_lines_walk::traversal::{Line, Part};
+use scasp_lines_places::{Body, Due, Place};
+use scasp_lines_walk::{Line, Part};
 use scasp_syntax::{Atom, Con, Program, Terms};
 use std::alloc::Global;
 

@@ -11,7 +11,7 @@ ghost use Rattle.scasp_syntax.specs.declared.atom.Pred.{Pred as ThisPred};
 ghost use Rattle.scasp_checker.specs.Walk.Rules.{HasRules, named, rules_at};
 
 use scasp_cert::{Cover, Covers};
-use scasp_lines_places::places::Chain;
+use scasp_lines_places::Chain;
 use scasp_list::Memory;
 use scasp_syntax::{Atom, Clause, Pred, Program};
 use std::alloc::Global;

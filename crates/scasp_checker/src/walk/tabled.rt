@@ -3,9 +3,8 @@ ghost use Rattle.std.specs.Prelude.{◌≡◌, IfOk};
 ghost use Rattle.scasp_checker_lines.specs.TableFaults.Tables.{Tells};
 
 use scasp_cert::Cert;
-use scasp_checker_lines::line_faults::Common;
-use scasp_checker_lines::node_faults::common_of;
-use scasp_lines_walk::shown::{Table, table_of};
+use scasp_checker_lines::{Common, common_of};
+use scasp_lines_walk::{Table, table_of};
 use scasp_list::Memory;
 use scasp_syntax::Program;
 use std::alloc::Global;

@@ -5,7 +5,7 @@ ghost use Rattle.scasp_lines_places.specs.Places.Chains.{chained};
 ghost use Rattle.scasp_lines_places.specs.Places.View.{above_of, place_of};
 ghost use Rattle.scasp_checker_rules.specs.Ancestors.{entry_at, is_entry_of, is_negated_before};
 
-use scasp_lines_places::places::{Ancestor, Chain, Place, Replaced, atom_under};
+use scasp_lines_places::{Ancestor, Chain, Place, Replaced, atom_under};
 use scasp_list::Memory;
 use scasp_syntax::{Lit, same_atom};
 use std::alloc::Global;

@@ -17,7 +17,7 @@ use crate::line_faults::known::{knows_con, may_split_here, scope_of, universal_o
 use scasp_cert::Nodes;
 use scasp_checker_answer::{CheckErr, Scope, has_count_of, want};
 use scasp_checker_rules::Reason;
-use scasp_lines_places::places::{Body, Place, Shape, shape_of};
+use scasp_lines_places::{Body, Place, Shape, shape_of};
 use scasp_list::Memory;
 use scasp_syntax::{Atom, Con};
 use std::alloc::Global;

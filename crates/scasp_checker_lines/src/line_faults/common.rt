@@ -4,7 +4,7 @@ ghost use Rattle.scasp_cert.specs.Certificate.{certificate_of};
 ghost use Rattle.scasp_lines.specs.Lines.{free_of, setting};
 
 use scasp_cert::Cert;
-use scasp_lines_places::places::Bounds;
+use scasp_lines_places::Bounds;
 use scasp_syntax::Program;
 
 /// A program, a certificate, the number of its free variables, and a number that none of its universal ones reaches.

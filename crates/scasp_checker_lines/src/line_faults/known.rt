@@ -11,7 +11,7 @@ use crate::line_faults::common::Common;
 use crate::line_faults::splits::may_split;
 use crate::line_faults::within::{InScope, Universal};
 use scasp_checker_answer::{are_known, is_con_known};
-use scasp_lines_places::places::Place;
+use scasp_lines_places::Place;
 use scasp_list::Memory;
 use scasp_syntax::{Atom, Con, Terms};
 use std::alloc::Global;

@@ -8,7 +8,7 @@ ghost use Rattle.scasp_checker_rules.specs.Splits.{is_equated, is_split_between,
 
 use crate::line_faults::within::Universal;
 use scasp_checker_answer::{Scope, any_of_terms, has_any, has_either};
-use scasp_lines_places::places::{Replaced, under};
+use scasp_lines_places::{Replaced, under};
 use scasp_list::Memory;
 use scasp_syntax::{Con, Term, Terms};
 use std::alloc::Global;

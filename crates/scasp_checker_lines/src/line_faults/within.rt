@@ -2,7 +2,7 @@
 ghost use Rattle.std.specs.Prelude.{◌≡◌};
 
 use scasp_checker_answer::Scope;
-use scasp_lines_places::places::{Bounds, Place, in_scope, is_universal};
+use scasp_lines_places::{Bounds, Place, in_scope, is_universal};
 use scasp_list::Memory;
 use std::alloc::Global;
 

@@ -3,8 +3,7 @@ ghost use Rattle.std.specs.Prelude.{◌≡◌, IfOk};
 
 use crate::line_faults::Common;
 use scasp_cert::Cert;
-use scasp_lines_places::dues::top;
-use scasp_lines_places::places::Bounds;
+use scasp_lines_places::{Bounds, top};
 use scasp_list::Memory;
 use scasp_syntax::Program;
 

@@ -11,7 +11,7 @@ ghost use Rattle.scasp_checker_rules.specs.LineFaults.{is_due, is_fact_due, is_k
 ghost use Rattle.scasp_lines.specs.Dues.{fact};
 
 use scasp_checker_answer::same_con;
-use scasp_lines_places::dues::Due;
+use scasp_lines_places::Due;
 use scasp_list::Memory;
 use scasp_syntax::{Atom, Con, same_atom};
 use std::alloc::Global;

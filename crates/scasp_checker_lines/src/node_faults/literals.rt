@@ -15,8 +15,7 @@ use crate::line_faults::{Common, entry_at, is_entry_of, is_negated_before, knows
 use crate::node_faults::dues::{asks_literal, asks_positive, is_due};
 use scasp_checker_answer::{CheckErr, is_instance, want};
 use scasp_checker_rules::Reason;
-use scasp_lines_places::dues::Due;
-use scasp_lines_places::places::Place;
+use scasp_lines_places::{Due, Place};
 use scasp_list::Memory;
 use scasp_syntax::{Atom, Lit, Program, Terms};
 use std::alloc::Global;

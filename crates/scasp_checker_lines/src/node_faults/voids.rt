@@ -10,7 +10,7 @@ ghost use Rattle.scasp_checker_lines.specs.LineFaults.Whole.{whole};
 
 use crate::line_faults::{Common, accept_hint};
 use scasp_checker_answer::CheckErr;
-use scasp_lines_places::places::Place;
+use scasp_lines_places::Place;
 use scasp_syntax::{Con, Hint};
 use std::alloc::Global;
 

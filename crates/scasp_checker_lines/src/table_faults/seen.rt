@@ -10,9 +10,8 @@ ghost use Rattle.scasp_checker_lines.specs.TableFaults.Tables.{Tells};
 
 use crate::line_faults::Common;
 use scasp_checker_answer::CheckErr;
-use scasp_lines_places::dues::Due;
-use scasp_lines_places::places::Place;
-use scasp_lines_walk::shown::{Table, shown_at};
+use scasp_lines_places::{Due, Place};
+use scasp_lines_walk::{Table, shown_at};
 use scasp_syntax::Lit;
 use std::alloc::Global;
 

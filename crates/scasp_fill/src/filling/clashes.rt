@@ -14,9 +14,9 @@ ghost use Rattle.scasp_lines_walk.specs.Shown.TableView.{told_from, told_of};
 
 use crate::filling::finding::{Finding, find_hint};
 use scasp_cert::{Cert, Clash, Clashes};
-use scasp_checker::partners::{Partners, differ_by_names, items_in, partners_of};
+use scasp_checker::{Partners, differ_by_names, items_in, partners_of};
 use scasp_disjoint::pair_list;
-use scasp_lines_walk::shown::{Saying, table_of};
+use scasp_lines_walk::{Saying, table_of};
 use scasp_list::Memory;
 use scasp_syntax::{Con, Hint, Program};
 use std::alloc::Global;

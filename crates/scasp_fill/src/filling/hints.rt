@@ -14,9 +14,8 @@ ghost use Rattle.scasp_lines_walk.specs.Traversal.View.{line_of, lines_left, par
 use crate::filling::finding::{Finding, find_hint};
 use crate::filling::pieces::{Piece, piece_of};
 use scasp_cert::{Case, Cert, Node};
-use scasp_lines_places::dues::context;
-use scasp_lines_places::places::{Place, negated};
-use scasp_lines_walk::traversal::{Line, Lines, Part};
+use scasp_lines_places::{Place, context, negated};
+use scasp_lines_walk::{Line, Lines, Part};
 use scasp_list::Memory;
 use scasp_syntax::{Con, Cons, Hint, Program};
 use std::alloc::Global;

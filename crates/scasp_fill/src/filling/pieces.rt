@@ -4,7 +4,7 @@ ghost use Rattle.scasp_fill.specs.Filling.Inside.Pieces.{piece_at, piece_value};
 ghost use Rattle.scasp_lines_walk.specs.Traversal.View.{part_of};
 
 use scasp_cert::{Case, Node};
-use scasp_lines_walk::traversal::Part;
+use scasp_lines_walk::Part;
 
 /// What stands on a line, without what stands below it: of a node and a case no more is read; a rule or a check is told by
 /// its number.

@@ -5,7 +5,7 @@ ghost use Rattle.scasp_fill.specs.Finish.Finishes.{Finishes};
 
 use crate::filling::{Filled, fill};
 use scasp_cert::Cert;
-use scasp_checker::verdict::{CheckErr, Verdict, check};
+use scasp_checker::{CheckErr, Verdict, check};
 use scasp_law_promise::see_rows;
 use scasp_list::Memory;
 use scasp_syntax::Program;

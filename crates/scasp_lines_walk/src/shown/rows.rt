@@ -14,7 +14,7 @@ use crate::shown::ends::{Ended, end_line};
 use crate::shown::table::{Literal, Row, Saying, Table};
 use crate::traversal::{Line, Lines, Part};
 use scasp_cert::{Cert, Node};
-use scasp_lines_places::places::Place;
+use scasp_lines_places::Place;
 use scasp_list::Memory;
 use scasp_syntax::{Atom, DeepCopy, Program};
 use std::alloc::Global;

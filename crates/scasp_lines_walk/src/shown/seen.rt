@@ -11,7 +11,7 @@ ghost use Rattle.scasp_lines_walk.specs.Shown.TableView.{shown_of, table_value};
 ghost use Rattle.scasp_syntax.specs.Programs.{numbered};
 
 use crate::shown::table::{Literal, Row, Table};
-use scasp_lines_places::places::{Chain, Enclosing, Place};
+use scasp_lines_places::{Chain, Enclosing, Place};
 use scasp_list::Memory;
 use scasp_syntax::{Lit, same_atom};
 use std::alloc::Global;

@@ -6,7 +6,7 @@ ghost use Rattle.scasp_lines_walk.specs.Shown.Standings.{opened_at, told_by, tol
 ghost use Rattle.scasp_lines_walk.specs.Shown.TableView.{standing_of, table_value, told_from, told_of};
 ghost use Rattle.scasp_syntax.specs.Programs.{numbered};
 
-use scasp_lines_places::places::{Chain, Enclosing, Entry};
+use scasp_lines_places::{Chain, Enclosing, Entry};
 use scasp_list::Memory;
 use scasp_syntax::Atom;
 use std::alloc::Global;

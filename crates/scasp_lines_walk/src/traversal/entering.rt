@@ -15,9 +15,9 @@ ghost use Rattle.scasp_lines_walk.specs.Traversal.View.{kept_with, part_of, sett
 use crate::traversal::parts::{Line, Part};
 use crate::traversal::waiting::{Stacked, Waiting, put};
 use scasp_cert::{Case, Covers, Node, Nodes};
-use scasp_lines_places::dues::{Due, Dues, head_dues, leaf_dues, rule_dues};
-use scasp_lines_places::places::{
-    Body, Bounds, Inside, Place, Sides, both_sides, inside_check, inside_rule,
+use scasp_lines_places::{
+    Body, Bounds, Due, Dues, Inside, Place, Sides, both_sides, head_dues, inside_check,
+    inside_rule, leaf_dues, rule_dues,
 };
 use scasp_list::Memory;
 use scasp_syntax::{Atom, Con, Program, Terms};

@@ -1,8 +1,7 @@
 //! Lines, and what stands on them.
 
 use scasp_cert::{Case, Node};
-use scasp_lines_places::dues::Due;
-use scasp_lines_places::places::{Body, Place};
+use scasp_lines_places::{Body, Due, Place};
 use scasp_syntax::Atom;
 use std::rc::Rc;
 

@@ -11,8 +11,7 @@ ghost use Rattle.scasp_lines_walk.specs.Traversal.View.{begun_of, pending_of, st
 
 use crate::traversal::parts::Part;
 use scasp_cert::{Case, Check, Cover, Node};
-use scasp_lines_places::dues::Due;
-use scasp_lines_places::places::{Body, Place};
+use scasp_lines_places::{Body, Due, Place};
 use scasp_list::Memory;
 use scasp_syntax::Atom;
 use std::rc::Rc;

@@ -4,7 +4,7 @@ ghost use Rattle.scasp_search_rules.specs.Successors.Items.{body_of, item_raised
 
 use crate::calls::raising::Raised;
 use scasp_disjoint::{Raising, con_raised};
-use scasp_lines_places::places::atom_under;
+use scasp_lines_places::atom_under;
 use scasp_list::Memory;
 use scasp_search_terms::forms::negated;
 use scasp_syntax::{DeepCopy, FlatItem, FlatItems, Lit, Program, flat};

@@ -10,7 +10,7 @@ ghost use Rattle.scasp_unify.specs.SimpleForm.{list_term};
 use crate::calls::repeated::is_same;
 use scasp_list::Memory;
 use scasp_name::{NIL, PAIR};
-use scasp_search_rules::states::{Cover, Literal, State};
+use scasp_search_rules::{Cover, Literal, State};
 use scasp_search_terms::constraints::push_all_vars;
 use scasp_search_terms::reading::read_terms;
 use scasp_search_terms::variables::has_universal;

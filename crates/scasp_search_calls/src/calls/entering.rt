@@ -11,11 +11,10 @@ ghost use Rattle.scasp_unify.specs.Negations.{new_parts};
 
 use crate::calls::bodies::body_of;
 use crate::calls::raising::Raised;
-use scasp_lines_places::places::{all_under, new_parts};
+use scasp_lines_places::{all_under, new_parts};
 use scasp_list::Memory;
-use scasp_search_constraints::assume::States;
-use scasp_search_constraints::equate::equations;
-use scasp_search_rules::states::{Aim, CaseList, Cover, Kind, Line, Literal, State, Task, Tasks};
+use scasp_search_constraints::{States, equations};
+use scasp_search_rules::{Aim, CaseList, Cover, Kind, Line, Literal, State, Task, Tasks};
 use scasp_search_terms::pairs::pairs;
 use scasp_search_terms::regions::{before, with_line};
 use scasp_search_terms::variables::with_new;

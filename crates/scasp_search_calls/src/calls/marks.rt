@@ -6,8 +6,8 @@ ghost use Rattle.scasp_search_rules.specs.Successors.Items.{with_line};
 
 use crate::calls::repeated::last_open;
 use scasp_list::Memory;
-use scasp_search_constraints::assume::States;
-use scasp_search_rules::states::{Line, Literal, Literals, Repeated, State};
+use scasp_search_constraints::States;
+use scasp_search_rules::{Line, Literal, Literals, Repeated, State};
 use scasp_search_terms::regions::with_line;
 use scasp_syntax::{DeepCopy, Lit};
 use std::alloc::Global;

@@ -2,7 +2,7 @@
 ghost use Rattle.std.specs.Prelude.{◌≡◌, IfOk};
 ghost use Rattle.scasp_search_calls.specs.Calls.Raising.{raised_by};
 
-use scasp_lines_places::places::Substitution;
+use scasp_lines_places::Substitution;
 use scasp_list::Memory;
 use scasp_syntax::Term;
 use std::alloc::Global;

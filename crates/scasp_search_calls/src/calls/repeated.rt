@@ -5,7 +5,7 @@ ghost use Rattle.scasp_search_calls.specs.Calls.Inside.Open.{open_among};
 ghost use Rattle.scasp_search_rules.specs.Successors.Calls.{ancestors, is_same, lit_under, nearest};
 
 use scasp_list::Memory;
-use scasp_search_rules::states::{Literal, Repeated, State};
+use scasp_search_rules::{Literal, Repeated, State};
 use scasp_search_terms::reading::read_terms;
 use scasp_syntax::{Lit, Terms, same_terms};
 use std::alloc::Global;

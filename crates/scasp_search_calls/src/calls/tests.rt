@@ -9,8 +9,8 @@ ghost use Rattle.scasp_search_rules.specs.Successors.Regions.{before};
 
 use scasp_list::Memory;
 use scasp_num::Row;
-use scasp_search_constraints::assume::{SearchErr, assume, assume_all, is_general};
-use scasp_search_rules::states::{Aim, Line, Pair, Pairs, State, Task, Tasks};
+use scasp_search_constraints::{SearchErr, assume, assume_all, is_general};
+use scasp_search_rules::{Aim, Line, Pair, Pairs, State, Task, Tasks};
 use scasp_search_terms::regions::{before, with_line};
 use scasp_syntax::{Con, Cons, DeepCopy, Term, copy};
 use std::alloc::Global;

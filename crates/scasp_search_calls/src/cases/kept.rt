@@ -8,8 +8,8 @@ ghost use Rattle.scasp_syntax.specs.Tm.{Tms};
 ghost use Rattle.scasp_unify.specs.Unification.{terms_vars};
 
 use scasp_list::Memory;
-use scasp_search_constraints::assume::among;
-use scasp_search_rules::states::{Bindings, Line, Lines, Literal, Literals, State, copy_binding};
+use scasp_search_constraints::among;
+use scasp_search_rules::{Bindings, Line, Lines, Literal, Literals, State, copy_binding};
 use scasp_search_terms::constraints::{push_all_vars, read_con};
 use scasp_search_terms::reading::{read_atom, read_lit, read_terms};
 use scasp_syntax::{DeepCopy, Terms, VarList};

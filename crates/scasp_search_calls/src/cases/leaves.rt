@@ -10,10 +10,10 @@ ghost use Rattle.scasp_search_rules.specs.Successors.Regions.{before};
 ghost use Rattle.scasp_syntax.specs.Programs.{numbered};
 
 use crate::calls::{Raised, body_of, opposite_item, push_shows};
-use scasp_lines_places::places::atom_under;
+use scasp_lines_places::atom_under;
 use scasp_list::Memory;
-use scasp_search_constraints::assume::{SearchErr, States, passes};
-use scasp_search_rules::states::{Cover, Line, State, Task, Tasks};
+use scasp_search_constraints::{SearchErr, States, passes};
+use scasp_search_rules::{Cover, Line, State, Task, Tasks};
 use scasp_search_terms::regions::{before, context_list, with_line};
 use scasp_syntax::{DeepCopy, FlatItem, FlatItems, Lit, Program};
 use std::alloc::Global;

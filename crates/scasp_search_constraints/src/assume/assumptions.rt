@@ -11,7 +11,7 @@ ghost use Rattle.scasp_search_rules.specs.Successors.Variables.{is_empty, univer
 use crate::assume::splits::split;
 use crate::assume::step::{SearchErr, passes};
 use scasp_list::Memory;
-use scasp_search_rules::states::{State, Status};
+use scasp_search_rules::{State, Status};
 use scasp_search_terms::forms::{holds_always, negated, read_simple};
 use scasp_search_terms::regions::{context_list, given_list, with_given};
 use scasp_search_terms::variables::universals_of;

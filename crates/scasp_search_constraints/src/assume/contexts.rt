@@ -6,7 +6,7 @@ ghost use Rattle.scasp_search_rules.specs.Successors.Regions.{is_constrained};
 ghost use Rattle.scasp_unify.specs.Solving.{sub_of};
 
 use scasp_list::Memory;
-use scasp_search_rules::states::{Cover, Remainder, State};
+use scasp_search_rules::{Cover, Remainder, State};
 use scasp_search_terms::constraints::con_vars;
 use scasp_syntax::Con;
 use scasp_unify::Binding;

@@ -6,7 +6,7 @@ ghost use Rattle.scasp_search_rules.specs.Successors.Splits.{at_depth, bound_by,
 
 use crate::assume::partings::parted;
 use scasp_list::Memory;
-use scasp_search_rules::states::{
+use scasp_search_rules::{
     Bindings, Cover, Covers, Kind, Line, Parting, Remainder, Remainders, State,
 };
 use scasp_search_terms::constraints::con_vars;

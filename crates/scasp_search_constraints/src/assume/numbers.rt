@@ -6,7 +6,7 @@ ghost use Rattle.scasp_search_rules.specs.Successors.Splits.{is_number_by, is_nu
 
 use crate::assume::covers::split_at;
 use scasp_list::Memory;
-use scasp_search_rules::states::{Cover, State};
+use scasp_search_rules::{Cover, State};
 use scasp_search_terms::reading::read;
 use scasp_search_terms::regions::with_given;
 use scasp_search_terms::variables::{depth_of, is_universal};

@@ -6,7 +6,7 @@ ghost use Rattle.scasp_unify.specs.Negations.{new_parts};
 
 use scasp_list::Memory;
 use scasp_name::NameId;
-use scasp_search_rules::states::Parting;
+use scasp_search_rules::Parting;
 use scasp_search_terms::constraints::push_all_vars;
 use scasp_search_terms::forms::{negated, numbered_parts};
 use scasp_search_terms::splits::{parting, shape_parting};

@@ -9,7 +9,7 @@ use crate::assume::covers::split_at;
 use crate::assume::numbers::numbered_to;
 use scasp_list::Memory;
 use scasp_num::{Coeff, Row};
-use scasp_search_rules::states::State;
+use scasp_search_rules::State;
 use scasp_search_terms::variables::{depth_of, universals_of};
 use scasp_syntax::Con;
 use std::alloc::Global;

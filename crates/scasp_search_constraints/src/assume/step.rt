@@ -7,7 +7,7 @@ ghost use Rattle.scasp_search_rules.specs.Successors.Steps.{goes_where};
 use scasp_hint::is_satisfiable;
 use scasp_list::{Memory, Sequence};
 use scasp_rows::LinErr;
-use scasp_search_rules::states::State;
+use scasp_search_rules::State;
 use scasp_syntax::Con;
 use std::alloc::{AllocError, AllocFailed, Global};
 use thiserror::Error;

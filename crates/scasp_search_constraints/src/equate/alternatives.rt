@@ -7,7 +7,7 @@ ghost use Rattle.scasp_search_rules.specs.Successors.Regions.{before};
 
 use crate::assume::{SearchErr, States, status};
 use scasp_list::Memory;
-use scasp_search_rules::states::{Aim, State, Status, Task, Tasks};
+use scasp_search_rules::{Aim, State, Status, Task, Tasks};
 use scasp_search_terms::regions::before;
 use scasp_syntax::{Con, DeepCopy};
 use std::alloc::Global;

@@ -13,7 +13,7 @@ ghost use Rattle.scasp_unify.specs.SimpleForm.{term_with};
 use crate::assume::{SearchErr, asked_list, assume, goes_where, is_constrained, passes, split_at};
 use scasp_list::Memory;
 use scasp_num::Rat;
-use scasp_search_rules::states::State;
+use scasp_search_rules::State;
 use scasp_search_terms::regions::given_list;
 use scasp_search_terms::variables::{bind, depth_of, is_universal};
 use scasp_syntax::{Con, DeepCopy, Term, copy};

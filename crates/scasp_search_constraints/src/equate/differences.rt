@@ -14,7 +14,7 @@ use crate::equate::parts::differ_pair;
 use crate::equate::shapes::{becomes_shape, with_tasks};
 use scasp_list::Memory;
 use scasp_name::NameId;
-use scasp_search_rules::states::{Aim, Kind, Pair, Pairs, State, Task};
+use scasp_search_rules::{Aim, Kind, Pair, Pairs, State, Task};
 use scasp_search_terms::regions::before;
 use scasp_search_terms::variables::{made_at, with_binding};
 use scasp_syntax::{Term, Terms, copy};

@@ -8,7 +8,7 @@ use crate::assume::SearchErr;
 use crate::equate::bindings::{two_variables, variable_number};
 use crate::equate::pairs::{FirstPair, split_first};
 use crate::equate::shapes::{equations_of, variable_app};
-use scasp_search_rules::states::{Pairs, State};
+use scasp_search_rules::{Pairs, State};
 use scasp_search_terms::pairs::pairs_read;
 use scasp_search_terms::regions::before;
 use scasp_syntax::Term;

@@ -9,7 +9,7 @@ ghost use Rattle.scasp_unify.specs.Negations.{new_parts};
 ghost use Rattle.scasp_unify.specs.Solving.{sub_of};
 
 use scasp_list::Memory;
-use scasp_search_rules::states::{Pair, Pairs, State};
+use scasp_search_rules::{Pair, Pairs, State};
 use scasp_search_terms::forms::numbered_parts;
 use scasp_search_terms::pairs::{pairs, pairs_read};
 use scasp_syntax::Terms;

@@ -12,7 +12,7 @@ use crate::equate::shapes::occurs_among;
 use scasp_list::Memory;
 use scasp_name::NameId;
 use scasp_num::Rat;
-use scasp_search_rules::states::{Aim, Pairs, State, Task, Tasks};
+use scasp_search_rules::{Aim, Pairs, State, Task, Tasks};
 use scasp_search_terms::variables::is_universal;
 use scasp_syntax::{Con, Term, Terms, copy_terms};
 use std::alloc::Global;

@@ -15,7 +15,7 @@ use crate::equate::bindings::{bound_to, replaced_if};
 use crate::equate::pairs::new_pairs;
 use scasp_list::Memory;
 use scasp_name::NameId;
-use scasp_search_rules::states::{Kind, Pair, Pairs, State, Task, Tasks};
+use scasp_search_rules::{Kind, Pair, Pairs, State, Task, Tasks};
 use scasp_search_terms::constraints::push_all_vars;
 use scasp_search_terms::forms::numbered_parts;
 use scasp_search_terms::pairs::pairs;

@@ -13,8 +13,8 @@ use crate::ends::sampling::sample;
 use crate::finished::{About, certificate_at};
 use scasp_cert::Cert;
 use scasp_num::RowErr;
-use scasp_search_constraints::assume::SearchErr;
-use scasp_search_rules::states::State;
+use scasp_search_constraints::SearchErr;
+use scasp_search_rules::State;
 use std::alloc::Global;
 
 /// The certificate with values for its free variables.

@@ -8,8 +8,8 @@ ghost use Rattle.scasp_search_rules.specs.Successors.Answers.{pair_lists};
 
 use scasp_cert::Cert;
 use scasp_disjoint::{is_pair, pair_list};
-use scasp_lines_walk::shown::{Saying, table_of};
-use scasp_search_constraints::assume::{SearchErr, passes};
+use scasp_lines_walk::{Saying, table_of};
+use scasp_search_constraints::{SearchErr, passes};
 use scasp_syntax::{Con, Program};
 use std::alloc::Global;
 

@@ -7,7 +7,7 @@ ghost use Rattle.scasp_search_rules.specs.Successors.Trees.{built, is_literal, l
 
 use scasp_cert::{Case, Checks, Node, Nodes};
 use scasp_list::Memory;
-use scasp_search_rules::states::{Line, Lines};
+use scasp_search_rules::{Line, Lines};
 use scasp_search_trees::{
     Stacks, put_case, put_check, put_head, put_leaf, put_neg, put_node, put_pos, put_rule,
     put_split, trees_and_checks,

@@ -8,8 +8,8 @@ ghost use Rattle.scasp_unify.specs.SimpleForm.{simple};
 
 use scasp_checker_answer::same_con;
 use scasp_list::Memory;
-use scasp_search_calls::cases::with_first;
-use scasp_search_rules::states::State;
+use scasp_search_calls::with_first;
+use scasp_search_rules::State;
 use scasp_search_terms::forms::{holds_always, read_simple};
 use scasp_syntax::{Con, Cons, DeepCopy};
 use std::alloc::Global;

@@ -8,8 +8,8 @@ ghost use Rattle.scasp_syntax.specs.Tm.{var};
 ghost use Rattle.scasp_unify.specs.Unification.{terms_vars};
 
 use scasp_list::Memory;
-use scasp_search_constraints::assume::among;
-use scasp_search_rules::states::{Kind, Line, Lines, State};
+use scasp_search_constraints::among;
+use scasp_search_rules::{Kind, Line, Lines, State};
 use scasp_search_terms::constraints::{con_vars, push_all_vars};
 use scasp_search_terms::variables::made_at;
 use scasp_syntax::{Con, Cons, Terms, VarList};

@@ -2,10 +2,9 @@
 ghost use Rattle.std.specs.Prelude.{◌≡◌, IfOk, map};
 ghost use Rattle.scasp_search_rules.specs.Successors.Numbering.{con_renamed, line_renamed, lit_renamed, place_of, placing};
 
-use scasp_lines_places::dues::determined;
-use scasp_lines_places::places::{Substitution, all_under, atom_under};
+use scasp_lines_places::{Substitution, all_under, atom_under, determined};
 use scasp_list::Memory;
-use scasp_search_rules::states::{Line, Lines};
+use scasp_search_rules::{Line, Lines};
 use scasp_syntax::{Con, Cons, DeepCopy, Lit, Term};
 use std::alloc::Global;
 

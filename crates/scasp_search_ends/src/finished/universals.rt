@@ -7,9 +7,9 @@ ghost use Rattle.scasp_search_rules.specs.Successors.Reading.{among, count_from}
 ghost use Rattle.scasp_syntax.specs.View.{tm_of};
 
 use scasp_list::Memory;
-use scasp_search_calls::calls::{head_args, vars_of_clause};
-use scasp_search_constraints::assume::among;
-use scasp_search_rules::states::{Line, Lines};
+use scasp_search_calls::{head_args, vars_of_clause};
+use scasp_search_constraints::among;
+use scasp_search_rules::{Line, Lines};
 use scasp_search_terms::constraints::push_all_vars;
 use scasp_syntax::{Atom, Program, Term, Terms, VarList};
 use std::alloc::Global;

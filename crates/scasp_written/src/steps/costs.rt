@@ -2,7 +2,7 @@
 ghost use Rattle.std.specs.Prelude.{◌≡◌};
 ghost use Rattle.scasp_search_rules.specs.Successors.Search.{costs, is_call, pays, waits};
 
-use scasp_search_rules::states::{Cover, State, Task};
+use scasp_search_rules::{Cover, State, Task};
 use scasp_syntax::FlatItem;
 
 fn is_call(item: &FlatItem) -> bool

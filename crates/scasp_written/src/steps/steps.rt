@@ -7,13 +7,13 @@ ghost use Rattle.scasp_search_rules.specs.Successors.Search.{done, shown, step};
 ghost use Rattle.scasp_search_rules.specs.Successors.Steps.{Step, goes};
 
 use scasp_list::Memory;
-use scasp_search_calls::calls::{call, covered, leave_literal, show_test};
-use scasp_search_calls::cases::{begin_cases, check_clause, close_case, split_first};
-use scasp_search_constraints::assume::{SearchErr, States, assume};
-use scasp_search_constraints::equate::{
-    differ_terms, differ_value, equate_terms, same_shape, same_value,
+use scasp_search_calls::{
+    begin_cases, call, check_clause, close_case, covered, leave_literal, show_test, split_first,
 };
-use scasp_search_rules::states::{Line, State, Task};
+use scasp_search_constraints::{
+    SearchErr, States, assume, differ_terms, differ_value, equate_terms, same_shape, same_value,
+};
+use scasp_search_rules::{Line, State, Task};
 use scasp_search_terms::regions::with_line;
 use scasp_syntax::{FlatItem, Program};
 use std::alloc::Global;

@@ -12,10 +12,9 @@ use crate::steps::pays;
 use crate::written::goal::Goal;
 use crate::written::stack::{Waiting, push_free};
 use scasp_cert::Cert;
-use scasp_search_constraints::assume::SearchErr;
-use scasp_search_ends::ends::answer_at;
-use scasp_search_ends::finished::About;
-use scasp_search_rules::states::State;
+use scasp_search_constraints::SearchErr;
+use scasp_search_ends::{About, answer_at};
+use scasp_search_rules::State;
 use std::alloc::Global;
 
 /// What stands ahead.

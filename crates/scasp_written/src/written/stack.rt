@@ -10,8 +10,8 @@ ghost use Rattle.scasp_search_rules.specs.Successors.Search.{pays, step};
 
 use crate::steps::successors;
 use scasp_list::Memory;
-use scasp_search_constraints::assume::{SearchErr, States};
-use scasp_search_rules::states::State;
+use scasp_search_constraints::{SearchErr, States};
+use scasp_search_rules::State;
 use scasp_syntax::Program;
 use std::alloc::Global;
 

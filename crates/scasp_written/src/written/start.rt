@@ -5,10 +5,8 @@ ghost use Rattle.scasp_syntax.specs.Flat.{flat_body};
 
 use scasp_list::Memory;
 use scasp_nmr::{CheckItem, CheckItems};
-use scasp_search_calls::calls::push_shows;
-use scasp_search_rules::states::{
-    Bindings, Covers, Kind, Lines, Literals, State, Task, Tasks, Variables,
-};
+use scasp_search_calls::push_shows;
+use scasp_search_rules::{Bindings, Covers, Kind, Lines, Literals, State, Task, Tasks, Variables};
 use scasp_search_terms::variables::with_new;
 use scasp_syntax::{Cons, Query, flat_items};
 use std::alloc::Global;

@@ -8,7 +8,7 @@ use crate::written::free::{Ahead, advance};
 use crate::written::goal::Goal;
 use crate::written::stack::{Waiting, push_paid};
 use crate::written::written::Event;
-use scasp_search_constraints::assume::SearchErr;
+use scasp_search_constraints::SearchErr;
 use std::alloc::Global;
 
 /// The first event of the walk from these states, of which the last is the next one. It leaves the states behind it.

@@ -10,7 +10,7 @@ use scasp_cert::Cert;
 use scasp_graph::analyse;
 use scasp_list::Memory;
 use scasp_nmr::checks;
-use scasp_search_constraints::assume::SearchErr;
+use scasp_search_constraints::SearchErr;
 use scasp_syntax::{DeepCopy, Program, Query};
 use std::alloc::Global;
 
