@@ -1,8 +1,8 @@
 //! Rows that the bindings of a state cannot replace within the range of the numbers.
-ghost use Rattle.std.specs.Prelude.{◌≡◌, IfOk, Option, is_none};
+ghost use Rattle.std.specs.Prelude.{◌≡◌, IfOk, is_none};
 ghost use Rattle.std.specs.List.{list_any};
-ghost use Rattle.scasp_num.specs.Linear.{Gives, Linear};
 ghost use Rattle.scasp_search_rules.specs.Successors.Replacing.{close_overflows, closes, end_overflows, has_universals, is_close, is_unreplaced, lines_overflow, tells_unreplaced};
+ghost use Rattle.scasp_unify.specs.ResolvedRows.{resolved_row};
 ghost use Rattle.scasp_unify.specs.Solving.{sub_of};
 
 use scasp_list::Memory;
@@ -12,10 +12,11 @@ use scasp_syntax::Con;
 use scasp_unify::{Binding, resolved_row};
 use std::alloc::Global;
 
-fn is_overflow(row: Result<Row, RowErr>) -> Result<bool, Memory>
-    ensures { (o : Option Linear) → Gives row o → IfOk result (λ answer. answer ≡ is_none o) }
+/// Whether a replacement by the bindings overflows in the row.
+fn is_row_unreplaced(alloc: Global, bindings: &[Binding], row: &Row) -> Result<bool, Memory>
+    ensures { IfOk result (λ answer. answer ≡ is_none (resolved_row (sub_of bindings.now) row.now)) }
 {
-    match row {
+    match resolved_row(alloc, row, bindings) {
         Ok(_) => Ok(false),
         Err(RowErr::Overflow) => Ok(true),
         Err(RowErr::Memory) => Err(Memory),
@@ -27,7 +28,7 @@ fn is_unreplaced(alloc: Global, bindings: &[Binding], constraint: &Con) -> Resul
     ensures { IfOk result (λ answer. answer ≡ is_unreplaced (sub_of bindings.now) constraint.now) }
 {
     match constraint {
-        Con::Row(row) => is_overflow(resolved_row(alloc, row, bindings)),
+        Con::Row(row) => is_row_unreplaced(alloc, bindings, row),
         Con::Eq(_, _) | Con::Neq(_, _) | Con::NotShape(_, _, _) | Con::Num(_) | Con::NotNum(_) => {
             Ok(false)
         }
