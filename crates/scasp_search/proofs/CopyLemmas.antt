@@ -1,0 +1,84 @@
+-- One look at a stack of states, and one step.
+use Rattle.std.specs.Prelude.{◌≡◌, ◌≢◌, ◌⊎◌, ℕ, ◌++◌, Bool, true, false, List, [], ◌∷◌, MatchResult, None, Some, Result, Ok, Err, refl, reverse}
+use Rattle.std.specs.List.{list_any}
+use Rattle.std.proofs.Common.{◌∙◌, ap, inl, inr, subst, sym}
+use Rattle.std.proofs.lemmas.List.{reverse-append}
+use Rattle.scasp_cert.specs.Certificate.{certificate_of}
+use Rattle.scasp_cert.specs.declared.certificate.Cert.{Cert}
+use Rattle.scasp_hint.specs.Finding.{overflows_in}
+use Rattle.scasp_hint.specs.Satisfying.{sat}
+use Rattle.scasp_search_constraints.specs.declared.assuming.step.SearchErr.{SearchErr}
+use Rattle.scasp_search_constraints.specs.declared.assuming.step.SearchErr.TheVariants as errors
+use Rattle.scasp_search_ends.specs.Ends.Ends.{Ends}
+use Rattle.scasp_search_rules.specs.Successors.Search.{answer_at, asked_by, pays, pays_for, step, step_at}
+use Rattle.scasp_search_rules.specs.declared.states.state.State.{State}
+use Rattle.scasp_search_rules.specs.declared.states.tasks.Task.{Task}
+use Rattle.scasp_search_walk.proofs.ReachedLemmas.{reached-none}
+use Rattle.scasp_search_walk.specs.Slices.{Sees, Steps}
+use Rattle.scasp_search_walk.specs.Walks.{Reached}
+use Rattle.scasp_search_walk.specs.declared.frontier.Look.{Look}
+use Rattle.scasp_search_walk.specs.declared.frontier.Look.TheVariants as look
+use Rattle.scasp_written.proofs.WrittenLemmas.WalkLemmas.{left-answers, of, working}
+use Rattle.scasp_written.specs.Written.Rests.{problem_in}
+use Rattle.scasp_written.specs.declared.written.goal.Goal.{Goal}
+
+-- the last state of a stack is the next one
+pub states_push : (ws : List State) (s : State) → reverse (ws ++ s ∷ []) ≡ s ∷ reverse ws
+states_push ws s = reverse-append ws (s ∷ [])
+
+pub states_popped : (ws rest : List State) (s : State) → ws ≡ rest ++ s ∷ [] → reverse ws ≡ s ∷ reverse rest
+states_popped ws rest s is = ap reverse is ∙ states_push rest s
+
+-- ---- a state with nothing left to do
+
+pub sees-answer : (g : Goal) (s : State) (rest : List State) (cert : Cert) → s.work ≡ [] → answer_at (problem_in g) s g.queried [] ≡ Some (Some (certificate_of cert))
+    → Sees certificate_of (of g) (s ∷ rest) rest (Ok (look.Answer cert))
+sees-answer g s rest cert e h = (left-answers g s (Some (Some (certificate_of cert))) e h, refl)
+
+pub sees-nothing : (g : Goal) (s : State) (rest : List State) → s.work ≡ [] → answer_at (problem_in g) s g.queried [] ≡ None
+    → Sees certificate_of (of g) (s ∷ rest) rest (Ok look.Nothing)
+sees-nothing g s rest e h = (left-answers g s None e h, ap (pays_for s) e, ap (λ work. (step_at g.program sat s work).states ++ rest) e)
+
+pub sees-overflow : (g : Goal) (s : State) (rest : List State) (e : SearchErr) → s.work ≡ []
+    → Ends (Err e) (answer_at (problem_in g) s g.queried []) (asked_by (problem_in g) s g.queried []) → Sees certificate_of (of g) (s ∷ rest) rest (Err e)
+sees-overflow g s rest errors.Memory e h = tt
+sees-overflow g s rest errors.Overflow e h = by h
+  where
+    by : (answer_at (problem_in g) s g.queried [] ≡ Some None) ⊎ (list_any overflows_in (asked_by (problem_in g) s g.queried []) ≡ true)
+        → ((of g).answer s ≡ Some None) ⊎ (((of g).pays s ≡ false) × ((of g).asks s ≡ true))
+    by (inl k) = inl (left-answers g s (Some None) e k)
+    by (inr k) = inr (ap (pays_for s) e, ap (λ work. list_any overflows_in (asked_by (problem_in g) s g.queried work)) e ∙ k)
+
+-- ---- a state with something left to do, which is put back
+
+pub sees-pays : (g : Goal) (s : State) (rest new : List State) (r : Result (Look Cert) SearchErr) → s.work ≢ [] → pays s ≡ true
+    → MatchResult r (λ l. (l ≡ look.Pays) × (new ≡ s ∷ rest)) (λ e. e ≡ errors.Memory) → Sees certificate_of (of g) (s ∷ rest) new r
+sees-pays g s rest new (Ok l) h f p = rw p.0 (working g s h, f, p.1)
+sees-pays g s rest new (Err e) h f p = rw p tt
+
+pub sees-free : (g : Goal) (s : State) (rest new : List State) (r : Result (Look Cert) SearchErr) → s.work ≢ [] → pays s ≡ false
+    → MatchResult r (λ l. (l ≡ look.Free) × (new ≡ s ∷ rest)) (λ e. e ≡ errors.Memory) → Sees certificate_of (of g) (s ∷ rest) new r
+sees-free g s rest new (Ok l) h f p = rw p.0 (working g s h, f, p.1)
+sees-free g s rest new (Err e) h f p = rw p tt
+
+pub sees-end : (g : Goal) (ws rest : List State) → ws ≡ [] → rest ≡ [] → Sees certificate_of (of g) (reverse ws) (reverse rest) (Ok look.Ended)
+sees-end g ws rest e f = rw (e, f) refl
+
+-- ---- a step
+
+asks-overflow : (g : Goal) (s : State) (work : List Task) → s.work ≡ work → list_any overflows_in (step g.program sat s).asked ≡ true
+    → list_any overflows_in (asked_by (problem_in g) s g.queried s.work) ≡ true
+asks-overflow g s [] e h =
+    let none : false ≡ true = sym (ap (λ work. list_any overflows_in (step_at g.program sat s work).asked) e) ∙ h in
+    absurd (cc none)
+asks-overflow g s (t ∷ ts) e h =
+    let there : asked_by (problem_in g) s g.queried s.work ≡ (step g.program sat s).asked = ap (asked_by (problem_in g) s g.queried) e ∙ sym (ap (λ work. (step_at g.program sat s work).asked) e) in
+    ap (list_any overflows_in) there ∙ h
+
+pub steps-of : (g : Goal) (s : State) (rest new : List State) (r : Result Unit SearchErr)
+    → MatchResult r (λ done. new ≡ (step g.program sat s).states ++ rest) (λ e. e ≡ errors.Overflow → list_any overflows_in (step g.program sat s).asked ≡ true)
+    → Steps (of g) (s ∷ rest) new r
+steps-of g s rest new (Ok done) h = λ budget calls.
+    subst (λ ss. Reached (of g) budget ((of g).next s ++ rest) calls ss calls) (sym h) (reached-none (of g) budget calls ((of g).next s ++ rest))
+steps-of g s rest new (Err errors.Overflow) h = asks-overflow g s s.work refl (h refl)
+steps-of g s rest new (Err errors.Memory) h = tt

@@ -1,0 +1,6 @@
+pub mod ReachedLemmas
+pub mod LaterLemmas
+pub mod PassLemmas
+pub mod SliceLemmas
+pub mod ComesLemmas
+pub mod ThinLemmas

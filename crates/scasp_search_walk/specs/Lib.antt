@@ -1,0 +1,4 @@
+pub mod Walks
+pub mod Slices
+pub mod Inside
+pub mod Thin
