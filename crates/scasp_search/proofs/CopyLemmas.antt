@@ -1,5 +1,5 @@
 -- One look at a stack of states, and one step.
-use Rattle.std.specs.Prelude.{◌≡◌, ◌≢◌, ◌⊎◌, ℕ, ◌++◌, Bool, true, false, List, [], ◌∷◌, MatchResult, None, Some, Result, Ok, Err, refl, reverse}
+use Rattle.std.specs.Prelude.{◌≡◌, ◌≢◌, ◌⊎◌, ◌++◌, true, false, List, [], ◌∷◌, MatchResult, None, Some, Result, Ok, Err, refl, reverse}
 use Rattle.std.specs.List.{list_any}
 use Rattle.std.proofs.Common.{◌∙◌, ap, inl, inr, subst, sym}
 use Rattle.std.proofs.lemmas.List.{reverse-append}
@@ -12,13 +12,12 @@ use Rattle.scasp_search_constraints.specs.declared.assuming.step.SearchErr.TheVa
 use Rattle.scasp_search_ends.specs.Ends.Ends.{Ends}
 use Rattle.scasp_search_rules.specs.Successors.Search.{answer_at, asked_by, pays, pays_for, step, step_at}
 use Rattle.scasp_search_rules.specs.declared.states.state.State.{State}
-use Rattle.scasp_search_rules.specs.declared.states.tasks.Task.{Task}
 use Rattle.scasp_search_walk.proofs.ReachedLemmas.{reached-none}
 use Rattle.scasp_search_walk.specs.Slices.{Sees, Steps}
 use Rattle.scasp_search_walk.specs.Walks.{Reached}
 use Rattle.scasp_search_walk.specs.declared.frontier.Look.{Look}
 use Rattle.scasp_search_walk.specs.declared.frontier.Look.TheVariants as look
-use Rattle.scasp_written.proofs.WrittenLemmas.WalkLemmas.{left-answers, of, working}
+use Rattle.scasp_written.proofs.WrittenLemmas.WalkLemmas.{asks-overflow, left-answers, of, working}
 use Rattle.scasp_written.specs.Written.Rests.{problem_in}
 use Rattle.scasp_written.specs.declared.written.goal.Goal.{Goal}
 
@@ -65,15 +64,6 @@ pub sees-end : (g : Goal) (ws rest : List State) → ws ≡ [] → rest ≡ [] �
 sees-end g ws rest e f = rw (e, f) refl
 
 -- ---- a step
-
-asks-overflow : (g : Goal) (s : State) (work : List Task) → s.work ≡ work → list_any overflows_in (step g.program sat s).asked ≡ true
-    → list_any overflows_in (asked_by (problem_in g) s g.queried s.work) ≡ true
-asks-overflow g s [] e h =
-    let none : false ≡ true = sym (ap (λ work. list_any overflows_in (step_at g.program sat s work).asked) e) ∙ h in
-    absurd (cc none)
-asks-overflow g s (t ∷ ts) e h =
-    let there : asked_by (problem_in g) s g.queried s.work ≡ (step g.program sat s).asked = ap (asked_by (problem_in g) s g.queried) e ∙ sym (ap (λ work. (step_at g.program sat s work).asked) e) in
-    ap (list_any overflows_in) there ∙ h
 
 pub steps-of : (g : Goal) (s : State) (rest new : List State) (r : Result Unit SearchErr)
     → MatchResult r (λ done. new ≡ (step g.program sat s).states ++ rest) (λ e. e ≡ errors.Overflow → list_any overflows_in (step g.program sat s).asked ≡ true)

@@ -1,5 +1,5 @@
 //! What the present state is.
-ghost use Rattle.std.specs.Prelude.{◌≡◌, [], ◌++◌, IfOk};
+ghost use Rattle.std.specs.Prelude.{◌≡◌, []};
 ghost use Rattle.scasp_suspended.specs.Present.{IsSeen, stays};
 ghost use Rattle.scasp_written.specs.Written.Rests.{machine, problem_in};
 

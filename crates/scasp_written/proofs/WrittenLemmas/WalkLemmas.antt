@@ -116,6 +116,16 @@ free-overflow g budget calls s old rest new errors.Overflow r h f o =
         let there : asked_by (problem_in g) s g.queried s.work ≡ (step g.program sat s).asked = ap (asked_by (problem_in g) s g.queried) k in
         ap (list_any overflows_in) there ∙ o refl
 
+-- what a step asks is asked by its state
+pub asks-overflow : (g : Goal) (s : State) (work : List Task) → s.work ≡ work → list_any overflows_in (step g.program sat s).asked ≡ true
+    → list_any overflows_in (asked_by (problem_in g) s g.queried s.work) ≡ true
+asks-overflow g s [] e h =
+    let none : false ≡ true = sym (ap (λ work. list_any overflows_in (step_at g.program sat s work).asked) e) ∙ h in
+    absurd (cc none)
+asks-overflow g s (t ∷ ts) e h =
+    let there : asked_by (problem_in g) s g.queried s.work ≡ (step g.program sat s).asked = ap (asked_by (problem_in g) s g.queried) e ∙ sym (ap (λ work. (step_at g.program sat s work).asked) e) in
+    ap (list_any overflows_in) there ∙ h
+
 -- a state that costs a call
 pub meets-call : (g : Goal) (budget calls : ℕ) (s : State) (old rest new : List State) → Reached (of g) budget old calls (s ∷ rest) calls → s.work ≢ []
     → close_overflows s s.work ≡ false → pays s ≡ true → new ≡ s ∷ rest → Meets (of g) budget calls old new ahead.Pays
