@@ -10,6 +10,7 @@ use Rattle.scasp_hint.specs.Satisfying.{sat}
 use Rattle.scasp_search_constraints.specs.declared.assuming.step.SearchErr.{SearchErr}
 use Rattle.scasp_search_constraints.specs.declared.assuming.step.SearchErr.TheVariants as errors
 use Rattle.scasp_search_ends.specs.Ends.Ends.{Ends}
+use Rattle.scasp_search_rules.specs.Successors.Replacing.{close_overflows}
 use Rattle.scasp_search_rules.specs.Successors.Search.{answer_at, asked_by, pays, pays_for, step, step_at}
 use Rattle.scasp_search_rules.specs.declared.states.state.State.{State}
 use Rattle.scasp_search_walk.proofs.ReachedLemmas.{reached-none}
@@ -17,7 +18,7 @@ use Rattle.scasp_search_walk.specs.Slices.{Sees, Steps}
 use Rattle.scasp_search_walk.specs.Walks.{Reached}
 use Rattle.scasp_search_walk.specs.declared.frontier.Look.{Look}
 use Rattle.scasp_search_walk.specs.declared.frontier.Look.TheVariants as look
-use Rattle.scasp_written.proofs.WrittenLemmas.WalkLemmas.{asks-overflow, left-answers, of, working}
+use Rattle.scasp_written.proofs.WrittenLemmas.WalkLemmas.{asks-overflow, closing, left-answers, of, working}
 use Rattle.scasp_written.specs.Written.Rests.{problem_in}
 use Rattle.scasp_written.specs.declared.written.goal.Goal.{Goal}
 
@@ -50,15 +51,19 @@ sees-overflow g s rest errors.Overflow e h = by h
 
 -- ---- a state with something left to do, which is put back
 
-pub sees-pays : (g : Goal) (s : State) (rest new : List State) (r : Result (Look Cert) SearchErr) → s.work ≢ [] → pays s ≡ true
-    → MatchResult r (λ l. (l ≡ look.Pays) × (new ≡ s ∷ rest)) (λ e. e ≡ errors.Memory) → Sees certificate_of (of g) (s ∷ rest) new r
-sees-pays g s rest new (Ok l) h f p = rw p.0 (working g s h, f, p.1)
-sees-pays g s rest new (Err e) h f p = rw p tt
+-- a case ends with a row that is not replaced
+pub sees-close : (g : Goal) (s : State) (rest new : List State) → close_overflows s s.work ≡ true → Sees certificate_of (of g) (s ∷ rest) new (Err errors.Overflow)
+sees-close g s rest new h = inl (closing g s h)
 
-pub sees-free : (g : Goal) (s : State) (rest new : List State) (r : Result (Look Cert) SearchErr) → s.work ≢ [] → pays s ≡ false
+pub sees-pays : (g : Goal) (s : State) (rest new : List State) (r : Result (Look Cert) SearchErr) → s.work ≢ [] → close_overflows s s.work ≡ false → pays s ≡ true
+    → MatchResult r (λ l. (l ≡ look.Pays) × (new ≡ s ∷ rest)) (λ e. e ≡ errors.Memory) → Sees certificate_of (of g) (s ∷ rest) new r
+sees-pays g s rest new (Ok l) h o f p = rw p.0 (working g s h o, f, p.1)
+sees-pays g s rest new (Err e) h o f p = rw p tt
+
+pub sees-free : (g : Goal) (s : State) (rest new : List State) (r : Result (Look Cert) SearchErr) → s.work ≢ [] → close_overflows s s.work ≡ false → pays s ≡ false
     → MatchResult r (λ l. (l ≡ look.Free) × (new ≡ s ∷ rest)) (λ e. e ≡ errors.Memory) → Sees certificate_of (of g) (s ∷ rest) new r
-sees-free g s rest new (Ok l) h f p = rw p.0 (working g s h, f, p.1)
-sees-free g s rest new (Err e) h f p = rw p tt
+sees-free g s rest new (Ok l) h o f p = rw p.0 (working g s h o, f, p.1)
+sees-free g s rest new (Err e) h o f p = rw p tt
 
 pub sees-end : (g : Goal) (ws rest : List State) → ws ≡ [] → rest ≡ [] → Sees certificate_of (of g) (reverse ws) (reverse rest) (Ok look.Ended)
 sees-end g ws rest e f = rw (e, f) refl

@@ -12,6 +12,7 @@ ghost use Rattle.scasp_written.specs.Written.Rests.{machine, problem_in};
 use scasp_cert::Cert;
 use scasp_list::Memory;
 use scasp_search_constraints::{SearchErr, States};
+use scasp_search_ends::close_overflows;
 use scasp_search_rules::State;
 use scasp_search_walk::{Frontier, Look};
 use scasp_syntax::Program;
@@ -60,7 +61,7 @@ fn put_back(
     }
 }
 
-/// What the state is, which was taken from the stack.
+/// What the state is, which was taken from the stack. Overflow where it ends a case with a row that the bindings cannot replace.
 fn look_at(
     alloc: Global,
     goal: &Goal,
@@ -71,6 +72,9 @@ fn look_at(
 {
     if state.work.is_empty() {
         return finished(alloc, goal, &state);
+    }
+    if close_overflows(alloc, &state)? {
+        return Err(SearchErr::Overflow);
     }
     if pays(&state) {
         return put_back(state, Look::Pays, waiting);

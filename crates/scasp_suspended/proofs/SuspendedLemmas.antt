@@ -9,6 +9,7 @@ use Rattle.scasp_hint.specs.Satisfying.{sat}
 use Rattle.scasp_search_constraints.specs.declared.assume.step.SearchErr.{SearchErr}
 use Rattle.scasp_search_constraints.specs.declared.assume.step.SearchErr.TheVariants as errors
 use Rattle.scasp_search_ends.specs.Ends.Ends.{Ends}
+use Rattle.scasp_search_rules.specs.Successors.Replacing.{close_overflows}
 use Rattle.scasp_search_rules.specs.Successors.Search.{answer_at, asked_by, pays, pays_for, step, step_at}
 use Rattle.scasp_search_rules.specs.declared.states.state.State.{State}
 use Rattle.scasp_search_rules.specs.declared.states.tasks.Task.{Task}
@@ -20,7 +21,7 @@ use Rattle.scasp_search_walk.specs.Walks.{Reached}
 use Rattle.scasp_search_walk.specs.declared.frontier.Look.{Look}
 use Rattle.scasp_search_walk.specs.declared.frontier.Look.TheVariants as look
 use Rattle.scasp_suspended.specs.Present.{IsSeen, stays}
-use Rattle.scasp_written.proofs.WrittenLemmas.WalkLemmas.{asks-overflow, left-answers, of, working}
+use Rattle.scasp_written.proofs.WrittenLemmas.WalkLemmas.{asks-overflow, closing, left-answers, of, working}
 use Rattle.scasp_written.specs.Written.Rests.{problem_in}
 use Rattle.scasp_written.specs.declared.written.goal.Goal.{Goal}
 
@@ -50,11 +51,14 @@ no-work (t ∷ ts) h = absurd (cc h)
 some-work : (work : List Task) → has_work work ≡ true → work ≢ []
 some-work work h e = let none : false ≡ true = sym (ap has_work e) ∙ h in absurd (cc none)
 
-pub seen-pays : (g : Goal) (s : State) → has_work s.work ≡ true → pays s ≡ true → IsSeen (of g) s (Ok look.Pays)
-seen-pays g s h f = (working g s (some-work s.work h), f)
+pub seen-close : (g : Goal) (s : State) → close_overflows s s.work ≡ true → IsSeen (of g) s (Err errors.Overflow)
+seen-close g s h = inl (closing g s h)
 
-pub seen-free : (g : Goal) (s : State) → has_work s.work ≡ true → pays s ≡ false → IsSeen (of g) s (Ok look.Free)
-seen-free g s h f = (working g s (some-work s.work h), f)
+pub seen-pays : (g : Goal) (s : State) → has_work s.work ≡ true → close_overflows s s.work ≡ false → pays s ≡ true → IsSeen (of g) s (Ok look.Pays)
+seen-pays g s h o f = (working g s (some-work s.work h) o, f)
+
+pub seen-free : (g : Goal) (s : State) → has_work s.work ≡ true → close_overflows s s.work ≡ false → pays s ≡ false → IsSeen (of g) s (Ok look.Free)
+seen-free g s h o f = (working g s (some-work s.work h) o, f)
 
 -- ---- a look and a step
 

@@ -15,7 +15,7 @@ enum Told {
     Memory,
 }
 
-fn told(advance: &Advance) -> Told {
+fn kind_of(advance: &Advance) -> Told {
     match advance {
         Advance::Answer(_) => Told::Answer,
         Advance::Paused => Told::Paused,
@@ -48,7 +48,7 @@ fn tell_each(alloc: Global) -> Result<(Vec<Told>, u64), Fail> {
         return Ok((made, 0));
     };
     for slice in &SLICES {
-        made.push(told(&search.advance(*slice)))?;
+        made.push(kind_of(&search.advance(*slice)))?;
     }
     Ok((made, search.calls()))
 }
@@ -62,7 +62,7 @@ fn tell_all(alloc: Global) -> Result<(Vec<Told>, u64), Fail> {
     };
     let answers = advance_all(alloc, &mut search, &SLICES)?;
     for answer in &answers {
-        made.push(told(answer))?;
+        made.push(kind_of(answer))?;
     }
     Ok((made, search.calls()))
 }
@@ -89,7 +89,7 @@ fn pauses(alloc: Global, budget: u64) -> Result<Option<u64>, Fail> {
         return Ok(None);
     };
     for count in 0..budget {
-        match told(&search.advance(1)) {
+        match kind_of(&search.advance(1)) {
             Told::Paused => {}
             Told::Spent => return Ok(Some(count)),
             Told::Answer | Told::Ended | Told::Overflow | Told::Memory => return Ok(None),
