@@ -6,8 +6,8 @@ use Rattle.scasp_cert.specs.Certificate.{certificate_of}
 use Rattle.scasp_cert.specs.declared.certificate.Cert.{Cert}
 use Rattle.scasp_hint.specs.Finding.{overflows_in}
 use Rattle.scasp_hint.specs.Satisfying.{sat}
-use Rattle.scasp_search_constraints.specs.declared.assume.step.SearchErr.{SearchErr}
-use Rattle.scasp_search_constraints.specs.declared.assume.step.SearchErr.TheVariants as errors
+use Rattle.scasp_search_constraints.specs.declared.assuming.step.SearchErr.{SearchErr}
+use Rattle.scasp_search_constraints.specs.declared.assuming.step.SearchErr.TheVariants as errors
 use Rattle.scasp_search_ends.specs.Ends.Ends.{Ends}
 use Rattle.scasp_search_rules.specs.Successors.Replacing.{close_overflows}
 use Rattle.scasp_search_rules.specs.Successors.Search.{answer_at, asked_by, pays, pays_for, step, step_at}
