@@ -1,5 +1,5 @@
 -- One look at a stack of states, and one step.
-use Rattle.std.specs.Prelude.{◌≡◌, ◌≢◌, ◌⊎◌, ◌++◌, true, false, List, [], ◌∷◌, MatchResult, None, Some, Result, Ok, Err, refl, reverse}
+use Rattle.std.specs.Prelude.{◌≡◌, ◌≢◌, ◌⊎◌, ◌++◌, true, false, List, [], ◌∷◌, MatchOption, MatchResult, Option, None, Some, Result, Ok, Err, refl, reverse}
 use Rattle.std.specs.List.{list_any}
 use Rattle.std.proofs.Common.{◌∙◌, ap, inl, inr, subst, sym}
 use Rattle.std.proofs.lemmas.List.{reverse-append}
@@ -9,6 +9,7 @@ use Rattle.scasp_hint.specs.Finding.{overflows_in}
 use Rattle.scasp_hint.specs.Satisfying.{sat}
 use Rattle.scasp_search_constraints.specs.declared.assuming.step.SearchErr.{SearchErr}
 use Rattle.scasp_search_constraints.specs.declared.assuming.step.SearchErr.TheVariants as errors
+use Rattle.scasp_search_constraints.specs.Assuming.Taken.{TakesAll}
 use Rattle.scasp_search_ends.specs.Ends.Ends.{Ends}
 use Rattle.scasp_search_rules.specs.Successors.Replacing.{close_overflows}
 use Rattle.scasp_search_rules.specs.Successors.Search.{answer_at, asked_by, pays, pays_for, step, step_at}
@@ -31,11 +32,11 @@ states_popped ws rest s is = ap reverse is ∙ states_push rest s
 
 -- ---- a state with nothing left to do
 
-pub sees-answer : (g : Goal) (s : State) (rest : List State) (cert : Cert) → s.work ≡ [] → answer_at (problem_in g) s g.queried [] ≡ Some (Some (certificate_of cert))
+sees-answer : (g : Goal) (s : State) (rest : List State) (cert : Cert) → s.work ≡ [] → answer_at (problem_in g) s g.queried [] ≡ Some (Some (certificate_of cert))
     → Sees certificate_of (of g) (s ∷ rest) rest (Ok (look.Answer cert))
 sees-answer g s rest cert e h = (left-answers g s (Some (Some (certificate_of cert))) e h, refl)
 
-pub sees-nothing : (g : Goal) (s : State) (rest : List State) → s.work ≡ [] → answer_at (problem_in g) s g.queried [] ≡ None
+sees-nothing : (g : Goal) (s : State) (rest : List State) → s.work ≡ [] → answer_at (problem_in g) s g.queried [] ≡ None
     → Sees certificate_of (of g) (s ∷ rest) rest (Ok look.Nothing)
 sees-nothing g s rest e h = (left-answers g s None e h, ap (pays_for s) e, ap (λ work. (step_at g.program sat s work).states ++ rest) e)
 
@@ -48,6 +49,11 @@ sees-overflow g s rest errors.Overflow e h = by h
         → ((of g).answer s ≡ Some None) ⊎ (((of g).pays s ≡ false) × ((of g).asks s ≡ true))
     by (inl k) = inl (left-answers g s (Some None) e k)
     by (inr k) = inr (ap (pays_for s) e, ap (λ work. list_any overflows_in (asked_by (problem_in g) s g.queried work)) e ∙ k)
+
+pub sees-found : (g : Goal) (s : State) (rest : List State) (found : Option Cert) (l : Look Cert) → MatchOption found (l ≡ look.Nothing) (λ cert. l ≡ look.Answer cert) → s.work ≡ []
+    → Ends (Ok found) (answer_at (problem_in g) s g.queried []) (asked_by (problem_in g) s g.queried []) → Sees certificate_of (of g) (s ∷ rest) rest (Ok l)
+sees-found g s rest None l is e h = rw is (sees-nothing g s rest e h)
+sees-found g s rest (Some cert) l is e h = rw is (sees-answer g s rest cert e h)
 
 -- ---- a state with something left to do, which is put back
 
@@ -70,10 +76,10 @@ sees-end g ws rest e f = rw (e, f) refl
 
 -- ---- a step
 
-pub steps-of : (g : Goal) (s : State) (rest new : List State) (r : Result Unit SearchErr)
-    → MatchResult r (λ done. new ≡ (step g.program sat s).states ++ rest) (λ e. e ≡ errors.Overflow → list_any overflows_in (step g.program sat s).asked ≡ true)
-    → Steps (of g) (s ∷ rest) new r
-steps-of g s rest new (Ok done) h = λ budget calls.
+pub steps-to : (g : Goal) (s : State) (rest new : List State) → new ≡ (step g.program sat s).states ++ rest → Steps (of g) (s ∷ rest) new (Ok record {})
+steps-to g s rest new h = λ budget calls.
     subst (λ ss. Reached (of g) budget ((of g).next s ++ rest) calls ss calls) (sym h) (reached-none (of g) budget calls ((of g).next s ++ rest))
-steps-of g s rest new (Err errors.Overflow) h = asks-overflow g s s.work refl (h refl)
-steps-of g s rest new (Err errors.Memory) h = tt
+
+pub step-fails : (g : Goal) (s : State) (rest new : List State) (e : SearchErr) → TakesAll (Err e) (step g.program sat s) → Steps (of g) (s ∷ rest) new (Err e)
+step-fails g s rest new errors.Overflow h = asks-overflow g s s.work refl h
+step-fails g s rest new errors.Memory h = tt

@@ -1,12 +1,8 @@
 //! The states that are still to be gone through, each a copy by itself, on a stack.
-ghost use Rattle.std.specs.Prelude.{◌≡◌, ◌++◌, ◌∷◌, [], Err, List, MatchResult, OnOk, reverse, true};
-ghost use Rattle.std.specs.List.{list_any};
+ghost use Rattle.std.specs.Prelude.{◌≡◌, ◌++◌, ◌∷◌, [], List, MatchOption, MatchResult, OnOk, reverse};
 ghost use Rattle.scasp_cert.specs.Certificate.{certificate_of};
-ghost use Rattle.scasp_hint.specs.Finding.{overflows_in};
-ghost use Rattle.scasp_hint.specs.Satisfying.{sat};
-ghost use Rattle.scasp_search_rules.specs.Successors.Search.{step};
 ghost use Rattle.scasp_search_rules.specs.declared.states.state.State.{State as ThisState};
-ghost use Rattle.scasp_search_walk.specs.Slices.{Sees};
+ghost use Rattle.scasp_search_walk.specs.Slices.{Sees, Steps};
 ghost use Rattle.scasp_written.specs.Written.Rests.{machine, problem_in};
 
 use scasp_cert::Cert;
@@ -15,7 +11,6 @@ use scasp_search_constraints::{SearchErr, States};
 use scasp_search_ends::close_overflows;
 use scasp_search_rules::State;
 use scasp_search_walk::{Frontier, Look};
-use scasp_syntax::Program;
 use scasp_written::{Goal, answer, pays, successors};
 use std::alloc::Global;
 
@@ -27,13 +22,21 @@ pub(crate) struct Copies {
     pub(crate) waiting: Vec<State>,
 }
 
+fn look_of(found: Option<Cert>) -> Look<Cert>
+    ensures { MatchOption found (result ≡ Look.Nothing) (λ cert. result ≡ Look.Answer cert) }
+{
+    match found {
+        Some(cert) => Look::Answer(cert),
+        None => Look::Nothing,
+    }
+}
+
 /// What a state with nothing left to do is: an answer, or nothing.
 fn finished(alloc: Global, goal: &Goal, state: &State) -> Result<Look<Cert>, SearchErr>
     ensures { state.now.work ≡ [] → (rest : List ThisState) → Sees certificate_of (machine (problem_in goal.now) goal.now.queried) (state.now ∷ rest) rest result }
 {
     match answer(alloc, goal, state) {
-        Ok(Some(cert)) => Ok(Look::Answer(cert)),
-        Ok(None) => Ok(Look::Nothing),
+        Ok(found) => Ok(look_of(found)),
         Err(error) => Err(error),
     }
 }
@@ -93,19 +96,22 @@ fn put_all(states: States, waiting: &mut Vec<State>) -> Result<(), Memory>
     Ok(())
 }
 
-/// Puts what comes after the state on the stack.
+/// Puts what comes after the state, which was taken from the stack, on the stack.
 fn put_successors(
     alloc: Global,
-    program: &Program,
+    goal: &Goal,
     state: State,
     waiting: &mut Vec<State>,
 ) -> Result<(), SearchErr>
-    ensures states { OnOk result (reverse waiting.new.items ≡ (step program.now sat state).states ++ reverse waiting.old.items) }
-    ensures overflow { result ≡ Err SearchErr.Overflow → list_any overflows_in (step program.now sat state).asked ≡ true }
+    ensures { Steps (machine (problem_in goal.now) goal.now.queried) (state ∷ reverse waiting.old.items) (reverse waiting.new.items) result }
 {
-    let states = successors(alloc, program, state)?;
-    put_all(states, waiting)?;
-    Ok(())
+    match successors(alloc, &goal.program, state) {
+        Ok(states) => match put_all(states, waiting) {
+            Ok(()) => Ok(()),
+            Err(_) => Err(SearchErr::Memory),
+        },
+        Err(error) => Err(error),
+    }
 }
 
 impl Frontier<Cert> for Copies {
@@ -138,9 +144,7 @@ impl Frontier<Cert> for Copies {
 
     fn step(&mut self) -> Result<(), SearchErr> {
         match self.waiting.pop() {
-            Some(state) => {
-                put_successors(self.alloc, &self.goal.program, state, &mut self.waiting)
-            }
+            Some(state) => put_successors(self.alloc, &self.goal, state, &mut self.waiting),
             None => Ok(()),
         }
     }

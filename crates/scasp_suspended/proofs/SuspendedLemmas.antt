@@ -1,5 +1,5 @@
 -- One look at a state in place, and one step.
-use Rattle.std.specs.Prelude.{◌≡◌, ◌≢◌, ◌⊎◌, ℕ, ◌++◌, Bool, true, false, List, [], ◌∷◌, None, Some, Result, Ok, Err, refl}
+use Rattle.std.specs.Prelude.{◌≡◌, ◌≢◌, ◌⊎◌, ℕ, ◌++◌, Bool, true, false, List, [], ◌∷◌, MatchOption, Option, None, Some, Result, Ok, Err, refl}
 use Rattle.std.specs.List.{list_any}
 use Rattle.std.proofs.Common.{◌∙◌, ap, inl, inr, subst, sym}
 use Rattle.scasp_cert.specs.Certificate.{certificate_of}
@@ -27,10 +27,10 @@ use Rattle.scasp_written.specs.declared.written.goal.Goal.{Goal}
 
 -- ---- a state with nothing left to do
 
-pub seen-answer : (g : Goal) (s : State) (cert : Cert) → s.work ≡ [] → answer_at (problem_in g) s g.queried [] ≡ Some (Some (certificate_of cert)) → IsSeen (of g) s (Ok (look.Answer cert))
+seen-answer : (g : Goal) (s : State) (cert : Cert) → s.work ≡ [] → answer_at (problem_in g) s g.queried [] ≡ Some (Some (certificate_of cert)) → IsSeen (of g) s (Ok (look.Answer cert))
 seen-answer g s cert e h = left-answers g s (Some (Some (certificate_of cert))) e h
 
-pub seen-nothing : (g : Goal) (s : State) → s.work ≡ [] → answer_at (problem_in g) s g.queried [] ≡ None → IsSeen (of g) s (Ok look.Nothing)
+seen-nothing : (g : Goal) (s : State) → s.work ≡ [] → answer_at (problem_in g) s g.queried [] ≡ None → IsSeen (of g) s (Ok look.Nothing)
 seen-nothing g s e h = (left-answers g s None e h, ap (pays_for s) e, ap (λ work. (step_at g.program sat s work).states) e)
 
 pub seen-overflow : (g : Goal) (s : State) (e : SearchErr) → s.work ≡ [] → Ends (Err e) (answer_at (problem_in g) s g.queried []) (asked_by (problem_in g) s g.queried []) → IsSeen (of g) s (Err e)
@@ -41,6 +41,11 @@ seen-overflow g s errors.Overflow e h = by h
         → ((of g).answer s ≡ Some None) ⊎ (((of g).pays s ≡ false) × ((of g).asks s ≡ true))
     by (inl k) = inl (left-answers g s (Some None) e k)
     by (inr k) = inr (ap (pays_for s) e, ap (λ work. list_any overflows_in (asked_by (problem_in g) s g.queried work)) e ∙ k)
+
+pub seen-found : (g : Goal) (s : State) (found : Option Cert) (l : Look Cert) → MatchOption found (l ≡ look.Nothing) (λ cert. l ≡ look.Answer cert) → s.work ≡ []
+    → Ends (Ok found) (answer_at (problem_in g) s g.queried []) (asked_by (problem_in g) s g.queried []) → IsSeen (of g) s (Ok l)
+seen-found g s None l is e h = rw is (seen-nothing g s e h)
+seen-found g s (Some cert) l is e h = rw is (seen-answer g s cert e h)
 
 -- ---- and one with something left to do
 

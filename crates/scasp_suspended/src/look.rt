@@ -1,5 +1,5 @@
 //! What the present state is.
-ghost use Rattle.std.specs.Prelude.{◌≡◌, []};
+ghost use Rattle.std.specs.Prelude.{◌≡◌, [], MatchOption};
 ghost use Rattle.scasp_suspended.specs.Present.{IsSeen, stays};
 ghost use Rattle.scasp_written.specs.Written.Rests.{machine, problem_in};
 
@@ -11,13 +11,21 @@ use scasp_search_walk::Look;
 use scasp_written::{Goal, answer};
 use std::alloc::Global;
 
+fn look_of(found: Option<Cert>) -> Look<Cert>
+    ensures { MatchOption found (result ≡ Look.Nothing) (λ cert. result ≡ Look.Answer cert) }
+{
+    match found {
+        Some(cert) => Look::Answer(cert),
+        None => Look::Nothing,
+    }
+}
+
 /// What a state with nothing left to do is: an answer, or nothing.
 fn finished(alloc: Global, goal: &Goal, state: &State) -> Result<Look<Cert>, SearchErr>
     ensures { state.now.work ≡ [] → IsSeen (machine (problem_in goal.now) goal.now.queried) state.now result }
 {
     match answer(alloc, goal, state) {
-        Ok(Some(cert)) => Ok(Look::Answer(cert)),
-        Ok(None) => Ok(Look::Nothing),
+        Ok(found) => Ok(look_of(found)),
         Err(error) => Err(error),
     }
 }
@@ -32,7 +40,7 @@ fn ended<M: Situation>(alloc: Global, goal: &Goal, at: &M) -> Result<Look<Cert>,
     }
 }
 
-/// What the present state is.
+/// What the present state is. Overflow where it ends a case with a row that the bindings cannot replace.
 pub(crate) fn look_at<M: Situation>(
     alloc: Global,
     goal: &Goal,
@@ -42,6 +50,9 @@ pub(crate) fn look_at<M: Situation>(
 {
     if !at.has_work() {
         return ended(alloc, goal, at);
+    }
+    if at.close_overflows(alloc)? {
+        return Err(SearchErr::Overflow);
     }
     if at.pays() {
         return Ok(Look::Pays);
