@@ -2,11 +2,11 @@
 use Rattle.std.specs.Prelude.{◌≡◌, ℕ, ◌+◌, ◌<◌, ◌≤◌, Option, None, Some, IsSome, List, [], ◌∷◌, ◌++◌, refl}
 use Rattle.std.proofs.Common.{◌∙◌, ap, append_assoc, arith, sym}
 use Rattle.scasp_search_constraints.specs.declared.assuming.step.SearchErr.{SearchErr}
-use Rattle.scasp_search_rules.specs.Successors.Machine.{Machine, Found, Finds, Outcome, answered, ended, spent}
+use Rattle.scasp_search_rules.specs.Successors.Machine.{Machine, Outcome, answered, ended, spent}
 use Rattle.scasp_search_walk.proofs.LaterLemmas.{allows-later, found-later, tells-later}
 use Rattle.scasp_search_walk.proofs.ReachedLemmas.{reached-both, reached-none}
 use Rattle.scasp_search_walk.specs.Slices.{Comes, Gives, Keeps, NeedsMore, stop_of}
-use Rattle.scasp_search_walk.specs.Walks.{Allows, Reached, Tells}
+use Rattle.scasp_search_walk.specs.Walks.{Reached, Tells}
 use Rattle.scasp_search_walk.specs.declared.events.Advance.{Advance}
 use Rattle.scasp_search_walk.specs.declared.events.Advance.TheVariants as advance
 

@@ -1,6 +1,6 @@
 -- The end, and the end of the budget, come again.
 use Rattle.std.specs.Prelude.{◌≡◌, ◌⊎◌, ℕ, ◌+◌, ◌<◌, zero, suc, nat_eq, Bool, true, false, ◌&&◌, ◌||◌, Option, None, Some, List, [], ◌∷◌, ◌++◌, refl}
-use Rattle.std.proofs.Common.{◌∙◌, ap, arith, inl, inr, subst, sym}
+use Rattle.std.proofs.Common.{ap, arith, inl, inr, subst, sym}
 use Rattle.scasp_search_rules.proofs.SuccessorsLemmas.Walks.{finds-one}
 use Rattle.scasp_search_rules.specs.Successors.Machine.{Machine, Found, Finds, Outcome, answered, behind, cost, ended, first_event, outcome_of, overflowed, pick, spent}
 use Rattle.scasp_search_walk.specs.Repeats.{IsLast, Repeats}

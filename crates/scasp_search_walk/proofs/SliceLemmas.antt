@@ -2,9 +2,9 @@
 use Rattle.std.specs.Prelude.{◌≡◌, ◌≢◌, ℕ, ◌+◌, ◌<◌, ◌≤◌, zero, suc, nat_eq, Bool, true, false, ◌&&◌, ◌||◌, Option, None, Some, Ok, Err, List, [], ◌∷◌, ◌++◌, refl}
 use Rattle.std.proofs.Common.{arith, sym, ap, subst, ◌∙◌}
 use Rattle.std.proofs.lemmas.Bool.Decides.{nat_tests}
-use Rattle.scasp_search_rules.specs.Successors.Machine.{Machine, Found, Finds, answered, ended, spent, first_event, pick, cost}
+use Rattle.scasp_search_rules.specs.Successors.Machine.{Machine, Found, Finds, ended, spent, first_event, pick, cost}
 use Rattle.scasp_search_walk.specs.Inside.{Arrives, Finishes}
-use Rattle.scasp_search_walk.specs.Slices.{NeedsMore, Steps}
+use Rattle.scasp_search_walk.specs.Slices.{Steps}
 use Rattle.scasp_search_walk.specs.Walks.{BeginsWithCall, Reached, Tells}
 use Rattle.scasp_search_constraints.specs.declared.assuming.step.SearchErr.{SearchErr}
 use Rattle.scasp_search_constraints.specs.declared.assuming.step.SearchErr.TheVariants as errors
