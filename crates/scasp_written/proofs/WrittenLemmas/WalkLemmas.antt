@@ -123,7 +123,7 @@ asks-overflow g s [] e h =
     let none : false ≡ true = sym (ap (λ work. list_any overflows_in (step_at g.program sat s work).asked) e) ∙ h in
     absurd (cc none)
 asks-overflow g s (t ∷ ts) e h =
-    let there : asked_by (problem_in g) s g.queried s.work ≡ (step g.program sat s).asked = ap (asked_by (problem_in g) s g.queried) e ∙ sym (ap (λ work. (step_at g.program sat s work).asked) e) in
+    let there : asked_by (problem_in g) s g.queried s.work ≡ (step g.program sat s).asked = ap (asked_by (problem_in g) s g.queried) e in
     ap (list_any overflows_in) there ∙ h
 
 -- a state that costs a call
