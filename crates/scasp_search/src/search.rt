@@ -2,6 +2,7 @@
 use crate::copies::Copies;
 use crate::events::Advance;
 use scasp_list::Memory;
+use scasp_search_constraints::SearchErr;
 use scasp_search_walk::{Walk, advance_by};
 use scasp_syntax::Program;
 use scasp_written::{goal_of, start_of};

@@ -6,6 +6,7 @@ ghost use Rattle.scasp_written.specs.Written.Rests.{Gives, IsSameRun, stop_of};
 use crate::events::Advance;
 use crate::search::Search;
 use scasp_list::Memory;
+use scasp_search_constraints::SearchErr;
 use scasp_search_walk::advance_all as walk_all;
 use scasp_written::Event;
 use std::alloc::Global;
