@@ -2,7 +2,6 @@
 use Rattle.std.specs.Prelude.{◌≡◌, ◌⊎◌, ℕ, ◌+◌, ◌<◌, nat_eq, Bool, true, false, ◌&&◌, if◌then◌else◌, Option, Some, None, Result, Ok, Err, List, [], ◌∷◌, ◌++◌, option_map, refl}
 use Rattle.std.specs.List.{list_any}
 use Rattle.std.proofs.Common.{◌≢◌, inl, inr, arith, sym, ap, subst, ◌∙◌}
-use Rattle.std.proofs.lemmas.Bool.Decides.{nat_tests}
 use Rattle.scasp_search_constraints.specs.declared.assuming.step.SearchErr.{SearchErr}
 use Rattle.scasp_search_constraints.specs.declared.assuming.step.SearchErr.TheVariants as errors
 use Rattle.scasp_cert.specs.Certificate.{Certificate, certificate_of}
@@ -10,13 +9,15 @@ use Rattle.scasp_cert.specs.declared.certificate.Cert.{Cert}
 use Rattle.scasp_search_ends.specs.Ends.Ends.{Ends}
 use Rattle.scasp_hint.specs.Finding.{overflows_in}
 use Rattle.scasp_hint.specs.Satisfying.{sat}
-use Rattle.scasp_written.proofs.WrittenLemmas.LaterLemmas.{allows-later, tells-later}
-use Rattle.scasp_written.proofs.WrittenLemmas.ReachedLemmas.{allows-asked, allows-sample, reached-both, reached-step, tells-answer, tells-end, tells-spent}
+use Rattle.scasp_search_walk.proofs.LaterLemmas.{allows-later, tells-later}
+use Rattle.scasp_search_walk.proofs.ReachedLemmas.{allows-asked, allows-sample, reached-step, tells-answer, tells-end}
+use Rattle.scasp_search_walk.proofs.SliceLemmas.{room}
+use Rattle.scasp_search_walk.specs.Walks.{Allows, BeginsWithCall, Reached, Tells}
 use Rattle.scasp_written.specs.Written.Inside.Goals.{Finishes, Paid}
-use Rattle.scasp_written.specs.Written.Inside.Reached.{BeginsWithCall, Comes, IsLower, Meets, Passes, PutsBack, Reached}
+use Rattle.scasp_written.specs.Written.Inside.Reached.{Comes, IsLower, Meets, Passes, PutsBack}
 use Rattle.scasp_written.specs.Written.Inside.Stacks.{states_of}
 use Rattle.scasp_written.specs.declared.written.stack.Waiting.{Waiting}
-use Rattle.scasp_written.specs.Written.Rests.{Allows, Tells, machine, problem_in}
+use Rattle.scasp_written.specs.Written.Rests.{machine, problem_in}
 use Rattle.scasp_written.specs.declared.written.free.Ahead.{Ahead}
 use Rattle.scasp_written.specs.declared.written.free.Ahead.TheVariants as ahead
 use Rattle.scasp_written.specs.declared.written.goal.Goal.{Goal}
@@ -34,7 +35,7 @@ not-so b t f = let wrong : true ≡ false = sym t ∙ f in absurd (cc wrong)
 abbrev pub of : Goal → Machine State Certificate
 of g = machine (problem_in g) g.queried
 
-left-answers : (g : Goal) (s : State) (o : Option (Option Certificate)) → s.work ≡ [] → answer_at (problem_in g) s g.queried [] ≡ o → (of g).answer s ≡ o
+pub left-answers : (g : Goal) (s : State) (o : Option (Option Certificate)) → s.work ≡ [] → answer_at (problem_in g) s g.queried [] ≡ o → (of g).answer s ≡ o
 left-answers g s o e h = ap (answer_at (problem_in g) s g.queried) e ∙ h
 
 left-free : (g : Goal) (s : State) (after budget : ℕ) → s.work ≡ [] → ((of g).pays s && nat_eq after budget) ≡ false
@@ -43,14 +44,14 @@ left-free g s after budget e = ap (λ work. pays_for s work && nat_eq after budg
 abbrev overflow_if : Bool → Option (Option Certificate)
 overflow_if b = if b then Some None else None
 
-working : (g : Goal) (s : State) → s.work ≢ [] → close_overflows s s.work ≡ false → (of g).answer s ≡ None
+pub working : (g : Goal) (s : State) → s.work ≢ [] → close_overflows s s.work ≡ false → (of g).answer s ≡ None
 working g s h o = by s.work refl
   where
     by : (work : List Task) → s.work ≡ work → answer_at (problem_in g) s g.queried work ≡ None
     by [] e = absurd (h e)
     by (t ∷ ts) e = ap overflow_if (ap (close_overflows s) (sym e) ∙ o)
 
-closing : (g : Goal) (s : State) → close_overflows s s.work ≡ true → (of g).answer s ≡ Some None
+pub closing : (g : Goal) (s : State) → close_overflows s s.work ≡ true → (of g).answer s ≡ Some None
 closing g s o = by s.work refl
   where
     by : (work : List Task) → s.work ≡ work → answer_at (problem_in g) s g.queried work ≡ Some None
@@ -115,6 +116,16 @@ free-overflow g budget calls s old rest new errors.Overflow r h f o =
         let there : asked_by (problem_in g) s g.queried s.work ≡ (step g.program sat s).asked = ap (asked_by (problem_in g) s g.queried) k in
         ap (list_any overflows_in) there ∙ o refl
 
+-- what a step asks is asked by its state
+pub asks-overflow : (g : Goal) (s : State) (work : List Task) → s.work ≡ work → list_any overflows_in (step g.program sat s).asked ≡ true
+    → list_any overflows_in (asked_by (problem_in g) s g.queried s.work) ≡ true
+asks-overflow g s [] e h =
+    let none : false ≡ true = sym (ap (λ work. list_any overflows_in (step_at g.program sat s work).asked) e) ∙ h in
+    absurd (cc none)
+asks-overflow g s (t ∷ ts) e h =
+    let there : asked_by (problem_in g) s g.queried s.work ≡ (step g.program sat s).asked = ap (asked_by (problem_in g) s g.queried) e in
+    ap (list_any overflows_in) there ∙ h
+
 -- a state that costs a call
 pub meets-call : (g : Goal) (budget calls : ℕ) (s : State) (old rest new : List State) → Reached (of g) budget old calls (s ∷ rest) calls → s.work ≢ []
     → close_overflows s s.work ≡ false → pays s ≡ true → new ≡ s ∷ rest → Meets (of g) budget calls old new ahead.Pays
@@ -160,22 +171,6 @@ passed-comes m budget calls old new end errors.Overflow p = p
 passed-comes m budget calls old new end errors.Memory p = tt
 
 -- ---- steps that cost a call
-
--- the budget is spent
-pub spent-first : (m : Machine State Certificate) (budget calls after : ℕ) (old new : List State) → Reached m budget old calls new after → BeginsWithCall m new → after ≡ budget
-    → Tells m budget old calls spent after new
-spent-first m budget calls after old [] r b e = absurd b
-spent-first m budget calls after old (s ∷ rest) r b e = tells-spent m budget calls after s old rest r b.0 (over (m.pays s) b.1)
-  where
-    over : (p : Bool) → p ≡ true → (p && nat_eq after budget) ≡ true
-    over p h = let f : nat_eq after budget ≡ true = grind (arith, nat_tests, e) in rw h f
-
-room : (m : Machine State Certificate) (budget after : ℕ) (s : State) → after ≢ budget → (m.pays s && nat_eq after budget) ≡ false
-room m budget after s h = by (m.pays s)
-  where
-    by : (p : Bool) → (p && nat_eq after budget) ≡ false
-    by true = grind (arith, nat_tests, h)
-    by false = refl
 
 pub paid-reached : (m : Machine State Certificate) (budget calls after : ℕ) (old between new : List State) → Reached m budget old calls between after → BeginsWithCall m between → after ≢ budget
     → Paid m between new (Ok record {}) → Reached m budget old calls new (after + 1)

@@ -2,7 +2,8 @@
 ghost use Rattle.std.specs.Prelude.{◌≡◌, ◌+◌, ◌∷◌, [], ℕ, List, option_map};
 ghost use Rattle.scasp_search_ends.specs.Ends.Ends.{Ends};
 ghost use Rattle.scasp_written.specs.Written.Inside.Heights.{height, total};
-ghost use Rattle.scasp_written.specs.Written.Inside.Reached.{Comes, IsLower, Passes, PutsBack, Reached};
+ghost use Rattle.scasp_search_walk.specs.Walks.{Reached};
+ghost use Rattle.scasp_written.specs.Written.Inside.Reached.{Comes, IsLower, Passes, PutsBack};
 ghost use Rattle.scasp_written.specs.Written.Inside.Stacks.{states_of};
 ghost use Rattle.scasp_written.specs.Written.Rests.{machine, problem_in};
 ghost use Rattle.scasp_search_rules.specs.declared.states.state.State.{State as ThisState};
@@ -28,8 +29,12 @@ pub(crate) enum Ahead {
     Ended,
 }
 
-/// The answer that the state, which has nothing left to do, is.
-fn answer(alloc: Global, goal: &Goal, state: &State) -> Result<Option<Cert>, SearchErr>
+/// The answer that the state, which has nothing left to do, is; none where two of its literals may be one.
+///
+/// # Errors
+///
+/// Overflow where the sample of the answer overflows, or a list that is asked about its literals; want of memory.
+pub fn answer(alloc: Global, goal: &Goal, state: &State) -> Result<Option<Cert>, SearchErr>
     ensures { Ends result (answer_at (problem_in goal.now) state.now goal.now.queried []) (asked_by (problem_in goal.now) state.now goal.now.queried []) }
 {
     let about = About {
