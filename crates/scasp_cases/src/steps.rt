@@ -150,7 +150,11 @@ fn lines(world: &mut World, rest: &[&str]) -> Result<(), Stop> {
     let [number] = rest else {
         return Err(Stop::NoStep);
     };
-    let found = world.printed.as_slice().iter().filter(|byte| **byte == b'\n');
+    let found = world
+        .printed
+        .as_slice()
+        .iter()
+        .filter(|byte| **byte == b'\n');
     expect(number_of(number)? == found.count() as u64)
 }
 

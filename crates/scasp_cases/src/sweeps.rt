@@ -27,7 +27,11 @@ fn is_whole(
     world.carry_out(alloc, words, device)?;
     let part = world.printed.as_slice();
     let whole = part.len() == text.len();
-    let wanted = if whole { status } else { name_of(Status::Write) };
+    let wanted = if whole {
+        status
+    } else {
+        name_of(Status::Write)
+    };
     expect(is_part(part, text, device.chunk, device.failing_write))?;
     expect(name_of(world.status) == wanted)?;
     Ok(whole)
