@@ -2,11 +2,9 @@
 use scasp_list::Memory;
 use scasp_print_words::{put, put_number};
 
-/// How a piece is repeated.
+/// How a piece that is repeated changes.
 #[derive(Clone, Copy)]
 enum Repeat {
-    /// The same again.
-    Same,
     /// Each `@` in it is the number of the time, from 1.
     Numbered,
     /// Each time behind one blank more, from one.
@@ -20,11 +18,30 @@ struct Piece<'a> {
     end: &'static str,
 }
 
-fn put_times(text: &mut Vec<u8>, piece: &str, times: u64) -> Result<(), Memory> {
+/// A blank.
+const BLANK: Piece = Piece { text: " ", end: "" };
+
+/// How many times a piece stands in a block, by which very many are put.
+const BLOCK: u64 = 1_024;
+
+fn put_each(text: &mut Vec<u8>, piece: Piece, times: u64) -> Result<(), Memory> {
     for _ in 0..times {
-        put(text, piece)?;
+        put(text, piece.text)?;
+        put(text, piece.end)?;
     }
     Ok(())
+}
+
+/// Puts the piece so many times, a block of them at once.
+fn put_times(text: &mut Vec<u8>, piece: Piece, times: u64) -> Result<(), Memory> {
+    let mut block = Vec::new(*text.allocator());
+    if times >= BLOCK {
+        put_each(&mut block, piece, BLOCK)?;
+    }
+    for _ in 0..times / BLOCK {
+        text.extend_from_slice(block.as_slice())?;
+    }
+    put_each(text, piece, times % BLOCK)
 }
 
 fn put_numbered(text: &mut Vec<u8>, piece: &str, number: u64) -> Result<(), Memory> {
@@ -41,16 +58,16 @@ fn put_numbered(text: &mut Vec<u8>, piece: &str, number: u64) -> Result<(), Memo
 /// Puts the piece for the time of this number.
 fn put_once(text: &mut Vec<u8>, piece: Piece, repeat: Repeat, number: u64) -> Result<(), Memory> {
     match repeat {
-        Repeat::Same => put(text, piece.text)?,
         Repeat::Numbered => put_numbered(text, piece.text, number)?,
         Repeat::Stairs => {
-            put_times(text, " ", number)?;
+            put_times(text, BLANK, number)?;
             put(text, piece.text)?;
         }
     }
     put(text, piece.end)
 }
 
+/// Puts the piece for each of so many times.
 fn put_repeated(
     text: &mut Vec<u8>,
     piece: Piece,
@@ -79,9 +96,23 @@ fn counted<'a>(line: &'a str, mark: char, end: &'static str) -> Option<(u64, Pie
     Some((times, Piece { text, end }))
 }
 
-/// Puts the piece behind the number of its times; whether there is one.
-fn put_counted(text: &mut Vec<u8>, line: &str, repeat: Repeat) -> Result<bool, Memory> {
-    let Some((times, piece)) = counted(line, '|', "\n").or(counted(line, ':', "")) else {
+/// The number of times, and the piece behind it.
+fn times_of(line: &str) -> Option<(u64, Piece<'_>)> {
+    counted(line, '|', "\n").or(counted(line, ':', ""))
+}
+
+/// Puts the piece as often as stands before it; whether there is one.
+fn put_same(text: &mut Vec<u8>, line: &str) -> Result<bool, Memory> {
+    let Some((times, piece)) = times_of(line) else {
+        return Ok(false);
+    };
+    put_times(text, piece, times)?;
+    Ok(true)
+}
+
+/// Puts the piece, in this way, as often as stands before it; whether there is one.
+fn put_changing(text: &mut Vec<u8>, line: &str, repeat: Repeat) -> Result<bool, Memory> {
+    let Some((times, piece)) = times_of(line) else {
         return Ok(false);
     };
     put_repeated(text, piece, repeat, times)?;
@@ -100,13 +131,13 @@ fn put_byte(text: &mut Vec<u8>, number: &str) -> Result<bool, Memory> {
 /// Puts the piece that the line writes at the end; whether it writes one.
 pub fn put_piece(text: &mut Vec<u8>, line: &str) -> Result<bool, Memory> {
     if let Some(piece) = piece_of(line) {
-        put_repeated(text, piece, Repeat::Same, 1)?;
+        put_each(text, piece, 1)?;
         return Ok(true);
     }
     match line.split_at_checked(1) {
-        Some(("*", behind)) => put_counted(text, behind, Repeat::Same),
-        Some(("#", behind)) => put_counted(text, behind, Repeat::Numbered),
-        Some(("^", behind)) => put_counted(text, behind, Repeat::Stairs),
+        Some(("*", behind)) => put_same(text, behind),
+        Some(("#", behind)) => put_changing(text, behind, Repeat::Numbered),
+        Some(("^", behind)) => put_changing(text, behind, Repeat::Stairs),
         Some(("&", behind)) => put_byte(text, behind),
         Some(_) | None => Ok(false),
     }
