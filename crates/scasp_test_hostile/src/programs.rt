@@ -1,7 +1,7 @@
-//! Programs with long lists, and with very many clauses.
+//! Programs with long lists.
+use crate::commands::{Command, prints};
 use crate::texts::{EMPTY, Pieces, text_of};
 use scasp_io::Memory;
-use scasp_test_worked::{Command, SOUND, prints};
 use scasp_top::Status;
 use std::alloc::Global;
 use std::process::Abort;
@@ -35,16 +35,7 @@ const LONG_LIST: Pieces = Pieces {
     ..LIST
 };
 
-/// A denial about a sum of 300,001 variables.
-const SUM: Pieces = Pieces {
-    before: ":- _",
-    piece: "+_",
-    times: 300_000,
-    behind: " #> 0.",
-    ..EMPTY
-};
-
-static CASES: [Case; 8] = [
+static CASES: [Case; 4] = [
     Case {
         words: &["run", "p"],
         program: LIST,
@@ -69,48 +60,6 @@ static CASES: [Case; 8] = [
         printed: "",
         status: Status::Memory,
     },
-    // The 10,001st clause begins behind 10,000 of eight bytes.
-    Case {
-        words: &["run", "p"],
-        program: Pieces {
-            piece: "p :- q.\n",
-            times: 30_000,
-            behind: "?- p.",
-            ..EMPTY
-        },
-        printed: "limit program 80000 clauses\n",
-        status: Status::Limit,
-    },
-    // A known variable behind very many new ones: the 33rd argument.
-    Case {
-        words: &["run", "p"],
-        program: Pieces {
-            before: "p(_",
-            piece: ",_",
-            other: ",X",
-            times: 200_000,
-            behind: ").",
-            ..EMPTY
-        },
-        printed: "limit program 66 arity\n",
-        status: Status::Limit,
-    },
-    // A sum of very many variables; the same with a fault behind it, so the 65th variable.
-    Case {
-        words: &["run", "p"],
-        program: SUM,
-        printed: "limit program 3 items\n",
-        status: Status::Limit,
-    },
-    Case {
-        words: &["run", "p"],
-        program: Pieces {
-            behind: " p.",
-            ..SUM
-        },
-        printed: "limit program 131 variables\n",
-        status: Status::Limit,
-    },
 ];
 
 /// Whether the command prints what it should, and ends so.
@@ -121,7 +70,7 @@ fn is_told(alloc: Global, case: &Case) -> Result<bool, Memory> {
         program: program.as_str(),
         answers: ANSWERS,
     };
-    prints(alloc, &command, SOUND, case.printed, case.status)
+    prints(alloc, &command, case.printed, case.status)
 }
 
 fn check_cases(rt: &impl Abort, alloc: Global) -> Result<(), Memory> {

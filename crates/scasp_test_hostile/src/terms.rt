@@ -1,7 +1,7 @@
 //! Answers with terms of great depth.
+use crate::commands::{Command, prints};
 use crate::texts::{EMPTY, Pieces, text_of};
 use scasp_io::Memory;
-use scasp_test_worked::{Command, SOUND, prints};
 use scasp_top::Status;
 use std::alloc::Global;
 use std::process::Abort;
@@ -45,7 +45,7 @@ fn is_told(alloc: Global, depth: u64, printed: &str, status: Status) -> Result<b
         program: "p(X). ?- p(Y).",
         answers: text.as_str(),
     };
-    prints(alloc, &command, SOUND, printed, status)
+    prints(alloc, &command, printed, status)
 }
 
 fn check_terms(rt: &impl Abort, alloc: Global) -> Result<(), Memory> {

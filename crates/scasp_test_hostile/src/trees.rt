@@ -1,6 +1,6 @@
 //! Answer files with trees of great depth.
+use crate::commands::{Command, prints};
 use scasp_io::Memory;
-use scasp_test_worked::{Command, SOUND, prints};
 use scasp_top::Status;
 use std::alloc::Global;
 use std::process::Abort;
@@ -43,7 +43,7 @@ fn is_told(alloc: Global, lines: u64, printed: &str, status: Status) -> Result<b
         program: "p :- p. ?- p.",
         answers: text.as_str(),
     };
-    prints(alloc, &command, SOUND, printed, status)
+    prints(alloc, &command, printed, status)
 }
 
 fn check_trees(rt: &impl Abort, alloc: Global) -> Result<(), Memory> {

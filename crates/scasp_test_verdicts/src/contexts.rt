@@ -5,7 +5,7 @@ use crate::samples::{BOTH, CLOSED_ONLY, FACT, FORALL, SHAPE_OR_VALUE, THROUGH_NE
 use crate::trees::certificate;
 use crate::written::Told::{Equal, HasNotShape, IsNot};
 use crate::written::Written::{A, B, F, V};
-use crate::written::{Change, Sample, Told};
+use crate::written::{Sample, Told};
 use scasp_cert::{flat, lines, skeleton};
 use scasp_checker::{CheckErr, Reason, Refusal, check};
 use scasp_checker_answer::same_con;
@@ -112,7 +112,7 @@ fn context_is(
     expected: Option<&[Told]>,
 ) -> Result<bool, Memory> {
     let program = program(alloc, sample.text)?;
-    let cert = certificate(alloc, sample, Change::Nothing)?;
+    let cert = certificate(alloc, sample)?;
     same_list(alloc, context(alloc, &program, &cert, line)?, expected)
 }
 
@@ -124,7 +124,7 @@ fn pair_is(
     expected: Option<&[Told]>,
 ) -> Result<bool, Memory> {
     let program = program(alloc, sample.text)?;
-    let cert = certificate(alloc, sample, Change::Nothing)?;
+    let cert = certificate(alloc, sample)?;
     same_list(
         alloc,
         pair(alloc, &program, &cert, first, second)?,
@@ -139,7 +139,7 @@ fn shown_apart(
     second: u64,
 ) -> Result<Result<(), ApartErr>, Memory> {
     let program = program(alloc, sample.text)?;
-    let cert = certificate(alloc, sample, Change::Nothing)?;
+    let cert = certificate(alloc, sample)?;
     Ok(apart(alloc, &program, &cert, first, second, &Hint::Terms))
 }
 
@@ -172,7 +172,7 @@ fn lines_are_shown_apart(rt: HostRuntime) -> Result<(), Fail> {
 
 /// How many lines the sample's certificate has, and whether it is flat.
 fn counted(alloc: Global, sample: &Sample) -> Result<(u64, bool), Memory> {
-    let cert = certificate(alloc, sample, Change::Nothing)?;
+    let cert = certificate(alloc, sample)?;
     Ok((lines(&cert)?, flat(&cert)?))
 }
 
@@ -187,7 +187,7 @@ fn lines_are_counted(rt: HostRuntime) -> Result<(), Fail> {
 /// What the checker says of the sample's skeleton, which has no steps.
 fn skeleton_is_refused(alloc: Global, sample: &Sample) -> Result<(u64, Option<CheckErr>), Memory> {
     let program = program(alloc, sample.text)?;
-    let cert = certificate(alloc, sample, Change::Nothing)?;
+    let cert = certificate(alloc, sample)?;
     let bare = skeleton(alloc, &cert)?;
     Ok((lines(&bare)?, check(alloc, &program, &bare).err()))
 }

@@ -1,7 +1,7 @@
 //! What is made of the tables: terms, constraints, atoms, programs.
 use crate::written::{Sum, Told, Tried, Written};
 use scasp_name::{Memory, NameId, Names};
-use scasp_num::{Rat, RatPair, RatPairs, Row, RowErr, Step, StepLists, Steps};
+use scasp_num::{Rat, RatPair, RatPairs, Row, RowErr, Step};
 use scasp_reader::read_program;
 use scasp_syntax::{Atom, Con, Cons, Hint, Program, Term, Terms};
 use scasp_test_samples::{Name, atom, one};
@@ -18,17 +18,6 @@ fn compound(alloc: Global, argument: Term) -> Result<Term, Memory> {
     Ok(Term::App(NameId::new(12), args))
 }
 
-/// A number that is too large, or none, is want of memory, which no table expects.
-fn ratio(above: i128, below: i128) -> Result<Term, Memory> {
-    if below == 0 {
-        return Err(Memory);
-    }
-    match Rat::new(above, below) {
-        Ok(rat) => Ok(Term::Num(rat)),
-        Err(_) => Err(Memory),
-    }
-}
-
 fn term(alloc: Global, written: Written) -> Result<Term, Memory> {
     match written {
         Written::V(x) => Ok(Term::Var(x)),
@@ -36,9 +25,6 @@ fn term(alloc: Global, written: Written) -> Result<Term, Memory> {
         Written::B => Ok(constant(alloc, 10)),
         Written::C => Ok(constant(alloc, 11)),
         Written::F(x) => compound(alloc, Term::Var(x)),
-        Written::FofA => compound(alloc, constant(alloc, 9)),
-        Written::N(value) => ratio(value, 1),
-        Written::Ratio(above, below) => ratio(above, below),
     }
 }
 
@@ -72,12 +58,7 @@ fn place_of(written: Written) -> u64 {
     match written {
         Written::A => 9,
         Written::B => 10,
-        Written::C
-        | Written::V(_)
-        | Written::F(_)
-        | Written::FofA
-        | Written::N(_)
-        | Written::Ratio(_, _) => 11,
+        Written::C | Written::V(_) | Written::F(_) => 11,
     }
 }
 
@@ -86,7 +67,6 @@ pub fn con(alloc: Global, told: Told) -> Result<Con, Memory> {
         Told::Equal(left, right) => Ok(Con::Eq(term(alloc, left)?, term(alloc, right)?)),
         Told::IsNot(x, name) => Ok(Con::NotShape(x, NameId::new(place_of(name)), 0)),
         Told::HasNotShape(x) => Ok(Con::NotShape(x, NameId::new(12), 1)),
-        Told::Differ(left, right) => Ok(Con::Neq(term(alloc, left)?, term(alloc, right)?)),
         Told::Number(of) => Ok(Con::Num(term(alloc, of)?)),
         Told::NoNumber(of) => Ok(Con::NotNum(term(alloc, of)?)),
         Told::Compares(sum) => Ok(Con::Row(row(alloc, sum)?)),
@@ -101,27 +81,10 @@ pub fn cons(alloc: Global, told: &[Told]) -> Result<Cons, Memory> {
     Ok(all)
 }
 
-fn steps(alloc: Global, written: &[Step]) -> Result<Steps, Memory> {
-    let mut all = Steps::new(alloc);
-    for step in written {
-        all.push(*step)?;
-    }
-    Ok(all)
-}
-
-fn step_lists(alloc: Global, written: &[&[Step]]) -> Result<StepLists, Memory> {
-    let mut all = StepLists::new(alloc);
-    for list in written {
-        all.push(steps(alloc, list)?)?;
-    }
-    Ok(all)
-}
-
 pub fn hint(alloc: Global, tried: Tried) -> Result<Hint, Memory> {
     match tried {
         Tried::ByTerms => Ok(Hint::Terms),
         Tried::ByStep(a, p, b, q) => Ok(Hint::Rows(one(alloc, Step { a, p, b, q })?)),
-        Tried::BySides(number, lists) => Ok(Hint::Same(number, step_lists(alloc, lists)?)),
     }
 }
 

@@ -1,4 +1,4 @@
-//! Tests of the checker: worked certificates of small programs, and for each reason ones that are wrong in that one thing.
+//! Tests of the checker's walks: what stands at each line of worked certificates, and what shows lines apart.
 //! The program itself does nothing.
 #![tactic(auto)]
 
@@ -9,18 +9,12 @@ mod made;
 #[cfg(test)]
 mod number_samples;
 #[cfg(test)]
-mod ranges;
-#[cfg(test)]
 mod samples;
 #[cfg(test)]
 mod standing;
 #[cfg(test)]
 mod trees;
 #[cfg(test)]
-mod worked;
-#[cfg(test)]
 mod written;
-#[cfg(test)]
-mod wrong;
 
 fn main(_rt: HostRuntime) {}

@@ -1,19 +1,17 @@
 //! Small programs with their certificates, as the rules of the checker give them.
-use crate::written::Line::{Check, Head, Leaf, Loops, Neg, Pos, Rule, Seen, Split, Test, Void};
+use crate::written::Line::{Leaf, Loops, Neg, Pos, Rule, Seen, Split, Test, Void};
 use crate::written::Sample;
-use crate::written::Told::{Equal, HasNotShape, IsNot, Number};
+use crate::written::Told::{Equal, HasNotShape, IsNot};
 use crate::written::Tried::ByTerms;
 use crate::written::Written::{A, B, C, F, V};
 use scasp_test_samples::{P, P_OF_C, Q, Q_OF_C, R, R_OF_C, S, S_OF_C};
 
 pub const NOTHING: Sample = Sample {
     text: "",
-    number: 1,
     terms: &[],
     given: &[],
     sample: &[],
     lines: &[],
-    clashes: &[],
     map: &[],
 };
 
@@ -22,50 +20,6 @@ pub const FACT: Sample = Sample {
     text: "p. ?- p.",
     lines: &[(0, Pos(P, &[], 1, &[]))],
     map: &[(P, 0, true)],
-    ..NOTHING
-};
-
-/// A rule that rests on itself alone.
-pub const ITSELF: Sample = Sample {
-    text: "p :- p. ?- not p.",
-    lines: &[
-        (0, Neg(P, &[])),
-        (1, Rule(1)),
-        (2, Leaf(1)),
-        (3, Loops(false, P, 1)),
-    ],
-    ..NOTHING
-};
-
-/// The same, asked for what does not hold.
-pub const POSITIVE_LOOP: Sample = Sample {
-    text: "p :- p. ?- p.",
-    lines: &[(0, Pos(P, &[], 1, &[])), (1, Loops(true, P, 1))],
-    ..ITSELF
-};
-
-/// A positive loop over two rules.
-pub const LONG_LOOP: Sample = Sample {
-    text: "p :- q. q :- p. ?- p.",
-    lines: &[
-        (0, Pos(P, &[], 1, &[])),
-        (1, Pos(Q, &[], 2, &[])),
-        (2, Loops(true, P, 1)),
-    ],
-    ..NOTHING
-};
-
-/// Two rules that exclude each other.
-pub const EVEN_LOOP: Sample = Sample {
-    text: "p :- not q. q :- not p. ?- p.",
-    lines: &[
-        (0, Pos(P, &[], 1, &[])),
-        (1, Neg(Q, &[])),
-        (2, Rule(2)),
-        (3, Leaf(1)),
-        (4, Loops(true, P, 1)),
-    ],
-    map: &[(P, 0, true), (Q, 0, false)],
     ..NOTHING
 };
 
@@ -83,34 +37,6 @@ pub const THROUGH_NEGATION: Sample = Sample {
         (7, Loops(false, P, 1)),
     ],
     map: &[(P, 0, true), (Q, 0, false), (R, 0, true)],
-    ..NOTHING
-};
-
-/// The same program with ?- p: the line of r is on a loop to p that crosses no negation from r to it.
-pub const NOT_FIRM: Sample = Sample {
-    text: "p :- not q, r. q :- not r. r :- p. ?- p.",
-    lines: &[
-        (0, Pos(P, &[], 1, &[])),
-        (1, Neg(Q, &[])),
-        (2, Rule(2)),
-        (3, Leaf(1)),
-        (4, Pos(R, &[], 3, &[])),
-        (5, Loops(true, P, 1)),
-        (1, Seen(true, R, 5)),
-    ],
-    ..THROUGH_NEGATION
-};
-
-/// A literal that is shown before.
-pub const SEEN_POSITIVE: Sample = Sample {
-    text: "p :- q, r. r :- q. q. ?- p.",
-    lines: &[
-        (0, Pos(P, &[], 1, &[])),
-        (1, Pos(Q, &[], 3, &[])),
-        (1, Pos(R, &[], 2, &[])),
-        (2, Seen(true, Q, 2)),
-    ],
-    map: &[(P, 2, true), (Q, 0, true), (R, 1, true)],
     ..NOTHING
 };
 
@@ -185,58 +111,6 @@ pub const CLOSED_ONLY: Sample = Sample {
     ..NOTHING
 };
 
-/// A split by a shape with a part.
-pub const SHAPES: Sample = Sample {
-    text: "p :- q(X), not r(X). q(f(Y)). r(f(Y)). ?- not p.",
-    lines: &[
-        (0, Neg(P, &[])),
-        (1, Rule(1)),
-        (2, Split(Equal(V(0), F(1)))),
-        (3, Leaf(2)),
-        (4, Pos(Q, &[F(1)], 2, &[V(1)])),
-        (4, Pos(R, &[F(1)], 3, &[V(1)])),
-        (3, Leaf(1)),
-        (4, Neg(Q, &[V(0)])),
-        (5, Rule(2)),
-        (6, Void(ByTerms)),
-    ],
-    map: &[(P, 1, true)],
-    ..NOTHING
-};
-
-/// The first rule is on an odd loop.
-pub const ODD_RULE: Sample = Sample {
-    text: "p :- not p. p. ?- p.",
-    lines: &[
-        (0, Pos(P, &[], 2, &[])),
-        (0, Check(1)),
-        (1, Leaf(1)),
-        (2, Seen(true, P, 1)),
-    ],
-    ..NOTHING
-};
-
-/// The first rule is not checked, so whether there is a model is not shown.
-pub const ODD_FACT: Sample = Sample {
-    text: "p :- not p. q. ?- q.",
-    lines: &[(0, Pos(Q, &[], 2, &[]))],
-    ..NOTHING
-};
-
-/// The first rule is checked, and its head holds.
-pub const HEAD: Sample = Sample {
-    text: "p :- q. q. ?- q.",
-    lines: &[
-        (0, Pos(Q, &[], 2, &[])),
-        (0, Check(1)),
-        (1, Head),
-        (2, Seen(true, Q, 1)),
-        (2, Pos(P, &[], 1, &[])),
-        (3, Seen(true, Q, 1)),
-    ],
-    ..NOTHING
-};
-
 /// On one side of the split p and its negation are both shown.
 pub const BOTH: Sample = Sample {
     text: "p :- not q. q :- not p. r :- p, X = c, q. ?- not r.",
@@ -261,24 +135,6 @@ pub const BOTH: Sample = Sample {
         (6, Leaf(1)),
         (7, Pos(Q, &[], 2, &[])),
         (8, Loops(false, P, 16)),
-    ],
-    ..NOTHING
-};
-
-/// The negation of r is shown on one side of a split and named on the other.
-pub const OTHER_SIDE: Sample = Sample {
-    text: "p :- q, s(X). q :- r. s(a). ?- not p.",
-    lines: &[
-        (0, Neg(P, &[])),
-        (1, Rule(1)),
-        (2, Leaf(1)),
-        (3, Neg(Q, &[])),
-        (4, Rule(2)),
-        (5, Split(Number(V(0)))),
-        (6, Leaf(1)),
-        (7, Neg(R, &[])),
-        (6, Leaf(1)),
-        (7, Seen(false, R, 8)),
     ],
     ..NOTHING
 };

@@ -6,7 +6,7 @@ use crate::samples::{CLOSED_ONLY, DEFAULT, FORALL};
 use crate::trees::certificate;
 use crate::written::Told::{Compares, Equal, IsNot, NoNumber, Number};
 use crate::written::Written::{A, B, F, V};
-use crate::written::{Change, Sample, Told, Written};
+use crate::written::{Sample, Told, Written};
 use scasp_cert::Cert;
 use scasp_checker_answer::same_con;
 use scasp_disjoint::context;
@@ -174,7 +174,7 @@ fn all_stand(
 
 fn sample_stands(alloc: Global, sample: &Sample, expected: &[Standing]) -> Result<bool, Memory> {
     let program = program(alloc, sample.text)?;
-    let cert = certificate(alloc, sample, Change::Nothing)?;
+    let cert = certificate(alloc, sample)?;
     all_stand(alloc, &program, &cert, expected)
 }
 

@@ -1,7 +1,7 @@
 //! Certificates from lines, made from the last line to the first: what stands below a line was put on a stack before.
 use crate::made::{applied, con, cons, hint, terms};
-use crate::written::{Change, Line, Lines, Sample, Told, Tried, Written};
-use scasp_cert::{Case, Cert, Check, Checks, Clash, Clashes, Cover, Covers, Node, Nodes};
+use crate::written::{Line, Lines, Sample, Told, Tried, Written};
+use scasp_cert::{Case, Cert, Check, Checks, Clashes, Cover, Covers, Node, Nodes};
 use scasp_name::Memory;
 use scasp_syntax::{Cons, Lit, PredMaps, Terms};
 use scasp_test_samples::{Name, map_of};
@@ -209,11 +209,6 @@ fn push_leaf(alloc: Global, stacks: &mut Stacks, depth: u64, item: u64) -> Resul
     push_case(stacks, depth, Case::Leaf { item, children })
 }
 
-fn push_head(alloc: Global, stacks: &mut Stacks, depth: u64) -> Result<(), Memory> {
-    let children = nodes_at(alloc, stacks, depth.saturating_add(1))?;
-    push_case(stacks, depth, Case::Head { children })
-}
-
 fn push_line(alloc: Global, stacks: &mut Stacks, depth: u64, line: Line) -> Result<(), Memory> {
     match line {
         Line::Pos(name, args, rule, listed) => {
@@ -228,41 +223,10 @@ fn push_line(alloc: Global, stacks: &mut Stacks, depth: u64, line: Line) -> Resu
         Line::Split(told) => push_split(alloc, stacks, depth, told),
         Line::Void(tried) => push_void(alloc, stacks, depth, tried),
         Line::Leaf(item) => push_leaf(alloc, stacks, depth, item),
-        Line::Head => push_head(alloc, stacks, depth),
     }
 }
 
-/// Whether the line is left out.
-fn is_left_out(change: Change, number: u64) -> bool {
-    match change {
-        Change::Nothing => false,
-        Change::Line(_, _) => false,
-        Change::Without(first, count) => first <= number && number - first < count,
-    }
-}
-
-/// What stands on the line.
-fn changed(change: Change, number: u64, line: Line) -> Line {
-    match change {
-        Change::Nothing => line,
-        Change::Line(other, new) => { if other == number { new } else { line } }
-        Change::Without(_, _) => line,
-    }
-}
-
-/// The lines as they are changed.
-fn changed_lines(alloc: Global, lines: Lines, change: Change) -> Result<Vec<(u64, Line)>, Memory> {
-    let mut all = Vec::new(alloc);
-    for (place, (depth, line)) in lines.iter().enumerate() {
-        let number = place as u64 + 1;
-        if !is_left_out(change, number) {
-            all.push((*depth, changed(change, number, *line)))?;
-        }
-    }
-    Ok(all)
-}
-
-fn stacked(alloc: Global, lines: &[(u64, Line)]) -> Result<Stacks, Memory> {
+fn stacked(alloc: Global, lines: Lines) -> Result<Stacks, Memory> {
     let mut stacks = Stacks {
         nodes: Vec::new(alloc),
         covers: Vec::new(alloc),
@@ -275,30 +239,12 @@ fn stacked(alloc: Global, lines: &[(u64, Line)]) -> Result<Stacks, Memory> {
     Ok(stacks)
 }
 
-fn clash(alloc: Global, first: u64, second: u64, tried: Tried) -> Result<Clash, Memory> {
-    let hint = hint(alloc, tried)?;
-    Ok(Clash {
-        first,
-        second,
-        hint,
-    })
-}
-
-fn clashes(alloc: Global, written: &[(u64, u64, Tried)]) -> Result<Clashes, Memory> {
-    let mut all = Clashes::new(alloc);
-    for (first, second, tried) in written {
-        all.push(clash(alloc, *first, *second, *tried)?)?;
-    }
-    Ok(all)
-}
-
-fn with_lines(alloc: Global, sample: &Sample, change: Change) -> Result<Cert, Memory> {
-    let lines = changed_lines(alloc, sample.lines, change)?;
-    let mut stacks = stacked(alloc, lines.as_slice())?;
+fn with_lines(alloc: Global, sample: &Sample) -> Result<Cert, Memory> {
+    let mut stacks = stacked(alloc, sample.lines)?;
     let trees = nodes_at(alloc, &mut stacks, 0)?;
     let checks = checks_of(alloc, &mut stacks)?;
     Ok(Cert {
-        query: sample.number,
+        query: 1,
         terms: Terms::new(alloc),
         given: Cons::new(alloc),
         sample: Terms::new(alloc),
@@ -309,18 +255,17 @@ fn with_lines(alloc: Global, sample: &Sample, change: Change) -> Result<Cert, Me
     })
 }
 
-fn with_terms(alloc: Global, sample: &Sample, change: Change) -> Result<Cert, Memory> {
-    let mut cert = with_lines(alloc, sample, change)?;
+fn with_terms(alloc: Global, sample: &Sample) -> Result<Cert, Memory> {
+    let mut cert = with_lines(alloc, sample)?;
     cert.terms = terms(alloc, sample.terms)?;
     cert.given = cons(alloc, sample.given)?;
     cert.sample = terms(alloc, sample.sample)?;
     Ok(cert)
 }
 
-/// The certificate of the sample, with this change of its lines.
-pub fn certificate(alloc: Global, sample: &Sample, change: Change) -> Result<Cert, Memory> {
-    let mut cert = with_terms(alloc, sample, change)?;
-    cert.clashes = clashes(alloc, sample.clashes)?;
+/// The certificate of the sample.
+pub fn certificate(alloc: Global, sample: &Sample) -> Result<Cert, Memory> {
+    let mut cert = with_terms(alloc, sample)?;
     cert.map = map_of(alloc, sample.map)?;
     Ok(cert)
 }

@@ -1,10 +1,8 @@
 //! What the tables of the tests write.
-use scasp_checker::Verdict;
-use scasp_checker_rules::Reason;
-use scasp_num::{Op, Step};
+use scasp_num::Op;
 use scasp_test_samples::Name;
 
-/// A variable, a constant, f of a variable, f of the constant a, a whole number, or a fraction.
+/// A variable, a constant, or f of a variable.
 #[derive(Clone, Copy)]
 pub enum Written {
     V(u64),
@@ -12,9 +10,6 @@ pub enum Written {
     B,
     C,
     F(u64),
-    FofA,
-    N(i128),
-    Ratio(i128, i128),
 }
 
 /// The sum of variables with their factors, and a constant, compared with 0.
@@ -29,19 +24,17 @@ pub enum Told {
     IsNot(u64, Written),
     /// The variable is no f of one argument.
     HasNotShape(u64),
-    Differ(Written, Written),
     Number(Written),
     NoNumber(Written),
     Compares(Sum),
 }
 
-/// A hint by terms, by one step, or by the sides of the disequation of this number, each with its steps.
+/// A hint by terms, or by one step.
 #[derive(Clone, Copy)]
 pub enum Tried {
     ByTerms,
     /// The multiplier and the number of its first row, and those of its second one.
     ByStep(i128, u64, i128, u64),
-    BySides(u64, &'static [&'static [Step]]),
 }
 
 /// A line of a block.
@@ -57,33 +50,19 @@ pub enum Line {
     Split(Told),
     Void(Tried),
     Leaf(u64),
-    Head,
 }
 
 /// The lines of a block, each with how deep it stands.
 pub type Lines = &'static [(u64, Line)];
 
-/// A change of one line, by its number from 1, or of the lines from one on, so many of which are left out.
-#[derive(Clone, Copy)]
-pub enum Change {
-    Nothing,
-    Line(u64, Line),
-    Without(u64, u64),
-}
-
-/// The text of a program with one query, and a certificate: the number of a query, what its variables stand for, what is given, the
-/// sample, the lines with those of the checks behind them, clash lines with their hints, and the map.
+/// The text of a program with one query, and a certificate: what its variables stand for, what is given, the sample, the lines with
+/// those of the checks behind them, and the map.
 #[derive(Clone, Copy)]
 pub struct Sample {
     pub text: &'static str,
-    pub number: u64,
     pub terms: &'static [Written],
     pub given: &'static [Told],
     pub sample: &'static [Written],
     pub lines: Lines,
-    pub clashes: &'static [(u64, u64, Tried)],
     pub map: &'static [(Name, u64, bool)],
 }
-
-/// The verdict, or the line of the first fault and its reason.
-pub type Outcome = Result<Verdict, (u64, Reason)>;
