@@ -15,3 +15,9 @@ pub use entering::{covered, head_args, push_shows, rules_of, vars_of_clause};
 pub use marks::leave_literal;
 pub use raising::Raised;
 pub use tests::show_test;
+
+// What a state that is changed in place is made of.
+pub use earlier::{opposite_constraints, seen};
+pub use entering::with_literal;
+pub use marks::{first_number, marked_by};
+pub use repeated::nearest;

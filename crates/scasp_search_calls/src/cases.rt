@@ -2,6 +2,7 @@
 
 mod beginning;
 mod closing;
+mod costs;
 mod kept;
 mod leaves;
 mod lists;
@@ -11,3 +12,10 @@ pub use closing::close_case;
 pub use kept::push_lines;
 pub use leaves::head_call;
 pub use lists::{split_first, with_first};
+
+// What a state that is changed in place is made of.
+pub use beginning::with_cases;
+pub use closing::taken_up;
+pub use costs::{pays, waits};
+pub use kept::ended_by;
+pub use leaves::failing_at;

@@ -11,6 +11,7 @@ mod step;
 pub use assumptions::{asked_list, assume, assume_all, is_general, status};
 pub use contexts::{among, is_constrained};
 pub use covers::split_at;
+pub use numbers::is_number_by;
 pub use partings::parted;
 pub use splits::split;
 pub use step::{SearchErr, States, goes_where, passes};

@@ -6,3 +6,6 @@ mod equate;
 
 pub use assuming::{SearchErr, States, among, assume, assume_all, is_general, passes};
 pub use equate::{differ_terms, differ_value, equate_terms, equations, same_shape, same_value};
+
+// What a state that is changed in place is made of.
+pub use assuming::{asked_list, is_constrained, is_number_by, split_at, status};

@@ -1,7 +1,6 @@
 //! What comes after each state of the written search, and what it costs.
 
-mod costs;
 mod steps;
 
-pub use costs::pays;
+pub use scasp_search_calls::pays;
 pub use steps::successors;

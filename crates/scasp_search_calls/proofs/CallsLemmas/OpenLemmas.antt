@@ -4,7 +4,8 @@ use Rattle.std.proofs.lemmas.List.{reverse-append}
 use Rattle.scasp_search_rules.specs.declared.states.state.Literal.{Literal}
 use Rattle.scasp_search_rules.specs.declared.states.state.State.{State}
 use Rattle.scasp_search_rules.specs.Successors.Calls.{left, marked, moved}
-use Rattle.scasp_search_calls.specs.Calls.Inside.Open.{done_by, first_number, marked_by, moved_to, open_among}
+use Rattle.scasp_search_state.specs.Words.{first_number}
+use Rattle.scasp_search_calls.specs.Calls.Inside.Open.{done_by, marked_by, moved_to, open_among}
 
 pub open_pushed : (ls : List Literal) (a : Literal) → open_among (ls ++ a ∷ []) ≡ (if a.is_done then open_among ls else a ∷ open_among ls)
 open_pushed ls a = rw (reverse-append ls (a ∷ [])) (by a.is_done refl)

@@ -16,7 +16,7 @@ use Rattle.scasp_search_rules.specs.Successors.Steps.{Step}
 use Rattle.scasp_syntax.specs.declared.program.Program.{Program}
 use Rattle.scasp_unify.specs.declared.bindings.Binding.{Binding}
 
-abbrev with_covers : State → List Cover → State
+abbrev pub with_covers : State → List Cover → State
 with_covers s cs = record s { covers = cs }
 
 line_inside : (s : State) (cs : List Cover) (l : Line) → line_under (with_covers s cs) l ≡ line_under s l
@@ -43,11 +43,11 @@ literals_inside : (s : State) (cs : List Cover) (us : List ℕ) (lits : List Lit
 literals_inside s cs us [] = refl
 literals_inside s cs us (a ∷ rest) = ap (λ (xs : List Literal). kept_literal s us a ∷ xs) (literals_inside s cs us rest)
 
-replaced_inside : (s : State) (cs : List Cover) (o : Option Binding) → replaced_now (with_covers s cs) o ≡ replaced_now s o
+pub replaced_inside : (s : State) (cs : List Cover) (o : Option Binding) → replaced_now (with_covers s cs) o ≡ replaced_now s o
 replaced_inside s cs None = refl
 replaced_inside s cs (Some b) = refl
 
-ended_inside : (s : State) (c : Cover) (but : List ℕ)
+pub ended_inside : (s : State) (c : Cover) (but : List ℕ)
     → with_covers (ended_case (with_covers s (c ∷ s.covers)) c but) s.covers ≡ ended_by s c.universals c.before but
 ended_inside s c but =
     ap (λ (lits : List Literal). record s {

@@ -1,6 +1,6 @@
 //! Earlier literals: one that is seen again, and those of the other sign.
 ghost use Rattle.std.specs.Prelude.{◌≡◌, IfOk, filter, map};
-ghost use Rattle.scasp_search_calls.specs.Calls.Inside.Open.{first_number};
+ghost use Rattle.scasp_search_state.specs.Words.{first_number};
 ghost use Rattle.scasp_search_rules.specs.Successors.Calls.{can_be_seen, differing, is_firm, is_free, is_in_scope, is_opposite, lit_under, open_cases, opposites};
 ghost use Rattle.scasp_search_rules.specs.Successors.Reading.{among};
 ghost use Rattle.scasp_syntax.specs.Tm.{app, cons, items, nil};
@@ -69,7 +69,7 @@ fn can_be_seen(
 }
 
 /// The number of the earliest literal that the call sees again.
-pub(crate) fn seen(alloc: Global, state: &State, lit: &Lit) -> Result<Option<u64>, Memory>
+pub fn seen(alloc: Global, state: &State, lit: &Lit) -> Result<Option<u64>, Memory>
     ensures { IfOk result (λ found. found ≡ first_number (filter (can_be_seen state.now lit.now) state.now.literals)) }
 {
     let args = read_terms(alloc, &lit.atom.args, state.bound.as_slice())?;
@@ -158,7 +158,7 @@ fn all_differing(
 }
 
 /// That the arguments differ from those of each earlier literal of the other sign.
-pub(crate) fn opposite_constraints(alloc: Global, state: &State, lit: &Lit) -> Result<Cons, Memory>
+pub fn opposite_constraints(alloc: Global, state: &State, lit: &Lit) -> Result<Cons, Memory>
     ensures { IfOk result (λ made. made ≡ map (differing lit.now) (opposites state.now lit.now)) }
 {
     if is_free(alloc, state, lit)? {

@@ -75,7 +75,7 @@ fn cases_around(alloc: Global, covers: &[Cover]) -> Result<CaseList, Memory>
 }
 
 /// The state with one more literal, inside the last one that is open.
-fn with_literal(alloc: Global, state: State, lit: &Lit) -> Result<State, Memory>
+pub fn with_literal(alloc: Global, state: State, lit: &Lit) -> Result<State, Memory>
     ensures { IfOk result (λ made. made ≡ with_literal state lit.now) }
 {
     let mut state = state;

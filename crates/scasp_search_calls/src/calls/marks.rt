@@ -1,8 +1,9 @@
 //! Marks of literals that positive loops lead out of, and the end of a literal.
 ghost use Rattle.std.specs.Prelude.{◌≡◌, ◌∷◌, [], IfOk, false};
-ghost use Rattle.scasp_search_calls.specs.Calls.Inside.Open.{done_by, first_number, marked_by, open_among, positive_number};
+ghost use Rattle.scasp_search_calls.specs.Calls.Inside.Open.{done_by, marked_by, open_among, positive_number};
 ghost use Rattle.scasp_search_rules.specs.Successors.Calls.{at_number, finished, leave_literal, looped, looping};
 ghost use Rattle.scasp_search_rules.specs.Successors.Items.{with_line};
+ghost use Rattle.scasp_search_state.specs.Words.{first_number};
 
 use crate::calls::repeated::last_open;
 use scasp_list::Memory;
@@ -55,7 +56,7 @@ fn finished_at(literal: Literal, number: u64) -> Literal
 }
 
 /// The state in which a positive loop leads out of the literal of this number.
-fn marked_by(alloc: Global, number: Option<u64>, state: State) -> Result<State, Memory>
+pub fn marked_by(alloc: Global, number: Option<u64>, state: State) -> Result<State, Memory>
     ensures { IfOk result (λ made. made ≡ marked_by number state) }
 {
     let Some(number) = number else {
@@ -74,7 +75,8 @@ fn done_by(alloc: Global, number: u64, state: State) -> Result<State, Memory>
     Ok(state)
 }
 
-fn first_number(literals: &[Literal]) -> Option<u64>
+/// The number of the innermost literal that is open.
+pub fn first_number(literals: &[Literal]) -> Option<u64>
     ensures { result ≡ first_number (open_among literals.now) }
 {
     match last_open(literals) {

@@ -54,7 +54,7 @@ pub(crate) fn last_open(literals: &[Literal]) -> Option<(&Literal, &[Literal])>
 }
 
 /// The nearest literal above that is this one, if there is one.
-pub(crate) fn nearest(alloc: Global, state: &State, lit: &Lit) -> Result<Option<Repeated>, Memory>
+pub fn nearest(alloc: Global, state: &State, lit: &Lit) -> Result<Option<Repeated>, Memory>
     ensures { IfOk result (λ found. found ≡ nearest state.now lit.now false (ancestors state.now)) }
 {
     let args = read_terms(alloc, &lit.atom.args, state.bound.as_slice())?;

@@ -16,19 +16,12 @@ use crate::cases::lists::with_first;
 use scasp_list::Memory;
 use scasp_search_constraints::{SearchErr, States};
 use scasp_search_rules::{Cover, Kind, Line, Lines, Made, Remainders, State, Variables};
+use scasp_search_state::Begun;
 use scasp_search_terms::regions::with_line;
 use scasp_search_terms::variables::with_new;
 use scasp_syntax::{Cons, Program, VarList};
 use scasp_unify::Binding;
 use std::alloc::Global;
-
-/// A clause whose cases begin: its number, its first variable, and whether its head may be called.
-#[derive(Clone, Copy, Debug)]
-pub(crate) struct Begun {
-    pub clause: u64,
-    pub first: u64,
-    pub checks_head: bool,
-}
 
 fn is_bound(bindings: &[Binding], x: u64) -> bool
     ensures { result ≡ is_bound_in bindings.now x }
@@ -150,7 +143,12 @@ fn with_cover(
 }
 
 /// The state in which the cases of the clause begin.
-fn with_cases(alloc: Global, program: &Program, state: State, begun: Begun) -> Result<State, Memory>
+pub fn with_cases(
+    alloc: Global,
+    program: &Program,
+    state: State,
+    begun: Begun,
+) -> Result<State, Memory>
     ensures { IfOk result (λ made. made ≡ with_cover state (cover_for program.now state begun.clause begun.first begun.checks_head (unbound_of state begun.first (vars_of_clause program.now begun.clause)))) }
 {
     let vars = vars_of_clause(program, begun.clause);

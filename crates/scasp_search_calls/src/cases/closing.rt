@@ -99,7 +99,7 @@ fn remaining(
 }
 
 /// The state in which the remainder is the case of its cover, before whose ended case these lines stood.
-fn taken_up(
+pub fn taken_up(
     alloc: Global,
     state: State,
     cover: Cover,

@@ -128,7 +128,7 @@ fn unbound(
 }
 
 /// The state in which the case of a cover with these universals has ended, before which these lines stood.
-pub(crate) fn ended_by(
+pub fn ended_by(
     alloc: Global,
     state: State,
     universals: &[u64],

@@ -30,7 +30,7 @@ fn copies(alloc: Global, items: &[FlatItem]) -> Result<FlatItems, Memory>
 
 /// The items before that at the place, and that one false.
 #[tactic(auto, using(crate::proofs::CasesLemmas::LeafLemmas::failing_after))]
-fn failing_at(alloc: Global, items: &[FlatItem], place: usize) -> Result<FlatItems, Memory>
+pub fn failing_at(alloc: Global, items: &[FlatItem], place: usize) -> Result<FlatItems, Memory>
     requires { place < length items.now }
     ensures { IfOk result (λ made. made ≡ failing_at place items.now) }
 {

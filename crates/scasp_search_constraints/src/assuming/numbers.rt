@@ -64,7 +64,7 @@ fn is_number_in(
 }
 
 /// Whether the test that the variable is a number is given, or stands in a region down to this depth.
-fn is_number_by(alloc: Global, state: &State, depth: u64, x: u64) -> Result<bool, Memory>
+pub fn is_number_by(alloc: Global, state: &State, depth: u64, x: u64) -> Result<bool, Memory>
     ensures { IfOk result (λ is. is ≡ is_number_by state.now depth x) }
 {
     if has_number_test(alloc, state, x, state.given.as_slice())? {

@@ -1,4 +1,4 @@
--- Open literals, and the numbers of literals.
+-- Open literals.
 use Rattle.std.specs.Prelude.{ℕ, not, ◌&&◌, if◌then◌else◌, Option, None, Some, List, [], ◌∷◌, filter, reverse}
 use Rattle.scasp_search_rules.specs.declared.states.state.Literal.{Literal}
 use Rattle.scasp_search_rules.specs.declared.states.state.State.{State}
@@ -7,10 +7,6 @@ use Rattle.scasp_search_rules.specs.Successors.Calls.{at_number, looping, finish
 -- those of the literals that are open, the innermost first
 abbrev pub open_among : List Literal → List Literal
 open_among ls = filter (λ a. not a.is_done) (reverse ls)
-
-abbrev pub first_number : List Literal → Option ℕ
-first_number [] = None
-first_number (a ∷ rest) = Some a.number
 
 -- the number of the first, where it is positive
 abbrev pub positive_number : List Literal → Option ℕ

@@ -15,7 +15,7 @@ fn is_call(item: &FlatItem) -> bool
 }
 
 /// Whether a remainder of the innermost cover waits.
-fn waits(covers: &[Cover]) -> bool
+pub fn waits(covers: &[Cover]) -> bool
     ensures { result ≡ waits covers.now }
 {
     match covers.split_first() {
