@@ -1,0 +1,7 @@
+pub mod AgreeLemmas
+pub mod BoundLemmas
+pub mod PartLemmas
+pub mod QuestionLemmas
+pub mod ReadLemmas
+pub mod TriangularLemmas
+pub mod WalkLemmas
