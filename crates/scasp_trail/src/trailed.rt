@@ -1,5 +1,5 @@
 //! A list whose changes can be undone.
-ghost use Rattle.std.specs.Prelude.{◌≡◌, ◌-◌, ◌<◌, ◌≤◌, [], ◌∷◌, ◌++◌, length, reverse, slice_get, slice_set, take, vec_capacity, OnOk, OnErr, Some};
+ghost use Rattle.std.specs.Prelude.{◌≡◌, ◌-◌, ◌^◌, ◌<◌, ◌≤◌, [], ◌∷◌, ◌++◌, length, reverse, slice_get, slice_set, take, vec_capacity, OnOk, OnErr, Some};
 ghost use Rattle.std.specs.List.{insert};
 ghost use Rattle.scasp_trail.specs.Past.{earlier, is_marked, latest};
 ghost use Rattle.scasp_trail.specs.Inside.Undoing.{CanUndo, GoesBack, IsUndoable, Speaks, mark_of, marked, taken_back};
@@ -54,7 +54,8 @@ impl<T: Drop> Trailed<T> {
 
     /// How many items there are.
     pub fn len(&self) -> usize
-        ensures { result ≡ length self.now.now }
+        ensures len { result ≡ length self.now.now }
+        ensures small { result < 2 ^ 63 }
     {
         self.items.len()
     }
