@@ -1,0 +1,5 @@
+-- Lemmas of the proofs.
+pub mod BoundLemmas
+pub mod OutLemmas
+pub mod PlaceLemmas
+pub mod ReadLemmas

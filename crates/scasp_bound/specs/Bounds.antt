@@ -1,0 +1,20 @@
+-- Bindings in order.
+use Rattle.std.specs.Prelude.{ℕ, Bool, not, ◌||◌, nat_eq, if◌then◌else◌, List, [], ◌∷◌, Option, None, Some}
+use Rattle.std.specs.List.{filter, list_any}
+use Rattle.scasp_unify.specs.declared.bindings.Binding.{Binding}
+
+-- the first binding of the variable
+abbrev pub bound_in : ℕ → List Binding → Option Binding
+bound_in x [] = None
+bound_in x (b ∷ bs) = if nat_eq b.x x then Some b else bound_in x bs
+
+-- the bindings without those of the variable
+abbrev pub without : ℕ → List Binding → List Binding
+without x bs = filter (λ b. not (nat_eq b.x x)) bs
+
+abbrev pub among : ℕ → List ℕ → Bool
+among x xs = list_any (nat_eq x) xs
+
+-- the bindings without those of these variables, but for some
+abbrev pub unbound : List ℕ → List ℕ → List Binding → List Binding
+unbound xs but bs = filter (λ b. not (among b.x xs) || among b.x but) bs

@@ -1,0 +1,164 @@
+//! Bindings in order, which can be taken out and undone, and found by variable.
+ghost use Rattle.std.specs.Prelude.{◌≡◌, [], ◌∷◌, ◌++◌, option_copied, IfOk, OnOk, OnErr};
+ghost use Rattle.scasp_syntax.specs.Values.{under};
+ghost use Rattle.scasp_syntax.specs.View.{tm_of};
+ghost use Rattle.scasp_unify.specs.Solving.{sub_of};
+ghost use Rattle.scasp_trail.specs.Past.{earlier, latest};
+ghost use Rattle.scasp_bound.specs.Bounds.{among, bound_in, unbound, without};
+ghost use Rattle.scasp_bound.specs.Inside.Gaps.{without_unless};
+
+use crate::places::{Place, binding_at, first_of, forget, is_among, note, take_out_of};
+use crate::reading::resolve;
+use scasp_list::Memory;
+use scasp_syntax::Term;
+use scasp_trail::Trailed;
+use scasp_unify::Binding;
+use std::alloc::Global;
+use std::marker::Model;
+
+/// Bindings in the order in which they were made. One that was taken out leaves a gap.
+#[derive(Drop)]
+pub struct Bound {
+    list: Trailed<Option<Binding>>,
+    /// Where the bindings of each variable are.
+    places: Trailed<Option<Place>>,
+    /// Whether no change has failed since the latest mark: then the places are right.
+    is_whole: bool,
+}
+
+impl Model for Bound {
+    ghost use Rattle.scasp_syntax.specs.TmCode.{coded_tms};
+    ghost use Rattle.std.specs.Coded.{codes};
+    ghost use Rattle.scasp_unify.specs.declared.bindings.Binding.{Binding};
+    ghost use Rattle.scasp_trail.specs.Past.{Past};
+    ghost use Rattle.scasp_bound.specs.Inside.Gaps.{past_present};
+    ghost use Rattle.scasp_bound.specs.Inside.Places.{IsIndexed};
+
+    ghost Value = { Past Binding };
+
+    ghost coded = { Prim.hlevel (codes, coded_tms) };
+
+    ghost view = { λ b. past_present b.list };
+
+    ghost invariant = { λ b. IsIndexed b.is_whole b.list b.places };
+}
+
+impl Bound {
+    /// No bindings and no mark; no memory is taken.
+    pub fn new(alloc: Global) -> Bound
+        ensures { result ≡ record { now = []; before = [] } }
+    {
+        Bound {
+            list: Trailed::new(alloc),
+            places: Trailed::new(alloc),
+            is_whole: true,
+        }
+    }
+
+    /// The first binding of the variable.
+    #[tactic(auto, using(crate::proofs::BoundLemmas::found_there, crate::proofs::BoundLemmas::found_none))]
+    pub fn find(&self, x: u64) -> Option<&Binding>
+        ensures { option_copied result ≡ bound_in x self.now.now }
+    {
+        let items = self.list.as_slice();
+        match first_of(items, self.places.as_slice(), self.is_whole, x) {
+            Some(at) => binding_at(items, at),
+            None => None,
+        }
+    }
+
+    /// Puts the binding behind the others.
+    #[tactic(auto, using(crate::proofs::BoundLemmas::present_more, crate::proofs::PlaceLemmas::right_more))]
+    pub fn push(&mut self, binding: Binding) -> Result<(), Memory>
+        ensures now { OnOk result (self.new.now ≡ self.old.now ++ binding ∷ []) }
+        ensures before { self.new.before ≡ self.old.before }
+    {
+        let was_whole = self.is_whole;
+        self.is_whole = false;
+        let x = binding.x;
+        let at = self.list.len();
+        self.list.push(Some(binding))?;
+        note(&mut self.places, x, at)?;
+        self.is_whole = was_whole;
+        Ok(())
+    }
+
+    /// Takes the bindings of the variable out.
+    #[tactic(auto, using(crate::proofs::BoundLemmas::present_gaps, crate::proofs::PlaceLemmas::right_gaps))]
+    pub fn take_out(&mut self, x: u64) -> Result<(), Memory>
+        ensures now { OnOk result (self.new.now ≡ without x self.old.now) }
+        ensures before { self.new.before ≡ self.old.before }
+    {
+        let was_whole = self.is_whole;
+        self.is_whole = false;
+        take_out_of(&mut self.list, self.places.as_slice(), was_whole, x)?;
+        forget(&mut self.places, x)?;
+        self.is_whole = was_whole;
+        Ok(())
+    }
+
+    /// Takes the bindings of the variables of a list out, but for those that are also in another one.
+    pub fn end_case(&mut self, universals: &[u64], but: &[u64]) -> Result<(), Memory>
+        ensures now { OnOk result (self.new.now ≡ unbound universals.now but.now self.old.now) }
+        ensures before { self.new.before ≡ self.old.before }
+    {
+        let mut at = 0;
+        while at < universals.len() {
+            self.take_out_unless(universals[at], but)?;
+            at += 1;
+        }
+        Ok(())
+    }
+
+    /// Takes the bindings of the variable out, unless it is in the list.
+    fn take_out_unless(&mut self, x: u64, but: &[u64]) -> Result<(), Memory>
+        ensures now { OnOk result (self.new.now ≡ without_unless (among x but.now) x self.old.now) }
+        ensures before { self.new.before ≡ self.old.before }
+    {
+        if is_among(x, but) {
+            return Ok(());
+        }
+        self.take_out(x)?;
+        Ok(())
+    }
+
+    /// The term as the bindings read it, of which each may speak of variables that later ones bind. They are followed by
+    /// variable.
+    pub fn read(&self, alloc: Global, term: &Term) -> Result<Term, Memory>
+        ensures { IfOk result (λ made. tm_of made ≡ under (sub_of self.now.now) (tm_of term.now)) }
+    {
+        let items = self.list.as_slice();
+        let places = self.places.as_slice();
+        resolve(alloc, items, places, self.is_whole, 0, term)
+    }
+
+    /// Marks the bindings as they are now; after an error of a change there is no mark to be had until the next `leave`.
+    pub fn mark(&mut self) -> Result<(), Memory>
+        ensures now { self.new.now ≡ self.old.now }
+        ensures before { OnOk result (self.new.before ≡ self.old.now ∷ self.old.before) }
+        ensures unchanged { OnErr result (self.new ≡ self.old) }
+    {
+        if !self.is_whole {
+            return Err(Memory);
+        }
+        self.list.mark()?;
+        if self.places.mark().is_err() {
+            self.list.leave();
+            return Err(Memory);
+        }
+        Ok(())
+    }
+
+    /// Makes the bindings again what they were at the latest mark, which is taken away; without a mark they stay as they are.
+    /// No memory is taken.
+    #[tactic(auto, using(crate::proofs::PlaceLemmas::present_latest, crate::proofs::PlaceLemmas::present_earlier))]
+    pub fn leave(&mut self)
+        ensures now { self.new.now ≡ latest self.old.now self.old.before }
+        ensures before { self.new.before ≡ earlier self.old.before }
+    {
+        let was_marked = self.list.is_marked();
+        self.list.leave();
+        self.places.leave();
+        self.is_whole = self.is_whole || was_marked;
+    }
+}

@@ -1,0 +1,2 @@
+-- What the contracts inside speak of.
+pub mod Undoing

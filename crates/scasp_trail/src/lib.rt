@@ -1,0 +1,9 @@
+//! Lists whose changes can be undone.
+#![tactic(auto)]
+
+mod change;
+#[cfg(test)]
+mod tests;
+mod trailed;
+
+pub use trailed::Trailed;
