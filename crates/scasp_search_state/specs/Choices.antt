@@ -2,8 +2,8 @@
 use Rattle.std.specs.Prelude.{◌≡◌, ℕ, ◌+◌, Bool, true, false, Option, None, Some, List, [], ◌∷◌, ◌++◌, drop, map, Result, Ok, Err, ⊤}
 use Rattle.std.specs.List.{flat_map, list_any}
 use Rattle.scasp_hint.specs.Finding.{overflows_in}
-use Rattle.scasp_search_constraints.specs.declared.assume.step.SearchErr.{SearchErr}
-use Rattle.scasp_search_constraints.specs.declared.assume.step.SearchErr.TheVariants as errors
+use Rattle.scasp_search_constraints.specs.declared.assuming.step.SearchErr.{SearchErr}
+use Rattle.scasp_search_constraints.specs.declared.assuming.step.SearchErr.TheVariants as errors
 use Rattle.scasp_search_rules.specs.declared.states.covers.Cover.{Cover}
 use Rattle.scasp_search_rules.specs.declared.states.state.State.{State}
 use Rattle.scasp_search_rules.specs.declared.states.tasks.Task.{Task}

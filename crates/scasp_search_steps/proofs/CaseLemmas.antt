@@ -5,7 +5,7 @@ use Rattle.std.proofs.Common.{arith, subst, sym}
 use Rattle.scasp_hint.specs.Finding.{overflows_in}
 use Rattle.scasp_hint.specs.Satisfying.{sat}
 use Rattle.scasp_search_calls.specs.Cases.Inside.Innermost.{cases_inside}
-use Rattle.scasp_search_constraints.specs.declared.assume.step.SearchErr.{SearchErr}
+use Rattle.scasp_search_constraints.specs.declared.assuming.step.SearchErr.{SearchErr}
 use Rattle.scasp_search_rules.specs.declared.states.covers.Cover.{Cover}
 use Rattle.scasp_search_rules.specs.declared.states.covers.Remainder.{Remainder}
 use Rattle.scasp_search_rules.specs.declared.states.lines.Line.TheVariants as line

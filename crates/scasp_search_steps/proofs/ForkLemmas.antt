@@ -1,8 +1,8 @@
 -- States that are put in front of those that wait.
 use Rattle.std.specs.Prelude.{◌≡◌, ℕ, Bool, true, false, IfOk, Result, Ok, Err, List, [], ◌∷◌, ◌++◌, refl}
 use Rattle.std.proofs.Common.{ap, append_assoc, sym, ◌∙◌}
-use Rattle.scasp_search_constraints.specs.declared.assume.step.SearchErr.{SearchErr}
-use Rattle.scasp_search_constraints.specs.declared.assume.step.SearchErr.TheVariants as errors
+use Rattle.scasp_search_constraints.specs.declared.assuming.step.SearchErr.{SearchErr}
+use Rattle.scasp_search_constraints.specs.declared.assuming.step.SearchErr.TheVariants as errors
 use Rattle.scasp_search_rules.specs.declared.states.state.State.{State}
 use Rattle.scasp_search_rules.specs.declared.states.tasks.Task.{Task}
 use Rattle.scasp_search_rules.specs.Successors.Calls.{by_rule}

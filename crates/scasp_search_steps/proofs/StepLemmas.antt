@@ -2,7 +2,7 @@
 use Rattle.std.specs.Prelude.{◌≡◌, suc, Bool, Option, None, Some, Result, List, [], ◌∷◌, ◌++◌, length, refl}
 use Rattle.std.proofs.Common.{ap, subst, sym, ◌∙◌}
 use Rattle.scasp_hint.specs.Satisfying.{sat}
-use Rattle.scasp_search_constraints.specs.declared.assume.step.SearchErr.{SearchErr}
+use Rattle.scasp_search_constraints.specs.declared.assuming.step.SearchErr.{SearchErr}
 use Rattle.scasp_search_rules.specs.declared.states.state.State.{State}
 use Rattle.scasp_search_rules.specs.declared.states.tasks.Task.{Task}
 use Rattle.scasp_search_rules.specs.Successors.Search.{done, step_at}

@@ -3,7 +3,7 @@ use Rattle.std.specs.Prelude.{◌≡◌, Bool, true, false, if◌then◌else◌,
 use Rattle.std.proofs.Common.{sym, subst}
 use Rattle.scasp_hint.specs.Satisfying.{sat}
 use Rattle.scasp_num.specs.Linear.{Linear}
-use Rattle.scasp_search_constraints.specs.declared.assume.step.SearchErr.{SearchErr}
+use Rattle.scasp_search_constraints.specs.declared.assuming.step.SearchErr.{SearchErr}
 use Rattle.scasp_search_rules.specs.declared.states.state.State.{State}
 use Rattle.scasp_search_rules.specs.declared.states.tasks.Aim.TheVariants as aims
 use Rattle.scasp_search_rules.specs.declared.states.tasks.Task.TheVariants as task
