@@ -21,5 +21,5 @@ pub use judged::{CheckErr, want};
 pub use map::accept_map;
 pub use names::clash_among;
 pub use rules::{has_count_of, is_instance};
-pub use sample::accept_sample;
+pub use sample::{accept_sample, bounded_sum};
 pub use scope::{Below, Scope, are_below, are_cons_known, are_known, is_con_known, is_known};

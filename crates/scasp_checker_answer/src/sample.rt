@@ -128,8 +128,9 @@ fn summed(values: &Terms, coeffs: &[Coeff], constant: &Rat) -> Result<Rat, Overf
     Ok(sum)
 }
 
-/// The row's value.
-fn bounded_sum(values: &Terms, row: &Row) -> Result<Rat, Overflow>
+/// The row's value at these values, as the constant and each coefficient times its variable's value, in order. What is no
+/// number counts as 0. Overflow where a sum or a product on the way is past the range.
+pub fn bounded_sum(values: &Terms, row: &Row) -> Result<Rat, Overflow>
     ensures { result_ok result ≡ bounded_sum (giving (items values.now)) row.now }
 {
     let constant = Rat::new(row.constant(), 1)?;
