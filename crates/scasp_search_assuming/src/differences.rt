@@ -79,12 +79,7 @@ fn is_matched<M: Situation>(at: &M, term: &Term) -> bool
 }
 
 /// The variable of a head stands for the literal's part.
-fn take_up<M: Situation>(
-    alloc: Global,
-    at: &mut M,
-    part: &Term,
-    head: &Term,
-) -> Result<(), Memory>
+fn take_up<M: Situation>(alloc: Global, at: &mut M, part: &Term, head: &Term) -> Result<(), Memory>
     ensures now { OnOk result (M.now at.new ≡ take_up (M.now at.old) (tm_of part.now) (tm_of head.now)) }
     ensures points { OnOk result (M.points at.new ≡ M.points at.old) }
 {

@@ -41,12 +41,7 @@ pub(crate) fn pairs_read<M: Situation>(
 
 /// The pairs with one more behind them, or what this one comes to where there is none yet.
 #[tactic(auto, using(scasp_search_constraints::proofs::EquateLemmas::FrontLemmas::front_full))]
-fn with_next<M: Situation>(
-    alloc: Global,
-    at: &M,
-    found: Pairs,
-    pair: Pair,
-) -> Result<Pairs, Memory>
+fn with_next<M: Situation>(alloc: Global, at: &M, found: Pairs, pair: Pair) -> Result<Pairs, Memory>
     ensures { IfOk result (λ more. more ≡ in_front found (pair ∷ []) (pairs_of (under (meaning (M.now at.now)) (tm_of pair.left)) (under (meaning (M.now at.now)) (tm_of pair.right)))) }
 {
     let mut found = found;
@@ -59,11 +54,7 @@ fn with_next<M: Situation>(
 
 /// The pairs from the first on that comes to something, and this as what it comes to.
 #[tactic(auto, using(scasp_search_constraints::proofs::EquateLemmas::FrontLemmas::front_end, scasp_search_constraints::proofs::EquateLemmas::FrontLemmas::front_step))]
-pub(crate) fn from_first<M: Situation>(
-    alloc: Global,
-    at: &M,
-    pairs: Pairs,
-) -> Result<Pairs, Memory>
+pub(crate) fn from_first<M: Situation>(alloc: Global, at: &M, pairs: Pairs) -> Result<Pairs, Memory>
     ensures { IfOk result (λ left. left ≡ from_first (meaning (M.now at.now)) pairs) }
 {
     let mut found = Pairs::new(alloc);

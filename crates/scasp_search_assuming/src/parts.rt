@@ -100,7 +100,13 @@ pub fn differ_value<M: Situation>(
         aim,
     };
     let other = one_task(alloc, same)?;
-    at_part(alloc, at, Con::Neq(Term::Var(x), Term::Num(value)), aim, other)
+    at_part(
+        alloc,
+        at,
+        Con::Neq(Term::Var(x), Term::Num(value)),
+        aim,
+        other,
+    )
 }
 
 // ---- a variable and a name

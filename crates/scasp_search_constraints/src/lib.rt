@@ -6,6 +6,6 @@ mod equate;
 
 pub use assume::{SearchErr, States, among, assume, assume_all, is_general, passes};
 pub use equate::{
-    FirstPair, differ_terms, differ_value, equate_terms, equations, equations_of, joined, number_tasks, occurs_among,
-    one_task, same_shape, same_value, split_first,
+    FirstPair, differ_terms, differ_value, equate_terms, equations, equations_of, joined,
+    number_tasks, occurs_among, one_task, same_shape, same_value, split_first,
 };

@@ -20,8 +20,8 @@ ghost use Rattle.scasp_syntax.specs.View.{tm_of};
 
 use crate::choice::{Begun, Choice};
 use scasp_list::Memory;
-use scasp_search_constraints::assume::SearchErr;
-use scasp_search_rules::states::{Aim, Kind, Line, Made, Repeated, State, Status, Task, Tasks};
+use scasp_search_constraints::SearchErr;
+use scasp_search_rules::{Aim, Kind, Line, Made, Repeated, State, Status, Task, Tasks};
 use scasp_syntax::{Con, Cons, Lit, Program, Term, Terms, VarList};
 use std::alloc::Global;
 
