@@ -14,6 +14,7 @@ pub mod Numbering
 pub mod Trees
 pub mod Problems
 pub mod Answers
+pub mod Replacing
 pub mod Machine
 pub mod Search
 pub mod Falls

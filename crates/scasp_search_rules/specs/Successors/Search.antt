@@ -1,5 +1,5 @@
 -- The written search as a machine.
-use Rattle.std.specs.Prelude.{ℕ, Bool, true, false, List, [], ◌∷◌, ◌++◌, map, Option, None, length}
+use Rattle.std.specs.Prelude.{ℕ, Bool, true, false, if◌then◌else◌, List, [], ◌∷◌, ◌++◌, map, Option, None, Some, length}
 use Rattle.std.specs.List.{list_any}
 use Rattle.scasp_cert.specs.Certificate.{Certificate}
 use Rattle.scasp_search_rules.specs.declared.states.covers.Cover.{Cover}
@@ -26,6 +26,7 @@ use Rattle.scasp_search_rules.specs.Successors.Equations.{equate_terms}
 use Rattle.scasp_search_rules.specs.Successors.Items.{show_test, with_line}
 use Rattle.scasp_search_rules.specs.Successors.Machine.{Machine}
 use Rattle.scasp_search_rules.specs.Successors.Problems.{Problem}
+use Rattle.scasp_search_rules.specs.Successors.Replacing.{close_overflows, end_overflows}
 use Rattle.scasp_search_rules.specs.Successors.Steps.{Step, fails, goes}
 use Rattle.scasp_search_rules.specs.Successors.Variables.{with_new}
 
@@ -109,10 +110,11 @@ start q checks = record (with_new nothing Existential 0 (length q.names)) {
   work = map task.Show (flat_body q.body) ++ map (λ i. task.Check i.clause i.head) checks;
 }
 
--- a state with nothing left to do is an answer, where its literals are apart
+-- A state with nothing left to do is an answer, where its literals are apart. It is an overflow where a row of its cannot be replaced within
+-- the range of the numbers, and so is a state that ends a case with such a row.
 abbrev pub answer_at : Problem → State → ℕ → List Task → Option (Option Certificate)
-answer_at p s queried [] = answer_of p (certificate_at p s queried)
-answer_at p s queried (t ∷ ts) = None
+answer_at p s queried [] = if end_overflows s then Some None else answer_of p (certificate_at p s queried)
+answer_at p s queried (t ∷ ts) = if close_overflows s (t ∷ ts) then Some None else None
 
 -- the lists that a state asks: those of its step, and those about its certificate where nothing is left to do
 abbrev pub asked_by : Problem → State → ℕ → List Task → List (List Con)
