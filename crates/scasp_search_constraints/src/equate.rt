@@ -8,7 +8,9 @@ mod pairs;
 mod parts;
 mod shapes;
 
-pub use differences::{differ_terms, same_shape, same_value};
+pub use alternatives::one_task;
+pub use differences::{differ_terms, joined, same_shape, same_value};
 pub use equality::equate_terms;
-pub use parts::differ_value;
-pub use shapes::{equations, equations_of};
+pub use pairs::{FirstPair, split_first};
+pub use parts::{differ_value, number_tasks};
+pub use shapes::{equations, equations_of, occurs_among};
