@@ -1,6 +1,6 @@
 -- Tests by whether they have universal variables.
-use Rattle.std.specs.Prelude.{◌≡◌, Bool, true, false, if◌then◌else◌, Result, [], ◌∷◌, ◌++◌, refl}
-use Rattle.std.proofs.Common.{sym, subst}
+use Rattle.std.specs.Prelude.{◌≡◌, Bool, true, false, not, if◌then◌else◌, Result, [], ◌∷◌, ◌++◌, refl}
+use Rattle.std.proofs.Common.{sym, subst, ◌∙◌}
 use Rattle.scasp_hint.specs.Satisfying.{sat}
 use Rattle.scasp_num.specs.Linear.{Linear}
 use Rattle.scasp_search_constraints.specs.declared.assuming.step.SearchErr.{SearchErr}
@@ -18,37 +18,53 @@ use Rattle.scasp_syntax.specs.declared.con.Con.{Con}
 use Rattle.scasp_syntax.specs.declared.con.Con.TheVariants as con
 use Rattle.scasp_syntax.specs.declared.term.Term.{Term}
 
+-- ---- whether there are universal variables
+
+is_false : (b g : Bool) → g ≡ not b → g ≡ true → b ≡ false
+is_false true g e f = sym f ∙ e
+is_false false g e f = refl
+
+is_true : (b g : Bool) → g ≡ not b → g ≡ false → b ≡ true
+is_true true g e f = refl
+is_true false g e f = sym f ∙ e
+
+general : (b g : Bool) (r : Result Bool SearchErr) (t : State) (plain some : Step) → g ≡ not b → g ≡ true → Goes r some t
+    → Goes r (if b then plain else some) t
+general b g r t plain some e f h = subst (λ (k : Bool). Goes r (if k then plain else some) t) (sym (is_false b g e f)) h
+
+plain_only : (b g : Bool) (r : Result Bool SearchErr) (t : State) (plain some : Step) → g ≡ not b → g ≡ false → Goes r plain t
+    → Goes r (if b then plain else some) t
+plain_only b g r t plain some e f h = subst (λ (k : Bool). Goes r (if k then plain else some) t) (sym (is_true b g e f)) h
+
 -- ---- disequations
 
-pub differ_assumed : (s t : State) (u v : Term) (d : Con) (r : Result Bool SearchErr) → d ≡ con.Neq u v → is_empty (universals_of s d) ≡ true
-    → Goes r (assume sat s d) t → Goes r (differ_item sat s u v) t
-differ_assumed s t u v d r e b h =
-    let now : Con → Step = λ k. if is_empty (universals_of s k) then assume sat s k
-    else goes (before (task.Differ (record { left = u; right = v } ∷ []) aims.Test ∷ []) s) in
-    let same : assume sat s d ≡ now d = rw b refl in
-    subst (λ (k : Con). Goes r (now k) t) e (subst (λ (x : Step). Goes r x t) same h)
-
-pub differ_put : (s : State) (u v : Term) (d : Con) → d ≡ con.Neq u v → is_empty (universals_of s d) ≡ false
+pub differ_put : (s : State) (u v : Term) (d : Con) (g : Bool) → d ≡ con.Neq u v → g ≡ not (is_empty (universals_of s d)) → g ≡ true
     → (differ_item sat s u v).states ≡ before (task.Differ (record { left = u; right = v } ∷ []) aims.Test ∷ []) s ∷ []
-differ_put s u v d e b =
-    let none : is_empty (universals_of s (con.Neq u v)) ≡ false = subst (λ (k : Con). is_empty (universals_of s k) ≡ false) e b in
+differ_put s u v d g e o f =
+    let h : g ≡ not (is_empty (universals_of s (con.Neq u v))) = subst (λ (k : Con). g ≡ not (is_empty (universals_of s k))) e o in
+    let none : is_empty (universals_of s (con.Neq u v)) ≡ false = is_false (is_empty (universals_of s (con.Neq u v))) g h f in
     rw none refl
+
+pub differ_assumed : (s t : State) (u v : Term) (d : Con) (g : Bool) (r : Result Bool SearchErr) → d ≡ con.Neq u v
+    → g ≡ not (is_empty (universals_of s d)) → g ≡ false → Goes r (assume sat s d) t → Goes r (differ_item sat s u v) t
+differ_assumed s t u v d g r e o f h =
+    plain_only (is_empty (universals_of s (con.Neq u v))) g r t (assume sat s (con.Neq u v))
+    (goes (before (task.Differ (record { left = u; right = v } ∷ []) aims.Test ∷ []) s))
+    (subst (λ (k : Con). g ≡ not (is_empty (universals_of s k))) e o) f (subst (λ (k : Con). Goes r (assume sat s k) t) e h)
 
 -- ---- rows
 
-pub row_assumed : (s t : State) (q : Linear) (d : Con) (r : Result Bool SearchErr) → d ≡ con.Row q → is_empty (universals_of s d) ≡ false
-    → Goes r (assume sat s d) t → Goes r (row_item sat s q) t
-row_assumed s t q d r e b h =
-    let now : Con → Step = λ k. if is_empty (universals_of s k) then assume_all sat (number_tests q ++ con.Row q ∷ []) s else assume sat s k in
-    let same : assume sat s d ≡ now d = rw b refl in
-    subst (λ (k : Con). Goes r (now k) t) e (subst (λ (x : Step). Goes r x t) same h)
+pub row_assumed : (s t : State) (q : Linear) (d : Con) (g : Bool) (r : Result Bool SearchErr) → d ≡ con.Row q
+    → g ≡ not (is_empty (universals_of s d)) → g ≡ true → Goes r (assume sat s d) t → Goes r (row_item sat s q) t
+row_assumed s t q d g r e o f h =
+    general (is_empty (universals_of s (con.Row q))) g r t (assume_all sat (number_tests q ++ con.Row q ∷ []) s) (assume sat s (con.Row q))
+    (subst (λ (k : Con). g ≡ not (is_empty (universals_of s k))) e o) f (subst (λ (k : Con). Goes r (assume sat s k) t) e h)
 
-pub row_numbered : (s t : State) (q : Linear) (d : Con) (r : Result Bool SearchErr) → d ≡ con.Row q → is_empty (universals_of s d) ≡ true
-    → Goes r (assume_all sat (number_tests q ++ con.Row q ∷ []) s) t → Goes r (row_item sat s q) t
-row_numbered s t q d r e b h =
-    let now : Con → Step = λ k. if is_empty (universals_of s k) then assume_all sat (number_tests q ++ con.Row q ∷ []) s else assume sat s (con.Row q) in
-    let same : assume_all sat (number_tests q ++ con.Row q ∷ []) s ≡ now d = rw b refl in
-    subst (λ (k : Con). Goes r (now k) t) e (subst (λ (x : Step). Goes r x t) same h)
+pub row_numbered : (s t : State) (q : Linear) (d : Con) (g : Bool) (r : Result Bool SearchErr) → d ≡ con.Row q
+    → g ≡ not (is_empty (universals_of s d)) → g ≡ false → Goes r (assume_all sat (number_tests q ++ con.Row q ∷ []) s) t → Goes r (row_item sat s q) t
+row_numbered s t q d g r e o f h =
+    plain_only (is_empty (universals_of s (con.Row q))) g r t (assume_all sat (number_tests q ++ con.Row q ∷ []) s) (assume sat s (con.Row q))
+    (subst (λ (k : Con). g ≡ not (is_empty (universals_of s k))) e o) f h
 
 -- ---- the others
 

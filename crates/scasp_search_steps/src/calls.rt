@@ -4,11 +4,11 @@ ghost use Rattle.scasp_hint.specs.Satisfying.{sat};
 ghost use Rattle.scasp_search_state.specs.Choices.{Forks};
 ghost use Rattle.scasp_search_rules.specs.Successors.Calls.{call, can_be_seen, unrepeated};
 
-use crate::constraints::assume_all;
 use crate::entering::entered;
 use crate::loops::{looped, see_again};
-use scasp_search_state::Situation;
+use scasp_search_assuming::assume_all;
 use scasp_search_constraints::SearchErr;
+use scasp_search_state::Situation;
 use scasp_syntax::{Lit, Program};
 use std::alloc::Global;
 

@@ -5,7 +5,6 @@ mod calls;
 mod cases;
 mod choices;
 mod clauses;
-mod constraints;
 mod entering;
 mod leaves;
 mod loops;

@@ -4,9 +4,9 @@ ghost use Rattle.scasp_search_state.specs.Going.{Leaves};
 ghost use Rattle.scasp_search_rules.specs.Successors.Calls.{looped};
 ghost use Rattle.scasp_search_rules.specs.Successors.Items.{with_line};
 
-use scasp_search_state::Situation;
 use scasp_list::Memory;
 use scasp_search_rules::{Line, Repeated};
+use scasp_search_state::Situation;
 use scasp_syntax::{DeepCopy, Lit};
 use std::alloc::Global;
 

@@ -5,11 +5,11 @@ ghost use Rattle.scasp_search_state.specs.Choices.{Forks};
 
 use crate::calls::call;
 use crate::cases::{begin_cases, check_clause, close_case};
-use crate::constraints::{
-    assume, differ_terms, differ_value, equate_terms, same_shape, same_value,
-};
 use crate::entering::covered;
 use crate::tests::show_test;
+use scasp_search_assuming::{
+    assume, differ_terms, differ_value, equate_terms, same_shape, same_value,
+};
 use scasp_search_constraints::SearchErr;
 use scasp_search_rules::{Line, Task};
 use scasp_search_state::{Begun, Situation};

@@ -7,7 +7,7 @@ ghost use Rattle.scasp_search_rules.specs.Successors.Regions.{before};
 ghost use Rattle.scasp_search_state.specs.Going.{Goes};
 ghost use Rattle.scasp_search_steps.specs.Tests.{is_assumed};
 
-use crate::constraints::{assume, assume_all};
+use scasp_search_assuming::{assume, assume_all, is_general};
 use scasp_list::Memory;
 use scasp_num::Row;
 use scasp_search_constraints::SearchErr;
@@ -36,7 +36,7 @@ fn put_difference<M: Situation>(
 }
 
 /// Without universal variables a disequation is assumed, with them its terms are to differ.
-#[tactic(auto, using(crate::proofs::TestLemmas::differ_put, crate::proofs::TestLemmas::differ_assumed))]
+#[tactic(auto, using(crate::proofs::TestLemmas::differ_put))]
 fn differ_item<M: Situation>(
     alloc: Global,
     at: &mut M,
@@ -48,11 +48,13 @@ fn differ_item<M: Situation>(
     ensures now { Goes result (differ_item sat (M.now at.old) left.now right.now) (M.now at.new) }
     ensures points { IfOk result (λ _. M.points at.new ≡ M.points at.old) }
 {
-    if at.universals_of(alloc, test)?.is_empty() {
-        return assume(alloc, at, test);
+    let general = is_general(alloc, at, test)?;
+    if general {
+        put_difference(alloc, at, left, right)?;
+        Ok(true)
+    } else {
+        assume(alloc, at, test)
     }
-    put_difference(alloc, at, left, right)?;
-    Ok(true)
 }
 
 /// That each variable of a row is a number, and then the row.
@@ -87,10 +89,11 @@ fn row_item<M: Situation>(
     ensures now { Goes result (row_item sat (M.now at.old) row.now) (M.now at.new) }
     ensures points { IfOk result (λ _. M.points at.new ≡ M.points at.old) }
 {
-    if at.universals_of(alloc, test)?.is_empty() {
-        row_of_numbers(alloc, at, row)
-    } else {
+    let general = is_general(alloc, at, test)?;
+    if general {
         assume(alloc, at, test)
+    } else {
+        row_of_numbers(alloc, at, row)
     }
 }
 
