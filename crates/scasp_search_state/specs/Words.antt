@@ -30,13 +30,13 @@ abbrev pub opened : Program → State → Begun → State
 opened p s b = with_cover s (cover_for p s b.clause b.first b.checks_head (unbound_of s b.first (vars_of_clause p b.clause)))
 
 -- the case of the cover c has ended: the first of these remainders is its case, or else the cover is gone
-abbrev pub resumed : State → Cover → List Cover → List Remainder → State
-resumed s c cs [] = record (ended_case s c []) { covers = cs }
-resumed s c cs (r ∷ rs) =
+abbrev pub next_case : State → Cover → List Cover → List Remainder → State
+next_case s c cs [] = record (ended_case s c []) { covers = cs }
+next_case s c cs (r ∷ rs) =
     let t : State = ended_case s c r.replaced in
     taken_up t r (remaining c r rs t.cases t.lines) cs
 
 -- the case of the first of these covers has ended
 abbrev pub closed : State → List Cover → State
 closed s [] = s
-closed s (c ∷ cs) = resumed s c cs c.waiting
+closed s (c ∷ cs) = next_case s c cs c.waiting
