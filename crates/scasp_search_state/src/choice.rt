@@ -1,5 +1,5 @@
 //! What is left of the successors of a state, and clauses whose cases have begun.
-use scasp_search_rules::states::Tasks;
+use scasp_search_rules::Tasks;
 use scasp_syntax::Lit;
 
 /// What is left of the successors of a state that waits.

@@ -1,7 +1,7 @@
 //! A state that is changed in place.
 ghost use Rattle.std.specs.Prelude.{◌≡◌, ◌∷◌, ◌++◌, [], List, IfOk, OnOk, false, filter, length, map};
 ghost use Rattle.scasp_hint.specs.Satisfying.{sat};
-ghost use Rattle.scasp_search_constraints.specs.Assume.Taken.{Gives};
+ghost use Rattle.scasp_search_constraints.specs.Assuming.Taken.{Gives};
 ghost use Rattle.scasp_search_rules.specs.Successors.Assumptions.{as_read, asked_for, status};
 ghost use Rattle.scasp_search_rules.specs.Successors.Calls.{ancestors, can_be_seen, differing, head_args, leave_literal, marked, nearest, opposites, with_literal};
 ghost use Rattle.scasp_search_rules.specs.Successors.Cases.{failing_at};
@@ -20,8 +20,8 @@ ghost use Rattle.scasp_syntax.specs.View.{tm_of};
 
 use crate::choice::{Begun, Choice};
 use scasp_list::Memory;
-use scasp_search_constraints::assume::SearchErr;
-use scasp_search_rules::states::{Aim, Kind, Line, Made, Repeated, State, Status, Task, Tasks};
+use scasp_search_constraints::SearchErr;
+use scasp_search_rules::{Aim, Kind, Line, Made, Repeated, State, Status, Task, Tasks};
 use scasp_syntax::{Con, Cons, Lit, Program, Term, Terms, VarList};
 use std::alloc::Global;
 
