@@ -70,8 +70,7 @@ Forked p states now new old false = (states ≡ []) × (new ≡ old)
 
 -- the same of a step; an overflow is answered only where a list that the step asks overflows
 abbrev pub Forks : Program → Step → State → List Point → List Point → Result Bool SearchErr → Type 0
-Forks p step now new old (Ok true) = now ∷ waiting p new ≡ step.states ++ waiting p old
-Forks p step now new old (Ok false) = (step.states ≡ []) × (new ≡ old)
+Forks p step now new old (Ok went) = Forked p step.states now new old went
 Forks p step now new old (Err errors.Overflow) = list_any overflows_in step.asked ≡ true
 Forks p step now new old (Err errors.Memory) = ⊤
 
