@@ -16,10 +16,13 @@ use Rattle.scasp_search_state.specs.Words.{innermost}
 use Rattle.scasp_search_state.specs.declared.choice.Begun.{Begun}
 use Rattle.scasp_search_state.specs.declared.choice.Choice.TheVariants as choice
 use Rattle.scasp_search_steps.specs.Leaves.{call_of, head_leaf, heads, leaf, leaf_count}
+use Rattle.scasp_syntax.specs.Instances.{atom_under}
 use Rattle.scasp_syntax.specs.Programs.{numbered}
+use Rattle.scasp_syntax.specs.Values.{raised}
 use Rattle.scasp_syntax.specs.declared.atom.Atom.{Atom}
 use Rattle.scasp_syntax.specs.declared.clause.Clause.{Clause}
 use Rattle.scasp_syntax.specs.declared.clause.FlatItem.{FlatItem}
+use Rattle.scasp_syntax.specs.declared.clause.FlatItem.TheVariants as flat
 use Rattle.scasp_syntax.specs.declared.program.Program.{Program}
 
 -- ---- tasks of a leaf
@@ -66,7 +69,9 @@ one_call (Some c) first = by c.head refl
   where
     by : (h : Option Atom) → c.head ≡ h → (head_call (Some c) first ≡ []) ⊎ ((i : FlatItem) × (head_call (Some c) first ≡ i ∷ []))
     by None e = inl (rw e refl)
-    by (Some a) e = inr (_, rw e refl)
+    by (Some a) e =
+        let call : FlatItem = flat.Call (record { positive = true; atom = atom_under (raised first) a }) in
+        inr (call, rw e refl)
 
 -- ---- the leaves of a clause
 
@@ -78,19 +83,17 @@ leaves_in p s b = listed (leaf_at s (body_of p b.clause b.first)) 0 (length (bod
 
 -- ---- behind the items
 
--- the head is called, or not
-head_cases : (p : Program) (s : State) (b : Begun)
-    → ((heads p b ≡ 0) × (head_leaves p s b ≡ [])) ⊎ ((heads p b ≡ 1) × (head_leaves p s b ≡ head_leaf p s b ∷ []))
+-- that the head is called, or is not
+abbrev CallsHead : Program → State → Begun → Bool → List FlatItem → Type 0
+CallsHead p s b checks call =
+    (((if checks then length call else 0) ≡ 0) × ((if checks then with_head s (body_of p b.clause b.first) call else []) ≡ []))
+    ⊎ (((if checks then length call else 0) ≡ 1) × ((if checks then with_head s (body_of p b.clause b.first) call else []) ≡ head_leaf p s b ∷ []))
+
+head_cases : (p : Program) (s : State) (b : Begun) → CallsHead p s b b.checks_head (call_of p b)
 head_cases p s b = by b.checks_head refl (one_call (numbered p.clauses b.clause) b.first)
   where
-    abbrev Calls : Bool → List FlatItem → Type 0
-    Calls checks call =
-        (((if checks then length call else 0) ≡ 0)
-        × ((if checks then with_head s (body_of p b.clause b.first) call else []) ≡ []))
-        ⊎ (((if checks then length call else 0) ≡ 1)
-        × ((if checks then with_head s (body_of p b.clause b.first) call else []) ≡ head_leaf p s b ∷ []))
     by : (checks : Bool) → b.checks_head ≡ checks
-        → (call_of p b ≡ []) ⊎ ((i : FlatItem) × (call_of p b ≡ i ∷ [])) → Calls b.checks_head (call_of p b)
+        → (call_of p b ≡ []) ⊎ ((i : FlatItem) × (call_of p b ≡ i ∷ [])) → CallsHead p s b b.checks_head (call_of p b)
     by false e o = rw e (inl (refl, refl))
     by true e (inl n) = rw (e, n) (inl (refl, refl))
     by true e (inr (i, n)) = rw (e, n) (inr (refl, refl))
@@ -99,8 +102,7 @@ leaf_in : (p : Program) (s : State) (b : Begun) (k : ℕ) → k < leaf_count p b
 leaf_in p s b k h = by (ltb k (length (body_of p b.clause b.first))) refl (head_cases p s b)
   where
     by : (is_item : Bool) → ltb k (length (body_of p b.clause b.first)) ≡ is_item
-        → ((heads p b ≡ 0) × (head_leaves p s b ≡ [])) ⊎ ((heads p b ≡ 1) × (head_leaves p s b ≡ head_leaf p s b ∷ []))
-        → drop k (leaves_in p s b) ≡ leaf p s b k ∷ drop (suc k) (leaves_in p s b)
+        → CallsHead p s b b.checks_head (call_of p b) → drop k (leaves_in p s b) ≡ leaf p s b k ∷ drop (suc k) (leaves_in p s b)
     by true e o =
         let body : List FlatItem = body_of p b.clause b.first in
         let z : 0 + k ≡ k = omega arith in
@@ -124,7 +126,7 @@ leaf_in p s b k h = by (ltb k (length (body_of p b.clause b.first))) refl (head_
 none_in : (p : Program) (s : State) (b : Begun) (k : ℕ) → leaf_count p b ≤ k → drop k (leaves_in p s b) ≡ []
 none_in p s b k h = by (head_cases p s b)
   where
-    by : ((heads p b ≡ 0) × (head_leaves p s b ≡ [])) ⊎ ((heads p b ≡ 1) × (head_leaves p s b ≡ head_leaf p s b ∷ [])) → drop k (leaves_in p s b) ≡ []
+    by : CallsHead p s b b.checks_head (call_of p b) → drop k (leaves_in p s b) ≡ []
     by (inl (z, m)) =
         let body : List FlatItem = body_of p b.clause b.first in
         let e : k ≡ length body + (k - length body) = omega (arith, h, z) in

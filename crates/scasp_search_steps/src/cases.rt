@@ -29,6 +29,7 @@ fn be_void<M: Situation>(at: &mut M) -> Result<(), Memory>
 
 /// Whether a state comes of the case of the innermost cover, which begins: void where no valuation meets its context, and else
 /// its leaves.
+#[tactic(auto, using(crate::proofs::CaseLemmas::none_inside, crate::proofs::CaseLemmas::inside_asks, crate::proofs::CaseLemmas::inside_leaves, crate::proofs::CaseLemmas::inside_void))]
 fn cases_inside<M: Situation>(
     alloc: Global,
     program: &Program,
@@ -102,6 +103,7 @@ pub fn check_clause<M: Situation>(
 
 /// Whether a state comes of the end of the case of the innermost cover: its last remainder, whose first leaf is the present state and
 /// whose others wait, or its end.
+#[tactic(auto, using(crate::proofs::CaseLemmas::none_closed, crate::proofs::CaseLemmas::ended))]
 pub fn close_case<M: Situation>(
     alloc: Global,
     program: &Program,

@@ -30,6 +30,7 @@ fn try_choice<M: Situation>(
 
 /// Whether a state waits; the first that does is the present one then. Together with it the states that are still to be gone
 /// through are those that waited.
+#[tactic(auto, using(crate::proofs::StepLemmas::point_taken, crate::proofs::StepLemmas::one_fewer, crate::proofs::StepLemmas::none_taken, crate::proofs::StepLemmas::none_left))]
 pub fn resume<M: Situation>(alloc: Global, program: &Program, at: &mut M) -> Result<bool, Memory>
     ensures same { IfOk result (λ went. states program.now went (M.now at.new) (M.points at.new) ≡ waiting program.now (M.points at.old)) }
     ensures ended { IfOk result (λ went. went ≡ false → M.points at.new ≡ []) }

@@ -93,6 +93,7 @@ fn done<M: Situation>(
 
 /// Whether a state comes of the first task; the first is the present one then, and the others wait. Overflow only where a list
 /// that the step asks overflows.
+#[tactic(auto, using(crate::proofs::StepLemmas::task_done, crate::proofs::StepLemmas::no_task))]
 pub fn step<M: Situation>(alloc: Global, program: &Program, at: &mut M) -> Result<bool, SearchErr>
     ensures { Forks program.now (step program.now sat (M.now at.old)) (M.now at.new) (M.points at.new) (M.points at.old) result }
 {
