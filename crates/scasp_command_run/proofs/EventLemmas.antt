@@ -14,7 +14,8 @@ use Rattle.scasp_command_run.specs.Inside.Events.{GoesOn, IsAbout, IsGoing, Meet
 use Rattle.scasp_command_run.specs.Queries.{Meets, MayOverflow}
 use Rattle.scasp_command_run.specs.declared.events.Next.{Next}
 use Rattle.scasp_command_run.specs.declared.events.Next.TheVariants.{Answer, Passed, End}
-use Rattle.scasp_written.specs.Written.Rests.{IsSameRun, Opens, Rest, Tells, machine}
+use Rattle.scasp_search_walk.specs.Walks.{Tells}
+use Rattle.scasp_written.specs.Written.Rests.{IsSameRun, Opens, Rest, machine}
 use Rattle.scasp_search_rules.specs.declared.states.state.State.{State}
 use Rattle.scasp_search_rules.specs.Successors.Machine.{Outcome, answered}
 use Rattle.scasp_search_rules.specs.Successors.Problems.{Problem}

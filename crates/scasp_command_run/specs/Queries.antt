@@ -6,7 +6,8 @@ use Rattle.scasp_command_run.specs.Jobs.{Job}
 use Rattle.scasp_command_run.specs.Samples.{NamesSample}
 use Rattle.scasp_command_run.specs.declared.ends.QueryEnd.{QueryEnd}
 use Rattle.scasp_command_run.specs.declared.ends.QueryEnd.TheVariants.{Ended, Stopped, Spent, Overflow}
-use Rattle.scasp_written.specs.Written.Rests.{Allows, Opens, Rest, Tells, machine}
+use Rattle.scasp_search_walk.specs.Walks.{Allows, Tells}
+use Rattle.scasp_written.specs.Written.Rests.{Opens, Rest, machine}
 use Rattle.scasp_search_rules.specs.declared.states.state.State.{State}
 use Rattle.scasp_search_rules.specs.Successors.Machine.{Outcome, answered, ended, spent}
 use Rattle.scasp_syntax.specs.declared.clause.Query.{Query}

@@ -11,7 +11,8 @@ use Rattle.scasp_fill.specs.Finishing.Right.{Completes}
 use Rattle.scasp_fill.specs.declared.finishing.finishing.Finished.TheVariants as finished
 use Rattle.scasp_command_run.specs.Inside.Events.{IsAbout, IsGoing, MeetsNoAccepted}
 use Rattle.scasp_command_run.specs.Queries.{Meets}
-use Rattle.scasp_written.specs.Written.Rests.{IsSameRun, Opens, Rest, Tells, machine}
+use Rattle.scasp_search_walk.specs.Walks.{Tells}
+use Rattle.scasp_written.specs.Written.Rests.{IsSameRun, Opens, Rest, machine}
 use Rattle.scasp_search_rules.specs.Successors.Machine.{answered, ended, spent}
 use Rattle.scasp_syntax.specs.Programs.{numbered}
 use Rattle.scasp_syntax.specs.declared.clause.Query.{Query}

@@ -1,3 +1,4 @@
+pub mod AnswerLemmas
 pub mod PairLemmas
 pub mod SampleLemmas
 pub mod ValueLemmas

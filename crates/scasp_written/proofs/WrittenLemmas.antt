@@ -1,6 +1,4 @@
 pub mod FreeLemmas
-pub mod LaterLemmas
-pub mod ReachedLemmas
 pub mod StackLemmas
 pub mod TowerLemmas
 pub mod WalkLemmas

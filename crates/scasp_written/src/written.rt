@@ -8,4 +8,7 @@ mod start;
 mod walk;
 mod written;
 
-pub use written::{Event, Written};
+pub use free::answer;
+pub use goal::Goal;
+pub use start::start_of;
+pub use written::{Event, Written, goal_of};

@@ -11,7 +11,7 @@ use Rattle.scasp_syntax.specs.Tm.{Tm, Tms, num, app, nil, cons, items}
 use Rattle.scasp_syntax.specs.declared.con.Con.{Con}
 use Rattle.scasp_unify.specs.Numbers.{number_var}
 use Rattle.scasp_search_ends.specs.Ends.Inside.Values.{is_one_of, name_behind, value_at}
-use Rattle.scasp_search_ends.specs.Ends.Sampling.{point_for, sample, values_from}
+use Rattle.scasp_search_ends.specs.Ends.Sampling.{evaluated, point_for, sample, values_from}
 
 next : (is_number : ℕ → Bool) (point : List RatPair) (name x count : ℕ) → x < count
     → values_from is_number point name x (count - x) ≡ cons (value_at (is_number x) point name x) (values_from is_number point (name_behind (is_number x) name) (x + 1) (count - (x + 1)))
@@ -46,10 +46,10 @@ values-all is_number point name fresh x count made h i =
     items_inj made (values_from is_number point fresh 0 count)
     (sym (append-nil (items made)) ∙ ap (λ n. items made ++ items (values_from is_number point name x n)) (sym e) ∙ i)
 
--- they are the sample
+-- where the rows can be evaluated at them, they are the sample
 pub values-sample : (fresh count : ℕ) (cs : List Con) (numbers ns : List ℕ) (point p : List RatPair) (made : Tms) → Some point ≡ point_for cs → p ≡ point → ns ≡ numbers
-    → ((y : ℕ) → list_any (λ z. nat_eq z y) numbers ≡ number_var cs y) → made ≡ values_from (is_one_of ns) p fresh 0 count → Some made ≡ sample fresh cs count
+    → ((y : ℕ) → list_any (λ z. nat_eq z y) numbers ≡ number_var cs y) → made ≡ values_from (is_one_of ns) p fresh 0 count → evaluated cs made ≡ sample fresh cs count
 values-sample fresh count cs numbers ns point p made is e f h g =
     let test : is_one_of ns ≡ number_var cs = λ i y. (ap (λ zs. is_one_of zs y) f ∙ h y) i in
-    ap Some (g ∙ (λ i. values_from (test i) (e i) fresh 0 count))
-    ∙ ap (λ o. o >>= (λ point. Some (values_from (number_var cs) point fresh 0 count))) is
+    ap (evaluated cs) (g ∙ (λ i. values_from (test i) (e i) fresh 0 count))
+    ∙ ap (λ o. o >>= (λ point. evaluated cs (values_from (number_var cs) point fresh 0 count))) is

@@ -1,8 +1,7 @@
 -- The walk of the search, a state at a time.
-use Rattle.std.specs.Prelude.{◌≡◌, ◌⊎◌, ℕ, ◌+◌, ◌<◌, nat_eq, Bool, true, false, ◌&&◌, Option, Some, None, Result, Ok, Err, List, [], ◌∷◌, ◌++◌, option_map, refl}
+use Rattle.std.specs.Prelude.{◌≡◌, ◌⊎◌, ℕ, ◌+◌, ◌<◌, nat_eq, Bool, true, false, ◌&&◌, if◌then◌else◌, Option, Some, None, Result, Ok, Err, List, [], ◌∷◌, ◌++◌, option_map, refl}
 use Rattle.std.specs.List.{list_any}
 use Rattle.std.proofs.Common.{◌≢◌, inl, inr, arith, sym, ap, subst, ◌∙◌}
-use Rattle.std.proofs.lemmas.Bool.Decides.{nat_tests}
 use Rattle.scasp_search_constraints.specs.declared.assuming.step.SearchErr.{SearchErr}
 use Rattle.scasp_search_constraints.specs.declared.assuming.step.SearchErr.TheVariants as errors
 use Rattle.scasp_cert.specs.Certificate.{Certificate, certificate_of}
@@ -10,13 +9,15 @@ use Rattle.scasp_cert.specs.declared.certificate.Cert.{Cert}
 use Rattle.scasp_search_ends.specs.Ends.Ends.{Ends}
 use Rattle.scasp_hint.specs.Finding.{overflows_in}
 use Rattle.scasp_hint.specs.Satisfying.{sat}
-use Rattle.scasp_written.proofs.WrittenLemmas.LaterLemmas.{allows-later, tells-later}
-use Rattle.scasp_written.proofs.WrittenLemmas.ReachedLemmas.{allows-asked, allows-sample, reached-both, reached-step, tells-answer, tells-end, tells-spent}
+use Rattle.scasp_search_walk.proofs.LaterLemmas.{allows-later, tells-later}
+use Rattle.scasp_search_walk.proofs.ReachedLemmas.{allows-asked, allows-sample, reached-step, tells-answer, tells-end}
+use Rattle.scasp_search_walk.proofs.SliceLemmas.{room}
+use Rattle.scasp_search_walk.specs.Walks.{Allows, BeginsWithCall, Reached, Tells}
 use Rattle.scasp_written.specs.Written.Inside.Goals.{Finishes, Paid}
-use Rattle.scasp_written.specs.Written.Inside.Reached.{BeginsWithCall, Comes, IsLower, Meets, Passes, PutsBack, Reached}
+use Rattle.scasp_written.specs.Written.Inside.Reached.{Comes, IsLower, Meets, Passes, PutsBack}
 use Rattle.scasp_written.specs.Written.Inside.Stacks.{states_of}
 use Rattle.scasp_written.specs.declared.written.stack.Waiting.{Waiting}
-use Rattle.scasp_written.specs.Written.Rests.{Allows, Tells, machine, problem_in}
+use Rattle.scasp_written.specs.Written.Rests.{machine, problem_in}
 use Rattle.scasp_written.specs.declared.written.free.Ahead.{Ahead}
 use Rattle.scasp_written.specs.declared.written.free.Ahead.TheVariants as ahead
 use Rattle.scasp_written.specs.declared.written.goal.Goal.{Goal}
@@ -24,6 +25,7 @@ use Rattle.scasp_search_rules.specs.declared.states.state.State.{State}
 use Rattle.scasp_search_rules.specs.declared.states.tasks.Task.{Task}
 use Rattle.scasp_search_rules.specs.Successors.Machine.{Machine, answered, cost, ended, spent}
 use Rattle.scasp_search_rules.specs.Successors.Search.{answer_at, asked_by, pays, pays_for, step, step_at}
+use Rattle.scasp_search_rules.specs.Successors.Replacing.{close_overflows}
 
 pub not-so : (b : Bool) → b ≡ true → b ≡ false → ⊥
 not-so b t f = let wrong : true ≡ false = sym t ∙ f in absurd (cc wrong)
@@ -33,18 +35,28 @@ not-so b t f = let wrong : true ≡ false = sym t ∙ f in absurd (cc wrong)
 abbrev pub of : Goal → Machine State Certificate
 of g = machine (problem_in g) g.queried
 
-left-answers : (g : Goal) (s : State) (o : Option (Option Certificate)) → s.work ≡ [] → answer_at (problem_in g) s g.queried [] ≡ o → (of g).answer s ≡ o
+pub left-answers : (g : Goal) (s : State) (o : Option (Option Certificate)) → s.work ≡ [] → answer_at (problem_in g) s g.queried [] ≡ o → (of g).answer s ≡ o
 left-answers g s o e h = ap (answer_at (problem_in g) s g.queried) e ∙ h
 
 left-free : (g : Goal) (s : State) (after budget : ℕ) → s.work ≡ [] → ((of g).pays s && nat_eq after budget) ≡ false
 left-free g s after budget e = ap (λ work. pays_for s work && nat_eq after budget) e
 
-working : (g : Goal) (s : State) → s.work ≢ [] → (of g).answer s ≡ None
-working g s h = by s.work refl
+abbrev overflow_if : Bool → Option (Option Certificate)
+overflow_if b = if b then Some None else None
+
+pub working : (g : Goal) (s : State) → s.work ≢ [] → close_overflows s s.work ≡ false → (of g).answer s ≡ None
+working g s h o = by s.work refl
   where
     by : (work : List Task) → s.work ≡ work → answer_at (problem_in g) s g.queried work ≡ None
     by [] e = absurd (h e)
-    by (t ∷ ts) e = refl
+    by (t ∷ ts) e = ap overflow_if (ap (close_overflows s) (sym e) ∙ o)
+
+pub closing : (g : Goal) (s : State) → close_overflows s s.work ≡ true → (of g).answer s ≡ Some None
+closing g s o = by s.work refl
+  where
+    by : (work : List Task) → s.work ≡ work → answer_at (problem_in g) s g.queried work ≡ Some None
+    by [] e = absurd (not-so (close_overflows s s.work) o (ap (close_overflows s) e))
+    by (t ∷ ts) e = ap overflow_if (ap (close_overflows s) (sym e) ∙ o)
 
 free : (g : Goal) (s : State) (after budget : ℕ) → pays s ≡ false → ((of g).pays s && nat_eq after budget) ≡ false
 free g s after budget e = ap (λ b. b && nat_eq after budget) e
@@ -78,11 +90,16 @@ meets-overflow g budget calls s old rest new errors.Overflow r e h = by h
         allows-asked (of g) budget calls calls s old rest r (left-free g s calls budget e)
         (ap (λ work. list_any overflows_in (asked_by (problem_in g) s g.queried work)) e ∙ k)
 
+-- a case ends with a row that is not replaced
+pub meets-close : (g : Goal) (budget calls : ℕ) (s : State) (old rest new : List State) → Reached (of g) budget old calls (s ∷ rest) calls
+    → close_overflows s s.work ≡ true → Passes (of g) budget calls old new (Err errors.Overflow)
+meets-close g budget calls s old rest new r h = allows-sample (of g) budget calls calls s old rest r (closing g s h)
+
 -- a state that is no answer and costs nothing
-pub meets-free : (g : Goal) (budget calls : ℕ) (s : State) (old rest new : List State) → Reached (of g) budget old calls (s ∷ rest) calls → s.work ≢ [] → pays s ≡ false
-    → new ≡ (step g.program sat s).states ++ rest → Reached (of g) budget old calls new calls
-meets-free g budget calls s old rest new r h f e =
-    let next : Reached (of g) budget old calls ((of g).next s ++ rest) (calls + cost ((of g).pays s)) = reached-step (of g) budget calls calls s old rest r (working g s h) (free g s calls budget f) in
+pub meets-free : (g : Goal) (budget calls : ℕ) (s : State) (old rest new : List State) → Reached (of g) budget old calls (s ∷ rest) calls → s.work ≢ []
+    → close_overflows s s.work ≡ false → pays s ≡ false → new ≡ (step g.program sat s).states ++ rest → Reached (of g) budget old calls new calls
+meets-free g budget calls s old rest new r h o f e =
+    let next : Reached (of g) budget old calls ((of g).next s ++ rest) (calls + cost ((of g).pays s)) = reached-step (of g) budget calls calls s old rest r (working g s h o) (free g s calls budget f) in
     let spent : calls + cost ((of g).pays s) ≡ calls = ap (λ b. calls + cost b) f ∙ omega arith in
     subst (λ ss. Reached (of g) budget old calls ss calls) (sym e) (subst (λ c. Reached (of g) budget old calls ((of g).next s ++ rest) c) spent next)
 
@@ -99,11 +116,21 @@ free-overflow g budget calls s old rest new errors.Overflow r h f o =
         let there : asked_by (problem_in g) s g.queried s.work ≡ (step g.program sat s).asked = ap (asked_by (problem_in g) s g.queried) k in
         ap (list_any overflows_in) there ∙ o refl
 
+-- what a step asks is asked by its state
+pub asks-overflow : (g : Goal) (s : State) (work : List Task) → s.work ≡ work → list_any overflows_in (step g.program sat s).asked ≡ true
+    → list_any overflows_in (asked_by (problem_in g) s g.queried s.work) ≡ true
+asks-overflow g s [] e h =
+    let none : false ≡ true = sym (ap (λ work. list_any overflows_in (step_at g.program sat s work).asked) e) ∙ h in
+    absurd (cc none)
+asks-overflow g s (t ∷ ts) e h =
+    let there : asked_by (problem_in g) s g.queried s.work ≡ (step g.program sat s).asked = ap (asked_by (problem_in g) s g.queried) e in
+    ap (list_any overflows_in) there ∙ h
+
 -- a state that costs a call
-pub meets-call : (g : Goal) (budget calls : ℕ) (s : State) (old rest new : List State) → Reached (of g) budget old calls (s ∷ rest) calls → s.work ≢ [] → pays s ≡ true → new ≡ s ∷ rest
-    → Meets (of g) budget calls old new ahead.Pays
-meets-call g budget calls s old rest new r h f e =
-    subst (λ ss. Reached (of g) budget old calls ss calls × BeginsWithCall (of g) ss) (sym e) (r, (working g s h, f))
+pub meets-call : (g : Goal) (budget calls : ℕ) (s : State) (old rest new : List State) → Reached (of g) budget old calls (s ∷ rest) calls → s.work ≢ []
+    → close_overflows s s.work ≡ false → pays s ≡ true → new ≡ s ∷ rest → Meets (of g) budget calls old new ahead.Pays
+meets-call g budget calls s old rest new r h o f e =
+    subst (λ ss. Reached (of g) budget old calls ss calls × BeginsWithCall (of g) ss) (sym e) (r, (working g s h o, f))
 
 -- the state, which has nothing left to do
 pub passes-finished : (g : Goal) (budget calls : ℕ) (s : State) (old rest : List State) (o : Option Cert) (a : Option Ahead) → a ≡ option_map ahead.Answer o → s.work ≡ []
@@ -113,14 +140,14 @@ passes-finished g budget calls s old rest None a is e r h = subst (λ b. Passes 
 passes-finished g budget calls s old rest (Some cert) a is e r h = subst (λ b. Passes (of g) budget calls old rest (Ok b)) (sym is) (meets-answer g budget calls s old rest cert r e h)
 
 -- the state, which costs a call
-pub passes-back : (g : Goal) (budget calls : ℕ) (s : State) (old rest new : List State) (x : Result (Option Ahead) SearchErr) → Reached (of g) budget old calls (s ∷ rest) calls → s.work ≢ [] → pays s ≡ true
-    → PutsBack s rest new x → Passes (of g) budget calls old new x
-passes-back g budget calls s old rest new (Ok (Some (ahead.Answer cert))) r h f p = absurd p
-passes-back g budget calls s old rest new (Ok (Some ahead.Ended)) r h f p = absurd p
-passes-back g budget calls s old rest new (Ok (Some ahead.Pays)) r h f p = meets-call g budget calls s old rest new r h f p
-passes-back g budget calls s old rest new (Ok None) r h f p = absurd p
-passes-back g budget calls s old rest new (Err errors.Overflow) r h f p = absurd p
-passes-back g budget calls s old rest new (Err errors.Memory) r h f p = tt
+pub passes-back : (g : Goal) (budget calls : ℕ) (s : State) (old rest new : List State) (x : Result (Option Ahead) SearchErr) → Reached (of g) budget old calls (s ∷ rest) calls → s.work ≢ []
+    → close_overflows s s.work ≡ false → pays s ≡ true → PutsBack s rest new x → Passes (of g) budget calls old new x
+passes-back g budget calls s old rest new (Ok (Some (ahead.Answer cert))) r h o f p = absurd p
+passes-back g budget calls s old rest new (Ok (Some ahead.Ended)) r h o f p = absurd p
+passes-back g budget calls s old rest new (Ok (Some ahead.Pays)) r h o f p = meets-call g budget calls s old rest new r h o f p
+passes-back g budget calls s old rest new (Ok None) r h o f p = absurd p
+passes-back g budget calls s old rest new (Err errors.Overflow) r h o f p = absurd p
+passes-back g budget calls s old rest new (Err errors.Memory) r h o f p = tt
 
 pub lower-back : (s : State) (old new : List State) (before after : ℕ) (x : Result (Option Ahead) SearchErr) → PutsBack s old new x → IsLower before after x
 lower-back s old new before after (Ok (Some a)) p = tt
@@ -144,22 +171,6 @@ passed-comes m budget calls old new end errors.Overflow p = p
 passed-comes m budget calls old new end errors.Memory p = tt
 
 -- ---- steps that cost a call
-
--- the budget is spent
-pub spent-first : (m : Machine State Certificate) (budget calls after : ℕ) (old new : List State) → Reached m budget old calls new after → BeginsWithCall m new → after ≡ budget
-    → Tells m budget old calls spent after new
-spent-first m budget calls after old [] r b e = absurd b
-spent-first m budget calls after old (s ∷ rest) r b e = tells-spent m budget calls after s old rest r b.0 (over (m.pays s) b.1)
-  where
-    over : (p : Bool) → p ≡ true → (p && nat_eq after budget) ≡ true
-    over p h = let f : nat_eq after budget ≡ true = grind (arith, nat_tests, e) in rw h f
-
-room : (m : Machine State Certificate) (budget after : ℕ) (s : State) → after ≢ budget → (m.pays s && nat_eq after budget) ≡ false
-room m budget after s h = by (m.pays s)
-  where
-    by : (p : Bool) → (p && nat_eq after budget) ≡ false
-    by true = grind (arith, nat_tests, h)
-    by false = refl
 
 pub paid-reached : (m : Machine State Certificate) (budget calls after : ℕ) (old between new : List State) → Reached m budget old calls between after → BeginsWithCall m between → after ≢ budget
     → Paid m between new (Ok record {}) → Reached m budget old calls new (after + 1)

@@ -1,5 +1,4 @@
 -- Words for contracts of private functions.
-pub mod Analysed
 pub mod Goals
 pub mod Heights
 pub mod Reached

@@ -1,5 +1,5 @@
 -- What the search as an object has still to give.
-use Rattle.std.specs.Prelude.{◌≡◌, ◌⊎◌, ℕ, Bool, true, List, [], ◌∷◌, Option, None, Some, length, ⊤}
+use Rattle.std.specs.Prelude.{◌≡◌, ℕ, List, [], ◌∷◌, Option, None, Some, length, ⊤}
 use Rattle.std.specs.List.{list_any}
 use Rattle.scasp_search_constraints.specs.declared.assuming.step.SearchErr.{SearchErr}
 use Rattle.scasp_search_constraints.specs.declared.assuming.step.SearchErr.TheVariants as errors
@@ -15,8 +15,9 @@ use Rattle.scasp_written.specs.declared.written.written.Event.{Event}
 use Rattle.scasp_written.specs.declared.written.written.Event.TheVariants.{Answer, Ended, Spent, Overflow}
 use Rattle.scasp_written.specs.declared.written.written.Written.{Written}
 use Rattle.scasp_search_rules.specs.declared.states.state.State.{State}
-use Rattle.scasp_search_rules.specs.Successors.Machine.{Found, Finds, Machine, Outcome, answered, ended, spent, overflowed}
+use Rattle.scasp_search_rules.specs.Successors.Machine.{Machine, answered, ended, spent}
 use Rattle.scasp_search_rules.specs.Successors.Problems.{Problem}
+use Rattle.scasp_search_walk.specs.Walks.{Allows, Tells}
 use Rattle.scasp_search_rules.specs.Successors.Search.{answer_at, asked_by, pays, search_for, start, step}
 use Rattle.scasp_syntax.specs.declared.clause.Query.{Query}
 use Rattle.scasp_syntax.specs.declared.program.Program.{Program}
@@ -32,16 +33,6 @@ machine p queried = record {
 
 abbrev pub IsSearch : Type 0
 IsSearch = (p : Problem) (q : Query) → machine p (length q.names) ≡ search_for p q
-
--- From these states, with so many calls spent, this outcome comes first, with these calls and states behind it.
-abbrev pub Tells : {S A : Type 0} → Machine S A → ℕ → List S → ℕ → Outcome A → ℕ → List S → Type 0
-Tells {S} {A} m budget states calls outcome after rest =
-    (may : Bool) × Finds m budget states calls (record { event = outcome; calls = after; may = may; rest = rest })
-
--- An overflow is allowed: the first event is one, or tells that a list was asked that overflows.
-abbrev pub Allows : {S A : Type 0} → Machine S A → ℕ → List S → ℕ → Type 0
-Allows {S} {A} m budget states calls =
-    (found : Found S A) → Finds m budget states calls found → (found.event ≡ overflowed) ⊎ (found.may ≡ true)
 
 -- The rest of a run: what the search is about, how many variables its query has, the budget, the calls spent, and the states that are still
 -- to be gone through, the next one first.

@@ -2,7 +2,8 @@
 ghost use Rattle.std.specs.Prelude.{◌≡◌, ◌+◌, ◌∷◌, [], ℕ, List, option_map};
 ghost use Rattle.scasp_search_ends.specs.Ends.Ends.{Ends};
 ghost use Rattle.scasp_written.specs.Written.Inside.Heights.{height, total};
-ghost use Rattle.scasp_written.specs.Written.Inside.Reached.{Comes, IsLower, Passes, PutsBack, Reached};
+ghost use Rattle.scasp_search_walk.specs.Walks.{Reached};
+ghost use Rattle.scasp_written.specs.Written.Inside.Reached.{Comes, IsLower, Passes, PutsBack};
 ghost use Rattle.scasp_written.specs.Written.Inside.Stacks.{states_of};
 ghost use Rattle.scasp_written.specs.Written.Rests.{machine, problem_in};
 ghost use Rattle.scasp_search_rules.specs.declared.states.state.State.{State as ThisState};
@@ -13,7 +14,7 @@ use crate::written::goal::Goal;
 use crate::written::stack::{Waiting, push_free};
 use scasp_cert::Cert;
 use scasp_search_constraints::SearchErr;
-use scasp_search_ends::{About, answer_at};
+use scasp_search_ends::{About, answer_at, close_overflows};
 use scasp_search_rules::State;
 use std::alloc::Global;
 
@@ -28,8 +29,12 @@ pub(crate) enum Ahead {
     Ended,
 }
 
-/// The answer that the state, which has nothing left to do, is.
-fn answer(alloc: Global, goal: &Goal, state: &State) -> Result<Option<Cert>, SearchErr>
+/// The answer that the state, which has nothing left to do, is; none where two of its literals may be one.
+///
+/// # Errors
+///
+/// Overflow where the sample of the answer overflows, or a list that is asked about its literals; want of memory.
+pub fn answer(alloc: Global, goal: &Goal, state: &State) -> Result<Option<Cert>, SearchErr>
     ensures { Ends result (answer_at (problem_in goal.now) state.now goal.now.queried []) (asked_by (problem_in goal.now) state.now goal.now.queried []) }
 {
     let about = About {
@@ -68,7 +73,8 @@ fn put_back(waiting: Waiting, stack: &mut Vec<Waiting>) -> Result<Option<Ahead>,
     Ok(Some(Ahead::Pays))
 }
 
-/// Goes on from a state, which was taken from the stack: what stands ahead where it is an answer or costs a call.
+/// Goes on from a state, which was taken from the stack: what stands ahead where it is an answer or costs a call. Overflow
+/// where it ends a case with a row that the bindings cannot replace.
 fn pass(
     alloc: Global,
     goal: &Goal,
@@ -82,6 +88,9 @@ fn pass(
     if waiting.state.work.is_empty() {
         return finish(alloc, goal, &waiting.state);
     }
+    if close_overflows(alloc, &waiting.state)? {
+        return Err(SearchErr::Overflow);
+    }
     if pays(&waiting.state) {
         return put_back(waiting, stack);
     }
@@ -92,7 +101,7 @@ fn pass(
 }
 
 /// Goes on up to the next answer, the next state that costs a call, or the end. Overflow only where a list that is asked
-/// on the way overflows, or the sample of an answer.
+/// on the way overflows, the sample of an answer, or a replacement in a row.
 pub(crate) fn advance(
     alloc: Global,
     goal: &Goal,

@@ -52,7 +52,11 @@ fn bare(alloc: Global, work: Tasks) -> State
 }
 
 /// Where the search for answers to the query begins, with the clauses that are checked behind its items.
-pub(crate) fn start(alloc: Global, query: &Query, checks: &CheckItems) -> Result<State, Memory>
+///
+/// # Errors
+///
+/// Want of memory.
+pub fn start_of(alloc: Global, query: &Query, checks: &CheckItems) -> Result<State, Memory>
     ensures { IfOk result (λ state. state ≡ start query.now checks.now) }
 {
     let state = bare(alloc, all_work(alloc, query, checks)?);

@@ -1,10 +1,10 @@
 //! The search as an object that gives one event after the other.
 ghost use Rattle.std.specs.Prelude.{◌≡◌, ◌≤◌, IfOk, IsErr, Ok};
-ghost use Rattle.scasp_written.specs.Written.Inside.Analysed.{IsGoalOf};
+ghost use Rattle.scasp_written.specs.Written.Analysed.{IsGoalOf};
 
 use crate::written::goal::Goal;
 use crate::written::stack::Waiting;
-use crate::written::start::start;
+use crate::written::start::start_of;
 use crate::written::walk::first_event;
 use scasp_cert::Cert;
 use scasp_graph::analyse;
@@ -23,7 +23,7 @@ pub enum Event {
     Ended,
     /// The next cost would pass the budget.
     Spent,
-    /// A list of constraints, or a sample, whose arithmetic passes 128 bits.
+    /// A list of constraints, a row whose variables are replaced, or a sample, whose arithmetic passes 128 bits.
     Overflow,
 }
 
@@ -39,8 +39,13 @@ pub struct Written {
     ghost within: { calls ≤ budget },
 }
 
-/// The program with its checks and its map, for a query of so many variables.
-fn goal(
+/// The program with its checks and its map, for the query of this number, which has so many variables. `fresh` is the first name
+/// that the samples of answers may use.
+///
+/// # Errors
+///
+/// Want of memory.
+pub fn goal_of(
     alloc: Global,
     program: &Program,
     query: u64,
@@ -82,8 +87,8 @@ impl Written {
         let Some(asked) = program.query(query) else {
             unreachable!()
         };
-        let goal = goal(alloc, program, query, asked.names.len() as u64, fresh)?;
-        let state = start(alloc, asked, &goal.checks)?;
+        let goal = goal_of(alloc, program, query, asked.names.len() as u64, fresh)?;
+        let state = start_of(alloc, asked, &goal.checks)?;
         let mut waiting = Vec::new(alloc);
         waiting.push(Waiting { state, made: 0 })?;
         Ok(Written {

@@ -3,11 +3,11 @@ use Rattle.std.specs.Prelude.{◌≡◌, ℕ, true, None, List, [], ◌∷◌, �
 use Rattle.scasp_search_constraints.specs.declared.assuming.step.SearchErr.{SearchErr}
 use Rattle.scasp_search_constraints.specs.declared.assuming.step.SearchErr.TheVariants as errors
 use Rattle.scasp_cert.specs.Certificate.{Certificate, certificate_of}
-use Rattle.scasp_written.specs.Written.Rests.{Allows, Tells}
 use Rattle.scasp_written.specs.declared.written.written.Event.{Event}
 use Rattle.scasp_written.specs.declared.written.written.Event.TheVariants as event
 use Rattle.scasp_search_rules.specs.declared.states.state.State.{State}
 use Rattle.scasp_search_rules.specs.Successors.Machine.{Machine, answered, ended, spent}
+use Rattle.scasp_search_walk.specs.Walks.{Allows, Tells}
 
 -- an event of a walk; an overflow is one that it allows
 abbrev pub Finishes : Machine State Certificate → ℕ → ℕ → List State → ℕ → List State → Result Event SearchErr → Type 0

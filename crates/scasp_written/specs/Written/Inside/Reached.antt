@@ -1,25 +1,13 @@
 -- Parts of a walk.
-use Rattle.std.specs.Prelude.{◌≡◌, ◌⊎◌, ℕ, ◌+◌, ◌<◌, Bool, true, false, ◌||◌, Option, None, Some, List, [], ◌∷◌, Result, Ok, Err, ⊤}
+use Rattle.std.specs.Prelude.{◌≡◌, ℕ, ◌<◌, Option, None, Some, List, ◌∷◌, Result, Ok, Err, ⊤}
 use Rattle.scasp_search_constraints.specs.declared.assuming.step.SearchErr.{SearchErr}
 use Rattle.scasp_search_constraints.specs.declared.assuming.step.SearchErr.TheVariants as errors
 use Rattle.scasp_cert.specs.Certificate.{Certificate, certificate_of}
-use Rattle.scasp_written.specs.Written.Rests.{Allows, Tells}
 use Rattle.scasp_written.specs.declared.written.free.Ahead.{Ahead}
 use Rattle.scasp_written.specs.declared.written.free.Ahead.TheVariants as ahead
 use Rattle.scasp_search_rules.specs.declared.states.state.State.{State}
-use Rattle.scasp_search_rules.specs.Successors.Machine.{Machine, answered, ended, first_event}
-
--- A walk from the first states with so many calls goes on, after some steps, as one from the second; `may` is whether a state on the way
--- asks a list that overflows.
-pub record Reached {S A : Type 0} (m : Machine S A) (budget : ℕ) (old : List S) (calls : ℕ) (new : List S) (after : ℕ) : Type 0 where
-  pub steps : ℕ
-  pub may : Bool
-  pub same : (n : ℕ) (before : Bool) → first_event m budget (steps + n) old calls before ≡ first_event m budget n new after (before || may)
-
--- the first of the states costs a call
-abbrev pub BeginsWithCall : Machine State Certificate → List State → Type 0
-BeginsWithCall m [] = ⊥
-BeginsWithCall m (s ∷ ss) = (m.answer s ≡ None) × (m.pays s ≡ true)
+use Rattle.scasp_search_rules.specs.Successors.Machine.{Machine, answered, ended}
+use Rattle.scasp_search_walk.specs.Walks.{Allows, BeginsWithCall, Reached, Tells}
 
 -- what the steps that cost nothing come to
 abbrev pub Meets : Machine State Certificate → ℕ → ℕ → List State → List State → Ahead → Type 0

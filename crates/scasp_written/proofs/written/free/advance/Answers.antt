@@ -1,11 +1,12 @@
 use Rattle.std.proofs.Common.{◌≡◌, ◌+◌, ◌<◌, Ok, arith, subst}
 use Rattle.std.proofs.lemmas.List.{nil_from_length}
 use Rattle.std.proofs.lemmas.Result.{err_from_is_err_and}
-use Rattle.scasp_written.proofs.WrittenLemmas.ReachedLemmas.{reached-none}
+use Rattle.scasp_search_walk.proofs.ReachedLemmas.{reached-none}
 use Rattle.scasp_written.proofs.WrittenLemmas.StackLemmas.{states_popped, total_popped}
 use Rattle.scasp_written.proofs.WrittenLemmas.WalkLemmas.{passed-comes, tells-empty}
 use Rattle.scasp_written.specs.Written.Inside.Heights.{height, total}
-use Rattle.scasp_written.specs.Written.Inside.Reached.{IsLower, Passes, Reached}
+use Rattle.scasp_written.specs.Written.Inside.Reached.{IsLower, Passes}
+use Rattle.scasp_search_walk.specs.Walks.{Reached}
 use Rattle.scasp_written.specs.Written.Inside.Stacks.{states_of}
 use Rattle.scasp_written.specs.Written.Rests.{machine, problem_in}
 use Rattle.scasp_written.proofs.written.free.advance.Goals as goal

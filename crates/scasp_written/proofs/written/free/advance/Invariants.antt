@@ -1,6 +1,6 @@
 use Rattle.std.proofs.Common.{ℕ}
 use Rattle.scasp_written.specs.Written.Inside.Heights.{total}
-use Rattle.scasp_written.specs.Written.Inside.Reached.{Reached}
+use Rattle.scasp_search_walk.specs.Walks.{Reached}
 use Rattle.scasp_written.specs.Written.Inside.Stacks.{states_of}
 use Rattle.scasp_written.specs.Written.Rests.{machine, problem_in}
 use Rattle.scasp_written.proofs.written.free.advance.Given as goal

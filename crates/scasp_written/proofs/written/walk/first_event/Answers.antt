@@ -1,10 +1,12 @@
 use Rattle.std.proofs.Common.{◌≡◌, ◌+◌, ◌≤◌, arith, subst}
 use Rattle.std.proofs.lemmas.Result.{err_from_is_err_and}
 use Rattle.scasp_cert.specs.Certificate.{certificate_of}
-use Rattle.scasp_written.proofs.WrittenLemmas.LaterLemmas.{tells-later}
-use Rattle.scasp_written.proofs.WrittenLemmas.ReachedLemmas.{reached-both, reached-none}
-use Rattle.scasp_written.proofs.WrittenLemmas.WalkLemmas.{comes-later, paid-overflow, paid-reached, spent-first}
-use Rattle.scasp_written.specs.Written.Inside.Reached.{Meets, Reached}
+use Rattle.scasp_search_walk.proofs.LaterLemmas.{tells-later}
+use Rattle.scasp_search_walk.proofs.ReachedLemmas.{reached-both, reached-none}
+use Rattle.scasp_written.proofs.WrittenLemmas.WalkLemmas.{comes-later, paid-overflow, paid-reached}
+use Rattle.scasp_search_walk.proofs.SliceLemmas.{spent-first}
+use Rattle.scasp_written.specs.Written.Inside.Reached.{Meets}
+use Rattle.scasp_search_walk.specs.Walks.{Reached}
 use Rattle.scasp_written.specs.Written.Inside.Stacks.{states_of}
 use Rattle.scasp_written.specs.Written.Rests.{machine, problem_in}
 use Rattle.scasp_search_rules.specs.Successors.Machine.{answered, ended}

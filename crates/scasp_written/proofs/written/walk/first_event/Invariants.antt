@@ -1,5 +1,5 @@
 use Rattle.std.proofs.Common.{◌≤◌, ◌-◌}
-use Rattle.scasp_written.specs.Written.Inside.Reached.{Reached}
+use Rattle.scasp_search_walk.specs.Walks.{Reached}
 use Rattle.scasp_written.specs.Written.Inside.Stacks.{states_of}
 use Rattle.scasp_written.specs.Written.Rests.{machine, problem_in}
 use Rattle.scasp_written.proofs.written.walk.first_event.Given as goal

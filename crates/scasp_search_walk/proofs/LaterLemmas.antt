@@ -1,10 +1,9 @@
 -- What is told, or allowed, from states that a walk has reached is so from those where it began.
 use Rattle.std.specs.Prelude.{◌≡◌, ◌⊎◌, ℕ, ◌+◌, zero, suc, nat_eq, Bool, true, false, ◌&&◌, ◌||◌, Option, Some, None, List, [], ◌∷◌, ◌++◌, option_map, refl}
-use Rattle.std.proofs.Common.{inl, inr, arith, sym, ap, subst, ◌∙◌}
-use Rattle.scasp_search_rules.specs.Successors.Machine.{Machine, Found, Finds, Outcome, answered, ended, spent, overflowed, outcome_of, behind, first_event, pick, cost}
-use Rattle.scasp_written.proofs.WrittenLemmas.ReachedLemmas.{found-there, or-assoc, or-false, or-true}
-use Rattle.scasp_written.specs.Written.Inside.Reached.{Reached}
-use Rattle.scasp_written.specs.Written.Rests.{Allows, Tells}
+use Rattle.std.proofs.Common.{inl, inr, sym, ap, ◌∙◌}
+use Rattle.scasp_search_rules.specs.Successors.Machine.{Machine, Found, Finds, Outcome, spent, overflowed, outcome_of, behind, first_event, pick, cost}
+use Rattle.scasp_search_walk.proofs.ReachedLemmas.{found-there, or-assoc, or-false, or-true}
+use Rattle.scasp_search_walk.specs.Walks.{Allows, Reached, Tells}
 
 -- what was asked before is told too
 abbrev with_may : {S A : Type 0} → Bool → Found S A → Found S A
@@ -52,14 +51,28 @@ found-before : {S A : Type 0} (may : Bool) (o : Option (Found S A)) (found : Fou
 found-before may None found e = absurd (cc e)
 found-before may (Some f) found e = (f, refl, let same : with_may may f ≡ found = cc e in same)
 
+-- the first event, from the states that were reached, with the same calls
+found-between : {S A : Type 0} (m : Machine S A) (budget calls middle : ℕ) (old between : List S) (found : Found S A) (r : Reached m budget old calls between middle)
+    → (f : Finds m budget old calls found)
+    → (g : Found S A) × (first_event m budget (f.0 + 1) between middle false ≡ Some g) × (with_may r.may g ≡ found)
+found-between m budget calls middle old between found r f =
+    found-before r.may (first_event m budget (f.0 + 1) between middle false) found
+    (sym (there m budget (f.0 + 1) middle between r.may) ∙ found-there m budget calls middle old between found r f)
+
 pub allows-later : {S A : Type 0} (m : Machine S A) (budget calls middle : ℕ) (old between : List S)
     → Reached m budget old calls between middle → Allows m budget between middle → Allows m budget old calls
 allows-later {S} {A} m budget calls middle old between r allows found f = by (allows g.0 (f.0 + 1, g.1))
   where
     g : (h : Found S A) × (first_event m budget (f.0 + 1) between middle false ≡ Some h) × (with_may r.may h ≡ found)
-    g = found-before r.may (first_event m budget (f.0 + 1) between middle false) found
-        (sym (there m budget (f.0 + 1) middle between r.may) ∙ found-there m budget calls middle old between found r f)
+    g = found-between m budget calls middle old between found r f
 
     by : (g.0.event ≡ overflowed) ⊎ (g.0.may ≡ true) → (found.event ≡ overflowed) ⊎ (found.may ≡ true)
     by (inl h) = inl (sym (ap (λ k. k.event) g.2) ∙ h)
     by (inr h) = inr (sym (ap (λ k. k.may) g.2) ∙ ap (λ b. r.may || b) h ∙ or-true r.may)
+
+-- the first event behind a part of a walk has the calls of the first event of all
+pub found-later : {S A : Type 0} (m : Machine S A) (budget calls middle : ℕ) (old between : List S) (found : Found S A)
+    → Reached m budget old calls between middle → Finds m budget old calls found → (g : Found S A) × Finds m budget between middle g × (g.calls ≡ found.calls)
+found-later m budget calls middle old between found r f =
+    let g = found-between m budget calls middle old between found r f in
+    (g.0, (f.0 + 1, g.1), ap (λ k. k.calls) g.2)

@@ -1,9 +1,8 @@
 -- Parts of walks, one behind the other.
-use Rattle.std.specs.Prelude.{◌≡◌, ◌⊎◌, ℕ, ◌+◌, zero, suc, nat_eq, Bool, true, false, ◌&&◌, ◌||◌, Option, Some, None, List, [], ◌∷◌, ◌++◌, refl}
-use Rattle.std.proofs.Common.{inl, inr, arith, sym, ap, subst, ◌∙◌}
+use Rattle.std.specs.Prelude.{◌≡◌, ℕ, ◌+◌, zero, suc, nat_eq, Bool, true, false, ◌&&◌, ◌||◌, Option, Some, None, List, [], ◌∷◌, ◌++◌, refl}
+use Rattle.std.proofs.Common.{inl, inr, arith, sym, ap, ◌∙◌}
 use Rattle.scasp_search_rules.specs.Successors.Machine.{Machine, Found, Finds, Outcome, answered, ended, spent, overflowed, outcome_of, behind, first_event, pick, cost}
-use Rattle.scasp_written.specs.Written.Inside.Reached.{Reached}
-use Rattle.scasp_written.specs.Written.Rests.{Allows, Tells}
+use Rattle.scasp_search_walk.specs.Walks.{Allows, Reached, Tells}
 
 pub or-assoc : (a b c : Bool) → ((a || b) || c) ≡ (a || (b || c))
 or-assoc true b c = refl
@@ -17,7 +16,7 @@ one-more : (n k : ℕ) → (n + 1) + k ≡ n + suc k
 one-more n k = omega arith
 
 -- a state that is no answer, and for whose cost there is room
-step : {S A : Type 0} (m : Machine S A) (budget n calls : ℕ) (s : S) (states : List S) (may : Bool) → m.answer s ≡ None
+pub step : {S A : Type 0} (m : Machine S A) (budget n calls : ℕ) (s : S) (states : List S) (may : Bool) → m.answer s ≡ None
     → (m.pays s && nat_eq calls budget) ≡ false
     → first_event m budget (suc n) (s ∷ states) calls may ≡ first_event m budget n (m.next s ++ states) (calls + cost (m.pays s)) (may || m.asks s)
 unfolding first_event
