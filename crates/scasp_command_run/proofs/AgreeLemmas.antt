@@ -2,7 +2,7 @@
 use Rattle.std.proofs.Common.{◌≡◌, ◌≢◌, ◌∙◌, ℕ, List, [], ◌∷◌, Option, None, Some, refl, ap, sym, subst}
 use Rattle.scasp_cert.specs.Certificate.{Certificate}
 use Rattle.scasp_cert.specs.Skeleton.{skeleton}
-use Rattle.scasp_fill.specs.Finish.Right.{Completes, HasNoAccepted}
+use Rattle.scasp_fill.specs.Finishing.Right.{Completes, HasNoAccepted}
 use Rattle.scasp_command_run.specs.Agreeing.{RunsAgree, skeletons}
 use Rattle.scasp_command_run.specs.Queries.{Meets, MayOverflow, Printed, Prints, fewer, ends, is_cut, is_spent, overflows, passes, prints, stops}
 use Rattle.scasp_command_run.specs.Samples.{NamesSample}

@@ -4,7 +4,7 @@ use Rattle.std.specs.List.{list_all, list_any}
 use Rattle.std.proofs.lemmas.List.Folds.{list_any-append}
 use Rattle.scasp_cert.specs.Certificate.{Certificate}
 use Rattle.scasp_search_ends.specs.Ends.Sampling.{point_for, sample, values_from}
-use Rattle.scasp_fill.specs.Finish.Finishes.{ArePairsApart, HasOverflow}
+use Rattle.scasp_fill.specs.Finishing.Finishes.{ArePairsApart, HasOverflow}
 use Rattle.scasp_hint.specs.Finding.{overflows_in}
 use Rattle.scasp_hint.specs.Satisfying.{sat}
 use Rattle.scasp_num.specs.Arithmetic.{◌>>=◌}

@@ -1,11 +1,11 @@
 -- What a search comes to, by the events that it tells.
 use Rattle.std.proofs.Common.{◌≡◌, ◌∙◌, ℕ, List, Option, refl, ap, sym, subst}
-use Rattle.scasp_search_constraints.specs.declared.assume.step.SearchErr.{SearchErr}
+use Rattle.scasp_search_constraints.specs.declared.assuming.step.SearchErr.{SearchErr}
 use Rattle.scasp_cert.specs.Certificate.{Certificate}
 use Rattle.scasp_search_ends.specs.Ends.Ends.{problem}
-use Rattle.scasp_fill.specs.Finish.Finishes.{Finishes, IsSearched}
-use Rattle.scasp_fill.specs.Finish.Right.{Completes}
-use Rattle.scasp_fill.specs.declared.finish.finishing.Finished.TheVariants as finished
+use Rattle.scasp_fill.specs.Finishing.Finishes.{Finishes, IsSearched}
+use Rattle.scasp_fill.specs.Finishing.Right.{Completes}
+use Rattle.scasp_fill.specs.declared.finishing.finishing.Finished.TheVariants as finished
 use Rattle.scasp_nmr.specs.Checks.{checks_of}
 use Rattle.scasp_law_outcomes.proofs.Walking.{answers-keep-map}
 use Rattle.scasp_law_outcomes.specs.Giving.{at_once, later}

@@ -4,7 +4,7 @@ use Rattle.std.proofs.lemmas.Bool.{lt-ltb}
 use Rattle.std.specs.Prelude.{IfSome, IsSome, option_map}
 use Rattle.std.proofs.lemmas.List.{append-nil, append_assoc}
 use Rattle.scasp_cert.specs.Certificate.{Certificate}
-use Rattle.scasp_fill.specs.Finish.Right.{Completes}
+use Rattle.scasp_fill.specs.Finishing.Right.{Completes}
 use Rattle.scasp_io.specs.Bytes.{behind}
 use Rattle.scasp_io.specs.Taken.{Writes}
 use Rattle.scasp_io.specs.declared.errors.OutputErr.{OutputErr}

@@ -1,7 +1,7 @@
 -- The run of a query: the answers that are printed for it, and how it ends.
 use Rattle.std.specs.Prelude.{◌≡◌, ◌≢◌, ℕ, ◌-◌, List, [], ◌∷◌, length, Option, None, Some}
 use Rattle.scasp_cert.specs.Certificate.{Certificate}
-use Rattle.scasp_fill.specs.Finish.Right.{Completes, HasNoAccepted}
+use Rattle.scasp_fill.specs.Finishing.Right.{Completes, HasNoAccepted}
 use Rattle.scasp_command_run.specs.Jobs.{Job}
 use Rattle.scasp_command_run.specs.Samples.{NamesSample}
 use Rattle.scasp_command_run.specs.declared.ends.QueryEnd.{QueryEnd}

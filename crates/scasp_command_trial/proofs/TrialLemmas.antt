@@ -1,14 +1,14 @@
 -- What a trial comes to, by the events of the search.
 use Rattle.std.proofs.Common.{◌≡◌, ℕ, Option, None, Some, IfSome, IsSome, Result, Ok, Err, IfOk, refl, sym, subst}
-use Rattle.scasp_search_constraints.specs.declared.assume.step.SearchErr.{SearchErr}
+use Rattle.scasp_search_constraints.specs.declared.assuming.step.SearchErr.{SearchErr}
 use Rattle.scasp_cert.specs.Certificate.{Certificate}
 use Rattle.scasp_cert.specs.Flat.{is_flat}
 use Rattle.scasp_cert.specs.Lines.{all_lines}
 use Rattle.scasp_command_run.proofs.EventLemmas.{about-opened, meets-event, overflow-comes, passed-comes}
 use Rattle.scasp_command_run.proofs.QueryLemmas.{some-known, some-more}
-use Rattle.scasp_fill.specs.Finish.Finishes.{Finishes}
-use Rattle.scasp_fill.specs.Finish.Right.{Completes}
-use Rattle.scasp_fill.specs.declared.finish.finishing.Finished.TheVariants as finished
+use Rattle.scasp_fill.specs.Finishing.Finishes.{Finishes}
+use Rattle.scasp_fill.specs.Finishing.Right.{Completes}
+use Rattle.scasp_fill.specs.declared.finishing.finishing.Finished.TheVariants as finished
 use Rattle.scasp_command_run.specs.Inside.Events.{IsAbout, IsGoing, MeetsNoAccepted}
 use Rattle.scasp_command_run.specs.Queries.{Meets}
 use Rattle.scasp_written.specs.Written.Rests.{IsSameRun, Opens, Rest, Tells, machine}

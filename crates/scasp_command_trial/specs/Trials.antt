@@ -3,7 +3,7 @@ use Rattle.std.specs.Prelude.{◌≡◌, ℕ, Option, None, Some}
 use Rattle.scasp_cert.specs.Certificate.{Certificate}
 use Rattle.scasp_cert.specs.Flat.{is_flat}
 use Rattle.scasp_cert.specs.Lines.{all_lines}
-use Rattle.scasp_fill.specs.Finish.Right.{Completes, HasNoAccepted}
+use Rattle.scasp_fill.specs.Finishing.Right.{Completes, HasNoAccepted}
 use Rattle.scasp_command_run.specs.Queries.{Meets, MayOverflow}
 use Rattle.scasp_written.specs.Written.Rests.{Opens, Rest}
 use Rattle.scasp_search_rules.specs.Successors.Machine.{answered, ended, spent}

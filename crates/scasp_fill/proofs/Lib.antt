@@ -1,2 +1,2 @@
 pub mod FillingLemmas
-pub mod FinishLemmas
+pub mod FinishingLemmas

@@ -2,7 +2,7 @@
 #![tactic(auto)]
 
 pub mod filling;
-mod finish;
+mod finishing;
 
 pub use filling::{Filled, fill};
-pub use finish::{Finished, finish};
+pub use finishing::{Finished, finish};

@@ -1,2 +1,2 @@
-pub mod AssumeLemmas
+pub mod AssumingLemmas
 pub mod EquateLemmas

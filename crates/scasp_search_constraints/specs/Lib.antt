@@ -1,2 +1,2 @@
-pub mod Assume
+pub mod Assuming
 pub mod Equate

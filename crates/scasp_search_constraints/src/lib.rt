@@ -1,11 +1,8 @@
 //! Constraints that are assumed in states of the search, and terms that are to be equal or apart.
 #![tactic(auto)]
 
-mod assume;
+mod assuming;
 mod equate;
 
-pub use assume::{SearchErr, States, among, assume, assume_all, is_general, passes};
-pub use equate::{
-    FirstPair, differ_terms, differ_value, equate_terms, equations, equations_of, joined,
-    number_tasks, occurs_among, one_task, same_shape, same_value, split_first,
-};
+pub use assuming::{SearchErr, States, among, assume, assume_all, is_general, passes};
+pub use equate::{differ_terms, differ_value, equate_terms, equations, same_shape, same_value};

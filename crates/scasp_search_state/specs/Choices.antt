@@ -2,8 +2,8 @@
 use Rattle.std.specs.Prelude.{◌≡◌, ℕ, ◌+◌, Bool, true, false, Option, None, Some, List, [], ◌∷◌, ◌++◌, drop, map, Result, Ok, Err, ⊤}
 use Rattle.std.specs.List.{flat_map, list_any}
 use Rattle.scasp_hint.specs.Finding.{overflows_in}
-use Rattle.scasp_search_constraints.specs.declared.assume.step.SearchErr.{SearchErr}
-use Rattle.scasp_search_constraints.specs.declared.assume.step.SearchErr.TheVariants as errors
+use Rattle.scasp_search_constraints.specs.declared.assuming.step.SearchErr.{SearchErr}
+use Rattle.scasp_search_constraints.specs.declared.assuming.step.SearchErr.TheVariants as errors
 use Rattle.scasp_search_rules.specs.declared.states.covers.Cover.{Cover}
 use Rattle.scasp_search_rules.specs.declared.states.state.State.{State}
 use Rattle.scasp_search_rules.specs.declared.states.tasks.Task.{Task}
@@ -70,8 +70,7 @@ Forked p states now new old false = (states ≡ []) × (new ≡ old)
 
 -- the same of a step; an overflow is answered only where a list that the step asks overflows
 abbrev pub Forks : Program → Step → State → List Point → List Point → Result Bool SearchErr → Type 0
-Forks p step now new old (Ok true) = now ∷ waiting p new ≡ step.states ++ waiting p old
-Forks p step now new old (Ok false) = (step.states ≡ []) × (new ≡ old)
+Forks p step now new old (Ok went) = Forked p step.states now new old went
 Forks p step now new old (Err errors.Overflow) = list_any overflows_in step.asked ≡ true
 Forks p step now new old (Err errors.Memory) = ⊤
 

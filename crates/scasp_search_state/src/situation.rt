@@ -1,7 +1,7 @@
 //! A state that is changed in place.
 ghost use Rattle.std.specs.Prelude.{◌≡◌, ◌∷◌, ◌++◌, [], List, IfOk, OnOk, false, filter, length, map};
 ghost use Rattle.scasp_hint.specs.Satisfying.{sat};
-ghost use Rattle.scasp_search_constraints.specs.Assume.Taken.{Gives};
+ghost use Rattle.scasp_search_constraints.specs.Assuming.Taken.{Gives};
 ghost use Rattle.scasp_search_rules.specs.Successors.Assumptions.{as_read, asked_for, status};
 ghost use Rattle.scasp_search_rules.specs.Successors.Calls.{ancestors, can_be_seen, differing, head_args, leave_literal, marked, nearest, opposites, with_literal};
 ghost use Rattle.scasp_search_rules.specs.Successors.Cases.{failing_at};

@@ -3,9 +3,9 @@ use Rattle.std.specs.Prelude.{◌≡◌, ℕ, true, not, Some, List, [], ◌++�
 use Rattle.std.specs.List.{list_all, list_any}
 use Rattle.std.proofs.Common.{◌∙◌, refl, ap}
 use Rattle.scasp_cert.specs.Certificate.{Certificate}
-use Rattle.scasp_fill.specs.Finish.Finishes.{IsSearched, Finishes}
-use Rattle.scasp_fill.specs.declared.finish.finishing.Finished.{Finished}
-use Rattle.scasp_fill.specs.declared.finish.finishing.Finished.TheVariants.{Answer, Passed, Overflow}
+use Rattle.scasp_fill.specs.Finishing.Finishes.{IsSearched, Finishes}
+use Rattle.scasp_fill.specs.declared.finishing.finishing.Finished.{Finished}
+use Rattle.scasp_fill.specs.declared.finishing.finishing.Finished.TheVariants.{Answer, Passed, Overflow}
 use Rattle.scasp_graph.specs.Map.{MapHolds}
 use Rattle.scasp_graph.specs.declared.analysis.Analysis.{Analysis}
 use Rattle.scasp_hint.specs.Finding.{overflows_in}

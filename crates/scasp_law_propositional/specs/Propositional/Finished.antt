@@ -2,9 +2,9 @@
 use Rattle.std.specs.Prelude.{◌≡◌, ℕ, IsTrue, Some}
 use Rattle.scasp_cert.specs.Certificate.{Certificate}
 use Rattle.scasp_cert.specs.declared.certificate.Cert.{Cert}
-use Rattle.scasp_fill.specs.Finish.Finishes.{Finishes}
-use Rattle.scasp_fill.specs.declared.finish.finishing.Finished.{Finished}
-use Rattle.scasp_fill.specs.declared.finish.finishing.Finished.TheVariants.{Answer}
+use Rattle.scasp_fill.specs.Finishing.Finishes.{Finishes}
+use Rattle.scasp_fill.specs.declared.finishing.finishing.Finished.{Finished}
+use Rattle.scasp_fill.specs.declared.finishing.finishing.Finished.TheVariants.{Answer}
 use Rattle.scasp_graph.specs.declared.analysis.Analysis.{Analysis}
 use Rattle.scasp_law_outcomes.specs.Problems.{IsAnalysed, IsAnswer}
 use Rattle.scasp_law_propositional.specs.Propositional.Problems.{HasTests}

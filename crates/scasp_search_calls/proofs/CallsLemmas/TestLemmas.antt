@@ -1,8 +1,8 @@
 -- Tests by whether they have universal variables.
 use Rattle.std.specs.Prelude.{◌≡◌, Bool, true, false, not, if◌then◌else◌, Option, Result, [], ◌∷◌, ◌++◌, refl}
 use Rattle.std.proofs.Common.{sym, subst, ◌∙◌}
-use Rattle.scasp_search_constraints.specs.Assume.Taken.{Takes}
-use Rattle.scasp_search_constraints.specs.declared.assume.step.SearchErr.{SearchErr}
+use Rattle.scasp_search_constraints.specs.Assuming.Taken.{Takes}
+use Rattle.scasp_search_constraints.specs.declared.assuming.step.SearchErr.{SearchErr}
 use Rattle.scasp_search_calls.specs.Calls.Inside.Assumed.{is_assumed}
 use Rattle.scasp_hint.specs.Satisfying.{sat}
 use Rattle.scasp_num.specs.Linear.{Linear}

@@ -1,8 +1,8 @@
 -- The end of a case reads the same with and without its cover.
 use Rattle.std.specs.Prelude.{◌≡◌, ℕ, suc, Option, Some, None, Result, List, [], ◌∷◌, ◌++◌, map, refl}
 use Rattle.std.proofs.Common.{sym, ap, subst, ◌∙◌}
-use Rattle.scasp_search_constraints.specs.Assume.Taken.{TakesAll}
-use Rattle.scasp_search_constraints.specs.declared.assume.step.SearchErr.{SearchErr}
+use Rattle.scasp_search_constraints.specs.Assuming.Taken.{TakesAll}
+use Rattle.scasp_search_constraints.specs.declared.assuming.step.SearchErr.{SearchErr}
 use Rattle.scasp_search_calls.specs.Cases.Inside.Innermost.{cases_inside, ended_by, resumed}
 use Rattle.scasp_hint.specs.Satisfying.{sat}
 use Rattle.scasp_search_rules.specs.declared.states.covers.Cover.{Cover}

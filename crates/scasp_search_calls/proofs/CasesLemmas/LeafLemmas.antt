@@ -2,8 +2,8 @@
 use Rattle.std.specs.Prelude.{◌≡◌, ℕ, zero, suc, ◌+◌, ◌<◌, Bool, Some, Result, List, [], ◌∷◌, ◌++◌, length, map, slice_get, take}
 use Rattle.std.proofs.Common.{arith, sym, ap, subst, get_or, ◌∙◌}
 use Rattle.std.proofs.lemmas.List.{map-append}
-use Rattle.scasp_search_constraints.specs.Assume.Taken.{TakesAll}
-use Rattle.scasp_search_constraints.specs.declared.assume.step.SearchErr.{SearchErr}
+use Rattle.scasp_search_constraints.specs.Assuming.Taken.{TakesAll}
+use Rattle.scasp_search_constraints.specs.declared.assuming.step.SearchErr.{SearchErr}
 use Rattle.scasp_search_calls.specs.Cases.Inside.Innermost.{cases_inside}
 use Rattle.scasp_hint.specs.Satisfying.{sat}
 use Rattle.scasp_search_rules.specs.declared.states.covers.Cover.{Cover}

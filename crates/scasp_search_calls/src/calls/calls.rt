@@ -1,6 +1,6 @@
 //! Calls of literals.
 ghost use Rattle.std.specs.Prelude.{◌≡◌, ◌∷◌, [], IfOk, filter};
-ghost use Rattle.scasp_search_constraints.specs.Assume.Taken.{TakesAll};
+ghost use Rattle.scasp_search_constraints.specs.Assuming.Taken.{TakesAll};
 ghost use Rattle.scasp_hint.specs.Satisfying.{sat};
 ghost use Rattle.scasp_search_rules.specs.Successors.Calls.{call, can_be_seen, unrepeated};
 ghost use Rattle.scasp_search_rules.specs.Successors.Items.{with_line};

@@ -1,6 +1,6 @@
 //! Tests that are to be true.
 ghost use Rattle.std.specs.Prelude.{◌≡◌, ◌++◌, ◌∷◌, [], IfOk, true};
-ghost use Rattle.scasp_search_constraints.specs.Assume.Taken.{Takes};
+ghost use Rattle.scasp_search_constraints.specs.Assuming.Taken.{Takes};
 ghost use Rattle.scasp_search_calls.specs.Calls.Inside.Assumed.{is_assumed};
 ghost use Rattle.scasp_hint.specs.Satisfying.{sat};
 ghost use Rattle.scasp_search_rules.specs.Successors.Assumptions.{assume_all};

@@ -1,6 +1,6 @@
 //! Covers that are put on the stack.
 ghost use Rattle.std.specs.Prelude.{◌≡◌, ◌+◌, [], IfOk, filter, nat_eq, not, slice_set, ◌&&◌, length};
-ghost use Rattle.scasp_search_constraints.specs.Assume.Taken.{TakesAll};
+ghost use Rattle.scasp_search_constraints.specs.Assuming.Taken.{TakesAll};
 ghost use Rattle.scasp_hint.specs.Satisfying.{sat};
 ghost use Rattle.scasp_search_rules.specs.Successors.Calls.{head_args, vars_of_clause};
 ghost use Rattle.scasp_search_rules.specs.Successors.Cases.{begin_cases, check_clause, cover_for, unbound_of, universals_at, with_cover};

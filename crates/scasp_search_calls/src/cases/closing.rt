@@ -1,6 +1,6 @@
 //! The end of a case, of its cover, or its last remainder.
 ghost use Rattle.std.specs.Prelude.{◌≡◌, ◌++◌, ◌∷◌, [], ◌+◌, IfOk, MatchOption};
-ghost use Rattle.scasp_search_constraints.specs.Assume.Taken.{TakesAll};
+ghost use Rattle.scasp_search_constraints.specs.Assuming.Taken.{TakesAll};
 ghost use Rattle.scasp_search_calls.specs.Cases.Inside.Innermost.{ended_by, resumed};
 ghost use Rattle.scasp_hint.specs.Satisfying.{sat};
 ghost use Rattle.scasp_search_rules.specs.Successors.Cases.{after_case, close_case, remaining, replaced_now};

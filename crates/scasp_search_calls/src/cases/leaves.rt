@@ -1,6 +1,6 @@
 //! The alternatives of a case.
 ghost use Rattle.std.specs.Prelude.{◌≡◌, ◌++◌, ◌∷◌, ◌<◌, [], IfOk, OnOk, length, map};
-ghost use Rattle.scasp_search_constraints.specs.Assume.Taken.{TakesAll};
+ghost use Rattle.scasp_search_constraints.specs.Assuming.Taken.{TakesAll};
 ghost use Rattle.scasp_search_calls.specs.Cases.Inside.Innermost.{cases_inside};
 ghost use Rattle.scasp_hint.specs.Satisfying.{sat};
 ghost use Rattle.scasp_search_rules.specs.Successors.Cases.{cases_where, failing_at, head_call, leaf_at, leaves, with_head, with_items};

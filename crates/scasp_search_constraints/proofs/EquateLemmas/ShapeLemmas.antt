@@ -17,8 +17,8 @@ use Rattle.scasp_syntax.specs.declared.con.Con.{Con}
 use Rattle.scasp_syntax.specs.declared.con.Con.TheVariants as con
 use Rattle.scasp_unify.specs.Negations.{new_parts}
 use Rattle.scasp_unify.specs.Parts.{occurs_among}
-use Rattle.scasp_search_constraints.specs.Assume.Taken.{Takes, TakesAll}
-use Rattle.scasp_search_constraints.specs.declared.assume.step.SearchErr.{SearchErr}
+use Rattle.scasp_search_constraints.specs.Assuming.Taken.{Takes, TakesAll}
+use Rattle.scasp_search_constraints.specs.declared.assuming.step.SearchErr.{SearchErr}
 
 -- what is taken of a step is taken of an equal one
 pub takes_same : (x : Result (Option State) SearchErr) (r q : Step) → Takes x r → r ≡ q → Takes x q

@@ -1,11 +1,11 @@
 //! The alternatives at a part of a disequation.
 ghost use Rattle.std.specs.Prelude.{◌≡◌, ◌∷◌, [], IfOk};
-ghost use Rattle.scasp_search_constraints.specs.Assume.Taken.{TakesAll};
+ghost use Rattle.scasp_search_constraints.specs.Assuming.Taken.{TakesAll};
 ghost use Rattle.scasp_hint.specs.Satisfying.{sat};
 ghost use Rattle.scasp_search_rules.specs.Successors.Differences.{alternatives, at_part, when_apart, when_same};
 ghost use Rattle.scasp_search_rules.specs.Successors.Regions.{before};
 
-use crate::assume::{SearchErr, States, status};
+use crate::assuming::{SearchErr, States, status};
 use scasp_list::Memory;
 use scasp_search_rules::{Aim, State, Status, Task, Tasks};
 use scasp_search_terms::regions::before;

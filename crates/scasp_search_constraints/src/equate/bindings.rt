@@ -1,6 +1,6 @@
 //! Variables that are bound or replaced.
 ghost use Rattle.std.specs.Prelude.{◌≡◌, [], ◌∷◌, ◌++◌, ◌&&◌, not, nat_le, IfOk, option_to_list};
-ghost use Rattle.scasp_search_constraints.specs.Assume.Taken.{Gives, Takes};
+ghost use Rattle.scasp_search_constraints.specs.Assuming.Taken.{Gives, Takes};
 ghost use Rattle.scasp_hint.specs.Satisfying.{sat};
 ghost use Rattle.scasp_search_rules.specs.Successors.Equations.{becomes_number, bound_if, is_inside, mixed, replaced_if, two_existentials, two_universals, two_variables, variable_number};
 ghost use Rattle.scasp_search_rules.specs.Successors.Regions.{asked_with, context, is_constrained};
@@ -10,7 +10,9 @@ ghost use Rattle.scasp_search_rules.specs.Successors.Variables.{bind, depth_of, 
 ghost use Rattle.scasp_syntax.specs.View.{tm_of};
 ghost use Rattle.scasp_unify.specs.SimpleForm.{term_with};
 
-use crate::assume::{SearchErr, asked_list, assume, goes_where, is_constrained, passes, split_at};
+use crate::assuming::{
+    SearchErr, asked_list, assume, goes_where, is_constrained, passes, split_at,
+};
 use scasp_list::Memory;
 use scasp_num::Rat;
 use scasp_search_rules::State;

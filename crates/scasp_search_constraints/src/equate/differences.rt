@@ -1,12 +1,12 @@
 //! Disequations of terms, and the matching of heads.
 ghost use Rattle.std.specs.Prelude.{◌≡◌, ◌∷◌, ◌++◌, [], IfOk};
-ghost use Rattle.scasp_search_constraints.specs.Assume.Taken.{Takes, TakesAll};
+ghost use Rattle.scasp_search_constraints.specs.Assuming.Taken.{Takes, TakesAll};
 ghost use Rattle.scasp_hint.specs.Satisfying.{sat};
 ghost use Rattle.scasp_search_rules.specs.Successors.Differences.{differ_first, differ_pairs, differ_terms, is_matched, same_shape, same_value, take_up};
 ghost use Rattle.scasp_search_rules.specs.Successors.Regions.{before};
 ghost use Rattle.scasp_syntax.specs.View.{tm_of};
 
-use crate::assume::{SearchErr, States};
+use crate::assuming::{SearchErr, States};
 use crate::equate::alternatives::{one_state, one_task, when_same};
 use crate::equate::equality::equated;
 use crate::equate::pairs::{FirstPair, from_first, new_pairs, split_first};

@@ -1,10 +1,10 @@
 //! Equations of terms.
-ghost use Rattle.scasp_search_constraints.specs.Assume.Taken.{Takes};
+ghost use Rattle.scasp_search_constraints.specs.Assuming.Taken.{Takes};
 ghost use Rattle.scasp_hint.specs.Satisfying.{sat};
 ghost use Rattle.scasp_search_rules.specs.Successors.Equations.{equate_pairs, equate_terms, equated};
 ghost use Rattle.scasp_syntax.specs.View.{tm_of};
 
-use crate::assume::SearchErr;
+use crate::assuming::SearchErr;
 use crate::equate::bindings::{two_variables, variable_number};
 use crate::equate::pairs::{FirstPair, split_first};
 use crate::equate::shapes::{equations_of, variable_app};

@@ -1,11 +1,11 @@
 //! The first pair that two terms come to, where they are to be apart.
 ghost use Rattle.std.specs.Prelude.{◌≡◌, ◌∷◌, [], IfOk};
-ghost use Rattle.scasp_search_constraints.specs.Assume.Taken.{TakesAll};
+ghost use Rattle.scasp_search_constraints.specs.Assuming.Taken.{TakesAll};
 ghost use Rattle.scasp_hint.specs.Satisfying.{sat};
 ghost use Rattle.scasp_search_rules.specs.Successors.Differences.{differ_number, differ_pair, differ_shape, differ_value, differ_variables, part_of_variables, stands_first};
 ghost use Rattle.scasp_syntax.specs.View.{tm_of};
 
-use crate::assume::{SearchErr, States};
+use crate::assuming::{SearchErr, States};
 use crate::equate::alternatives::{apart, at_part, one_task};
 use crate::equate::bindings::is_inside;
 use crate::equate::shapes::occurs_among;

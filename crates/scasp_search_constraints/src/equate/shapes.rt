@@ -1,6 +1,6 @@
 //! Variables that get a name with arguments.
 ghost use Rattle.std.specs.Prelude.{◌≡◌, IfOk, length, map, option_to_list};
-ghost use Rattle.scasp_search_constraints.specs.Assume.Taken.{Takes};
+ghost use Rattle.scasp_search_constraints.specs.Assuming.Taken.{Takes};
 ghost use Rattle.scasp_hint.specs.Satisfying.{sat};
 ghost use Rattle.scasp_search_rules.specs.Successors.Equations.{becomes_shape, equations, equations_of, variable_app};
 ghost use Rattle.scasp_search_rules.specs.Successors.Regions.{before};
@@ -10,7 +10,7 @@ ghost use Rattle.scasp_syntax.specs.Tm.{items};
 ghost use Rattle.scasp_unify.specs.Negations.{new_parts};
 ghost use Rattle.scasp_unify.specs.Parts.{occurs_among};
 
-use crate::assume::{SearchErr, among};
+use crate::assuming::{SearchErr, among};
 use crate::equate::bindings::{bound_to, replaced_if};
 use crate::equate::pairs::new_pairs;
 use scasp_list::Memory;

@@ -8,9 +8,9 @@ use Rattle.std.proofs.lemmas.Simd.{map-map}
 use Rattle.scasp_checker_rules.specs.PairLists.{pair_list}
 use Rattle.scasp_checker_rules.specs.Pairs.{all_pairs, is_pair}
 use Rattle.scasp_checker_rules.specs.Told.{Told}
-use Rattle.scasp_search_constraints.specs.Assume.Taken.{Gives}
-use Rattle.scasp_search_constraints.specs.declared.assume.step.SearchErr.{SearchErr}
-use Rattle.scasp_search_constraints.specs.declared.assume.step.SearchErr.TheVariants as errors
+use Rattle.scasp_search_constraints.specs.Assuming.Taken.{Gives}
+use Rattle.scasp_search_constraints.specs.declared.assuming.step.SearchErr.{SearchErr}
+use Rattle.scasp_search_constraints.specs.declared.assuming.step.SearchErr.TheVariants as errors
 use Rattle.scasp_search_ends.specs.Ends.Inside.Apart.{IsLeft, all_fail, lists_behind, pairs_of}
 use Rattle.scasp_hint.specs.Finding.{overflows_in}
 use Rattle.scasp_hint.specs.Satisfying.{sat}

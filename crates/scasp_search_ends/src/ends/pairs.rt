@@ -1,6 +1,6 @@
 //! Whether the literals of a certificate are apart.
 ghost use Rattle.std.specs.Prelude.{◌∷◌, [], map};
-ghost use Rattle.scasp_search_constraints.specs.Assume.Taken.{Gives};
+ghost use Rattle.scasp_search_constraints.specs.Assuming.Taken.{Gives};
 ghost use Rattle.scasp_cert.specs.Certificate.{certificate_of};
 ghost use Rattle.scasp_search_ends.specs.Ends.Inside.Apart.{all_fail, lists_behind, pairs_of};
 ghost use Rattle.scasp_lines_walk.specs.Shown.TableView.{told_from, told_of};

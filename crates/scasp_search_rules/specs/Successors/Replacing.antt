@@ -1,6 +1,6 @@
 -- Rows that the bindings of a state cannot replace within the range of the numbers. A row that follows from what is given stands in no list
 -- that is asked when its variables are bound, so it is looked at where it is read for the last time.
-use Rattle.std.specs.Prelude.{Bool, false, ◌&&◌, ◌||◌, not, is_none, List, [], ◌∷◌}
+use Rattle.std.specs.Prelude.{Bool, true, false, ◌&&◌, ◌||◌, not, is_none, List, [], ◌∷◌}
 use Rattle.std.specs.List.{list_any}
 use Rattle.scasp_search_rules.specs.declared.states.covers.Cover.{Cover}
 use Rattle.scasp_search_rules.specs.declared.states.lines.Line.{Line}
@@ -45,24 +45,33 @@ lines_overflow s = list_any (tells_unreplaced (meaning s)) s.lines
 abbrev pub end_overflows : State → Bool
 end_overflows s = list_any (is_unreplaced (meaning s)) s.given || lines_overflow s
 
--- The universal variables of a case lose their values where it ends, so its lines are read there for the last time.
-abbrev pub case_overflows : State → List Cover → Bool
-case_overflows s [] = false
-case_overflows s (c ∷ cs) = not (is_empty c.universals) && lines_overflow s
+-- ---- the end of a case with universal variables
 
--- the task ends such a case
+abbrev pub is_close : Task → Bool
+is_close task.Close = true
+is_close (task.Show i) = false
+is_close (task.Equate t u) = false
+is_close (task.Assume c) = false
+is_close (task.Differ ps aim) = false
+is_close (task.Become x t ps aim) = false
+is_close (task.Avoid x q ps aim) = false
+is_close (task.Shape x f ts ps aim) = false
+is_close (task.Cover a k) = false
+is_close (task.Check k checks_head) = false
+is_close (task.Begin k first checks_head) = false
+is_close task.Void = false
+is_close task.Leave = false
+
+-- the first task ends a case
+abbrev pub closes : List Task → Bool
+closes [] = false
+closes (t ∷ ts) = is_close t
+
+-- the innermost cover has universal variables
+abbrev pub has_universals : List Cover → Bool
+has_universals [] = false
+has_universals (c ∷ cs) = not (is_empty c.universals)
+
+-- Universal variables lose their values where their case ends, so its lines are read there for the last time.
 abbrev pub close_overflows : State → List Task → Bool
-close_overflows s [] = false
-close_overflows s (task.Close ∷ ts) = case_overflows s s.covers
-close_overflows s (task.Show i ∷ ts) = false
-close_overflows s (task.Equate t u ∷ ts) = false
-close_overflows s (task.Assume c ∷ ts) = false
-close_overflows s (task.Differ ps aim ∷ ts) = false
-close_overflows s (task.Become x t ps aim ∷ ts) = false
-close_overflows s (task.Avoid x q ps aim ∷ ts) = false
-close_overflows s (task.Shape x f us ps aim ∷ ts) = false
-close_overflows s (task.Cover a k ∷ ts) = false
-close_overflows s (task.Check k checks_head ∷ ts) = false
-close_overflows s (task.Begin k first checks_head ∷ ts) = false
-close_overflows s (task.Void ∷ ts) = false
-close_overflows s (task.Leave ∷ ts) = false
+close_overflows s work = (closes work && has_universals s.covers) && lines_overflow s

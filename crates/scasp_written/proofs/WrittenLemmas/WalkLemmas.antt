@@ -3,8 +3,8 @@ use Rattle.std.specs.Prelude.{◌≡◌, ◌⊎◌, ℕ, ◌+◌, ◌<◌, nat_e
 use Rattle.std.specs.List.{list_any}
 use Rattle.std.proofs.Common.{◌≢◌, inl, inr, arith, sym, ap, subst, ◌∙◌}
 use Rattle.std.proofs.lemmas.Bool.Decides.{nat_tests}
-use Rattle.scasp_search_constraints.specs.declared.assume.step.SearchErr.{SearchErr}
-use Rattle.scasp_search_constraints.specs.declared.assume.step.SearchErr.TheVariants as errors
+use Rattle.scasp_search_constraints.specs.declared.assuming.step.SearchErr.{SearchErr}
+use Rattle.scasp_search_constraints.specs.declared.assuming.step.SearchErr.TheVariants as errors
 use Rattle.scasp_cert.specs.Certificate.{Certificate, certificate_of}
 use Rattle.scasp_cert.specs.declared.certificate.Cert.{Cert}
 use Rattle.scasp_search_ends.specs.Ends.Ends.{Ends}

@@ -1,8 +1,8 @@
 -- What the search as an object has still to give.
 use Rattle.std.specs.Prelude.{◌≡◌, ◌⊎◌, ℕ, Bool, true, List, [], ◌∷◌, Option, None, Some, length, ⊤}
 use Rattle.std.specs.List.{list_any}
-use Rattle.scasp_search_constraints.specs.declared.assume.step.SearchErr.{SearchErr}
-use Rattle.scasp_search_constraints.specs.declared.assume.step.SearchErr.TheVariants as errors
+use Rattle.scasp_search_constraints.specs.declared.assuming.step.SearchErr.{SearchErr}
+use Rattle.scasp_search_constraints.specs.declared.assuming.step.SearchErr.TheVariants as errors
 use Rattle.scasp_cert.specs.Certificate.{Certificate, certificate_of}
 use Rattle.scasp_search_ends.specs.Ends.Ends.{problem}
 use Rattle.scasp_graph.specs.Analyses.{IsAnalysis}

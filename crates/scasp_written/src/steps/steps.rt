@@ -1,6 +1,6 @@
 //! Steps of the written search.
 ghost use Rattle.std.specs.Prelude.{◌≡◌, ◌∷◌, [], IfOk, MatchOption, option_to_list};
-ghost use Rattle.scasp_search_constraints.specs.Assume.Taken.{Takes, TakesAll};
+ghost use Rattle.scasp_search_constraints.specs.Assuming.Taken.{Takes, TakesAll};
 ghost use Rattle.scasp_hint.specs.Satisfying.{sat};
 ghost use Rattle.scasp_search_rules.specs.declared.states.state.State.{State as ThisState};
 ghost use Rattle.scasp_search_rules.specs.Successors.Search.{done, shown, step};

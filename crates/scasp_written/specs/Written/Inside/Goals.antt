@@ -1,7 +1,7 @@
 -- What a walk comes to.
 use Rattle.std.specs.Prelude.{◌≡◌, ℕ, true, None, List, [], ◌∷◌, ◌++◌, Result, Ok, Err, ⊤}
-use Rattle.scasp_search_constraints.specs.declared.assume.step.SearchErr.{SearchErr}
-use Rattle.scasp_search_constraints.specs.declared.assume.step.SearchErr.TheVariants as errors
+use Rattle.scasp_search_constraints.specs.declared.assuming.step.SearchErr.{SearchErr}
+use Rattle.scasp_search_constraints.specs.declared.assuming.step.SearchErr.TheVariants as errors
 use Rattle.scasp_cert.specs.Certificate.{Certificate, certificate_of}
 use Rattle.scasp_written.specs.Written.Rests.{Allows, Tells}
 use Rattle.scasp_written.specs.declared.written.written.Event.{Event}

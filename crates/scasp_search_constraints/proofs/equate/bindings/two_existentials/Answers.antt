@@ -1,5 +1,5 @@
 use Rattle.std.proofs.Common.{min, subst}
-use Rattle.scasp_search_constraints.specs.Assume.Taken.{Takes}
+use Rattle.scasp_search_constraints.specs.Assuming.Taken.{Takes}
 use Rattle.scasp_hint.specs.Satisfying.{sat}
 use Rattle.scasp_search_rules.specs.Successors.Equations.{bound_if}
 use Rattle.scasp_search_rules.specs.Successors.Variables.{bind}

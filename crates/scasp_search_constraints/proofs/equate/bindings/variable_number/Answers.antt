@@ -6,7 +6,7 @@ use Rattle.scasp_search_rules.specs.Successors.Assumptions.{assume}
 use Rattle.scasp_search_rules.specs.Successors.Equations.{becomes_number}
 use Rattle.scasp_syntax.specs.declared.con.Con.TheVariants as con
 use Rattle.scasp_syntax.specs.declared.term.Term.TheVariants.{Var}
-use Rattle.scasp_search_constraints.proofs.AssumeLemmas.StepLemmas.{takes-later, takes-not}
+use Rattle.scasp_search_constraints.proofs.AssumingLemmas.StepLemmas.{takes-later, takes-not}
 use Rattle.scasp_search_constraints.proofs.equate.bindings.variable_number.Goals as goal
 
 pub returns-in_err-next : goal.returns-in_err-next

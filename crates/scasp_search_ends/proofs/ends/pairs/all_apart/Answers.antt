@@ -1,7 +1,7 @@
 use Rattle.std.proofs.Common.{◌≡◌, List, ℕ, ap, map, subst, ◌∙◌}
 use Rattle.std.specs.List.{flat_map}
 use Rattle.scasp_checker_rules.specs.Told.{Told, all_told}
-use Rattle.scasp_search_constraints.specs.Assume.Taken.{Gives}
+use Rattle.scasp_search_constraints.specs.Assuming.Taken.{Gives}
 use Rattle.scasp_cert.specs.Certificate.{certificate_of}
 use Rattle.scasp_search_ends.specs.Ends.Inside.Apart.{all_fail, pairs_of}
 use Rattle.scasp_lines.specs.Lines.{lines}

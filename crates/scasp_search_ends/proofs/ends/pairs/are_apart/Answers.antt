@@ -2,7 +2,7 @@ use Rattle.std.proofs.Common.{◌≡◌, ◌+◌, ◌∷◌, [], Err, drop, map,
 use Rattle.std.proofs.lemmas.List.{take_rest}
 use Rattle.std.proofs.lemmas.Result.{err_from_is_err_and}
 use Rattle.scasp_search_ends.proofs.EndsLemmas.PairLemmas.{left-behind, left-fault, left-met, pairs-first}
-use Rattle.scasp_search_constraints.specs.Assume.Taken.{Gives}
+use Rattle.scasp_search_constraints.specs.Assuming.Taken.{Gives}
 use Rattle.scasp_search_ends.specs.Ends.Inside.Apart.{all_fail, lists_behind, pairs_of}
 use Rattle.scasp_lines_walk.specs.Shown.TableView.{told_from}
 use Rattle.scasp_syntax.proofs.Walks.{drop-at}

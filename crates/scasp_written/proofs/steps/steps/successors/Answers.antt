@@ -1,5 +1,5 @@
 use Rattle.std.proofs.Common.{subst, sym}
-use Rattle.scasp_search_constraints.specs.Assume.Taken.{TakesAll}
+use Rattle.scasp_search_constraints.specs.Assuming.Taken.{TakesAll}
 use Rattle.scasp_hint.specs.Satisfying.{sat}
 use Rattle.scasp_search_rules.specs.Successors.Search.{step}
 use Rattle.scasp_written.proofs.steps.steps.successors.Goals as goal

@@ -1,5 +1,5 @@
 use Rattle.std.proofs.Common.{subst}
-use Rattle.scasp_search_constraints.specs.Assume.Taken.{Takes}
+use Rattle.scasp_search_constraints.specs.Assuming.Taken.{Takes}
 use Rattle.scasp_written.proofs.StepsLemmas.TakenLemmas.{not_taken}
 use Rattle.scasp_written.proofs.steps.steps.taken.Goals as goal
 

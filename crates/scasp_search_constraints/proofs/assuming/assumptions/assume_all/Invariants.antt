@@ -1,0 +1,13 @@
+use Rattle.std.proofs.Common.{◌≡◌, drop, true}
+use Rattle.std.specs.List.{list_any}
+use Rattle.scasp_hint.specs.Finding.{overflows_in}
+use Rattle.scasp_hint.specs.Satisfying.{sat}
+use Rattle.scasp_search_rules.specs.Successors.Assumptions.{assume_all}
+use Rattle.scasp_search_constraints.proofs.assuming.assumptions.assume_all.Given as goal
+
+abbrev pub invariant-loop-constraint : goal.invariant-loop-constraint
+invariant-loop-constraint l = record {
+  states : (assume_all sat (drop l.constraint-index l.constraints) l.state).states ≡ (assume_all sat l.constraints l.fn.state).states;
+  overflow : list_any overflows_in (assume_all sat (drop l.constraint-index l.constraints) l.state).asked ≡ true
+      → list_any overflows_in (assume_all sat l.constraints l.fn.state).asked ≡ true;
+}
