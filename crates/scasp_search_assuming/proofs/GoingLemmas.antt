@@ -3,10 +3,10 @@ use Rattle.std.specs.Prelude.{◌≡◌, Bool, true, false, List, [], ◌∷◌,
 use Rattle.std.specs.List.{list_any}
 use Rattle.std.proofs.Common.{subst, sym, ◌∙◌}
 use Rattle.scasp_hint.specs.Finding.{overflows_in}
-use Rattle.scasp_search_constraints.proofs.AssumeLemmas.StepLemmas.{followed-none, followed-one, overflows-first, overflows-later}
-use Rattle.scasp_search_constraints.specs.Assume.Taken.{Gives}
-use Rattle.scasp_search_constraints.specs.declared.assume.step.SearchErr.{SearchErr}
-use Rattle.scasp_search_constraints.specs.declared.assume.step.SearchErr.TheVariants as errors
+use Rattle.scasp_search_constraints.proofs.AssumingLemmas.StepLemmas.{followed-none, followed-one, overflows-first, overflows-later}
+use Rattle.scasp_search_constraints.specs.Assuming.Taken.{Gives}
+use Rattle.scasp_search_constraints.specs.declared.assuming.step.SearchErr.{SearchErr}
+use Rattle.scasp_search_constraints.specs.declared.assuming.step.SearchErr.TheVariants as errors
 use Rattle.scasp_search_rules.specs.declared.states.state.State.{State}
 use Rattle.scasp_search_rules.specs.Successors.Steps.{Step, followed, goes_where}
 use Rattle.scasp_search_state.specs.Going.{Goes}
