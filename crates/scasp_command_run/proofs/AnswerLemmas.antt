@@ -3,12 +3,13 @@ use Rattle.std.proofs.Common.{◌≡◌, ◌∙◌, ℕ, zero, suc, ◌+◌, nat
 use Rattle.std.specs.List.{list_all, list_any}
 use Rattle.std.proofs.lemmas.List.Folds.{list_any-append}
 use Rattle.scasp_cert.specs.Certificate.{Certificate}
-use Rattle.scasp_search_ends.specs.Ends.Sampling.{point_for, sample, values_from}
+use Rattle.scasp_search_ends.specs.Ends.Sampling.{evaluated, is_in_range, point_for, sample, values_from}
 use Rattle.scasp_fill.specs.Finishing.Finishes.{ArePairsApart, HasOverflow}
 use Rattle.scasp_hint.specs.Finding.{overflows_in}
 use Rattle.scasp_hint.specs.Satisfying.{sat}
 use Rattle.scasp_num.specs.Arithmetic.{◌>>=◌}
 use Rattle.scasp_num.specs.declared.linear.RatPair.{RatPair}
+use Rattle.scasp_law_outcomes.proofs.Answering.{kept-answer}
 use Rattle.scasp_command_run.specs.Inside.Events.{IsAbout}
 use Rattle.scasp_command_run.specs.Queries.{Meets, MayOverflow}
 use Rattle.scasp_written.specs.Written.Rests.{Rest, machine}
@@ -18,8 +19,10 @@ use Rattle.scasp_search_rules.proofs.SuccessorsLemmas.Walks.{finds-one}
 use Rattle.scasp_search_rules.specs.Successors.Answers.{answer_of, certificate_at, hint_lists, pair_lists, sampled}
 use Rattle.scasp_search_rules.specs.Successors.Machine.{Machine, Found, Finds, Outcome, answered, ended, spent, overflowed, outcome_of, behind, first_event, pick, cost}
 use Rattle.scasp_search_rules.specs.Successors.Problems.{Problem}
+use Rattle.scasp_search_rules.specs.Successors.Replacing.{close_overflows, end_overflows}
 use Rattle.scasp_search_rules.specs.Successors.Search.{answer_at, asked_by}
 use Rattle.scasp_syntax.specs.Tm.{Tms, items}
+use Rattle.scasp_syntax.specs.Values.{giving}
 use Rattle.scasp_syntax.specs.declared.con.Con.{Con}
 use Rattle.scasp_syntax.specs.declared.program.Program.{Program}
 use Rattle.scasp_unify.specs.Numbers.{number_var}
@@ -86,14 +89,22 @@ values-length is_number point fresh x (suc n) = by (is_number x) refl (values-le
     by true e one other = rw e (ap suc one)
     by false e one other = rw e (ap suc other)
 
-bound-length : (n : ℕ) (f : List RatPair → Tms) (o : Option (List RatPair)) (ts : Tms) → ((point : List RatPair) → length (items (f point)) ≡ n)
-    → (o >>= (λ point. Some (f point))) ≡ Some ts → length (items ts) ≡ n
-bound-length n f None ts each h = absurd (cc h)
-bound-length n f (Some point) ts each h = let k : f point ≡ ts = cc h in sym (ap (λ (x : Tms). length (items x)) k) ∙ each point
+-- the values at which the rows are evaluated are those of the sample
+pub evaluated-is : (cs : List Con) (ts us : Tms) → evaluated cs ts ≡ Some us → ts ≡ us
+evaluated-is cs ts us h = by (list_all (is_in_range (giving (items ts))) cs) h
+  where
+    by : (b : Bool) → (if b then Some ts else None) ≡ Some us → ts ≡ us
+    by true e = cc e
+    by false e = absurd (cc e)
+
+bound-length : (n : ℕ) (cs : List Con) (f : List RatPair → Tms) (o : Option (List RatPair)) (ts : Tms) → ((point : List RatPair) → length (items (f point)) ≡ n)
+    → (o >>= (λ point. evaluated cs (f point))) ≡ Some ts → length (items ts) ≡ n
+bound-length n cs f None ts each h = absurd (cc h)
+bound-length n cs f (Some point) ts each h = let k : f point ≡ ts = evaluated-is cs (f point) ts h in sym (ap (λ (x : Tms). length (items x)) k) ∙ each point
 
 sample-length : (fresh : ℕ) (cs : List Con) (n : ℕ) (ts : Tms) → sample fresh cs n ≡ Some ts → length (items ts) ≡ n
 sample-length fresh cs n ts h =
-    bound-length n (λ point. values_from (number_var cs) point fresh 0 n) (point_for cs) ts (λ point. values-length (number_var cs) point fresh 0 n) h
+    bound-length n cs (λ point. values_from (number_var cs) point fresh 0 n) (point_for cs) ts (λ point. values-length (number_var cs) point fresh 0 n) h
 
 -- ---- the lists about an answer
 
@@ -150,8 +161,9 @@ tested p fresh d c is h =
 
 answered-at : (p : Problem) (s : State) (queried fresh : ℕ) (work : List Task) (c : Certificate) → p.sample ≡ sample fresh
     → answer_at p s queried work ≡ Some (Some c) → Asks p c (asked_by p s queried work)
-answered-at p s queried fresh (t ∷ ts) c is h = absurd (cc h)
-answered-at p s queried fresh [] c is h = tested p fresh (certificate_at p s queried) c is h
+answered-at p s queried fresh (t ∷ ts) c is h = absurd (cc (kept-answer (close_overflows s (t ∷ ts)) None c h))
+answered-at p s queried fresh [] c is h =
+    tested p fresh (certificate_at p s queried) c is (kept-answer (end_overflows s) (answer_of p (certificate_at p s queried)) c h)
 
 -- ---- the answer of a search
 

@@ -1,1 +1,1 @@
-pub mod FinishingLemmas
+pub mod FinishLemmas

@@ -20,6 +20,7 @@ use Rattle.scasp_search_rules.specs.Successors.Answers.{given_lines, certificate
 use Rattle.scasp_search_rules.specs.Successors.Cases.{line_under}
 use Rattle.scasp_search_rules.specs.Successors.Numbering.{free_variables, universal_variables, placing, line_renamed}
 use Rattle.scasp_search_rules.specs.Successors.Problems.{Problem}
+use Rattle.scasp_search_rules.specs.Successors.Replacing.{close_overflows, end_overflows}
 use Rattle.scasp_search_rules.specs.Successors.Search.{answer_at}
 use Rattle.scasp_search_rules.specs.Successors.Trees.{Built, built, put, literal_lines}
 use Rattle.scasp_search_rules.specs.Successors.Variables.{meaning}
@@ -67,6 +68,11 @@ answer-is p c answer h e = by (list_all (λ cs. not (p.sat cs)) (pair_lists p.pr
     by true None e = absurd (cc e)
     by false sample e = absurd (cc e)
 
+-- an answer is no overflow
+pub kept-answer : (b : Bool) (o : Option (Option Certificate)) (c : Certificate) → (if b then Some None else o) ≡ Some (Some c) → o ≡ Some (Some c)
+kept-answer true o c e = absurd (cc e)
+kept-answer false o c e = e
+
 -- where no close is owed no cover is open
 none-before : (cs : List Cover) → 0 ≡ length cs → checks_before cs ≡ []
 none-before [] e = refl
@@ -78,5 +84,6 @@ answer_at-is p s queried [] answer h e =
     let none : told s ≡ checks_in s.lines = ap (λ (z : List ℕ). z ++ checks_in s.lines) (none-before s.covers h.closes) in
     let all : covered (certificate_at p s queried) ≡ map clause_in p.checks =
     at-checks p s queried ∙ sym none ∙ sym (append-nil (told s)) ∙ h.checks in
-    answer-is p (certificate_at p s queried) answer (record { query = refl; checks = all; map = refl }) e
-answer_at-is p s queried (t ∷ ts) answer h e = absurd (cc e)
+    answer-is p (certificate_at p s queried) answer (record { query = refl; checks = all; map = refl })
+    (kept-answer (end_overflows s) (answer_of p (certificate_at p s queried)) answer e)
+answer_at-is p s queried (t ∷ ts) answer h e = absurd (cc (kept-answer (close_overflows s (t ∷ ts)) None answer e))

@@ -11,7 +11,7 @@ mod tests;
 
 pub use bodies::{body_of, opposite_item};
 pub use calls::call;
-pub use entering::{covered, head_args, push_shows, vars_of_clause};
+pub use entering::{covered, head_args, push_shows, rules_of, vars_of_clause};
 pub use marks::leave_literal;
 pub use raising::Raised;
 pub use tests::show_test;

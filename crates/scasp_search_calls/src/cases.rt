@@ -9,4 +9,5 @@ mod lists;
 pub use beginning::{begin_cases, check_clause};
 pub use closing::close_case;
 pub use kept::push_lines;
+pub use leaves::head_call;
 pub use lists::{split_first, with_first};

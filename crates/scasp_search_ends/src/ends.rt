@@ -4,7 +4,9 @@ mod answers;
 mod differing;
 mod pairs;
 mod plain;
+mod replacing;
 mod sampling;
 
 pub use answers::answer_at;
+pub use replacing::close_overflows;
 pub use sampling::sample;

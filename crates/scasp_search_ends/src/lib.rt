@@ -4,5 +4,5 @@
 mod ends;
 mod finished;
 
-pub use ends::answer_at;
+pub use ends::{answer_at, close_overflows};
 pub use finished::About;

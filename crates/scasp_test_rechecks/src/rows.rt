@@ -1,7 +1,7 @@
 //! What worked programs print, read back and checked.
 use scasp_io::Memory;
 use scasp_test_worked::{
-    BIRDS, LIMITS, LOOPS, NUMBERS, PASSED, QUERIES, REMARKS, Row, SOUND, TERMS, prints,
+    BIRDS, LIMITS, LOOPS, NUMBERS, OVERFLOWS, PASSED, QUERIES, REMARKS, Row, SOUND, TERMS, prints,
 };
 use scasp_top::Status;
 use std::alloc::Global;
@@ -29,6 +29,7 @@ fn printed_answers_are_right(rt: HostRuntime) -> Result<(), Fail> {
         NUMBERS,
         BIRDS,
         LIMITS,
+        OVERFLOWS,
         REMARKS,
         &[PASSED],
     ] {

@@ -1,7 +1,7 @@
 //! Whole runs of worked programs.
 use scasp_io::Memory;
 use scasp_test_worked::{
-    BIRDS, LIMITS, LOOPS, NUMBERS, PASSED, QUERIES, REMARKS, Row, SOUND, TERMS, prints,
+    BIRDS, LIMITS, LOOPS, NUMBERS, OVERFLOWS, PASSED, QUERIES, REMARKS, Row, SOUND, TERMS, prints,
 };
 use std::alloc::Global;
 use std::process::Abort;
@@ -28,6 +28,7 @@ fn worked_programs_are_run(rt: HostRuntime) -> Result<(), Fail> {
         NUMBERS,
         BIRDS,
         LIMITS,
+        OVERFLOWS,
         REMARKS,
         &[PASSED],
     ] {

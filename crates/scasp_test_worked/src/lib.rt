@@ -6,6 +6,7 @@ mod commands;
 mod limits;
 mod loops;
 mod numbers;
+mod overflows;
 mod passed;
 mod queries;
 mod remarks;
@@ -17,6 +18,7 @@ pub use commands::{Command, Device, ROOMY, SOUND, printed, printed_bytes, prints
 pub use limits::LIMITS;
 pub use loops::{EVEN_LOOP, FACT, FACT_PRINTED, FACT_PROGRAM, LOOPS, THROUGH_NEGATION};
 pub use numbers::{FORALL_OVER_NUMBERS, LINEAR_DENIAL, NUMBER_OR_NOT, NUMBERS};
+pub use overflows::OVERFLOWS;
 pub use passed::PASSED;
 pub use queries::QUERIES;
 pub use remarks::REMARKS;

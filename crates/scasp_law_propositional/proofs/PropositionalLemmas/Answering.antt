@@ -30,6 +30,7 @@ use Rattle.scasp_lines.specs.Walk.{Line as Walked}
 use Rattle.scasp_nmr.specs.Checks.{checks_from, checks_of, clause_in}
 use Rattle.scasp_nmr.specs.declared.items.CheckItem.{CheckItem}
 use Rattle.scasp_law_outcomes.specs.Problems.{IsAnalysed, IsAnswer}
+use Rattle.scasp_law_outcomes.proofs.Answering.{kept-answer}
 use Rattle.scasp_law_outcomes.proofs.Standing.{checks_in, checks_before, told, owed, Keeps}
 use Rattle.scasp_law_outcomes.proofs.Stepping.{step-keep, start-keeps}
 use Rattle.scasp_law_outcomes.proofs.Walking.{Invariant, met-holds}
@@ -44,6 +45,7 @@ use Rattle.scasp_search_rules.specs.Successors.Answers.{certificate, certificate
 use Rattle.scasp_search_rules.specs.Successors.Cases.{line_under}
 use Rattle.scasp_search_rules.specs.Successors.Numbering.{free_variables, universal_variables, placing, line_renamed}
 use Rattle.scasp_search_rules.specs.Successors.Problems.{Problem}
+use Rattle.scasp_search_rules.specs.Successors.Replacing.{close_overflows, end_overflows}
 use Rattle.scasp_search_rules.specs.Successors.Search.{answer_at, nothing, search_for, start, step}
 use Rattle.scasp_search_rules.specs.Successors.Trees.{Built, built, no_lines, literal_lines}
 use Rattle.scasp_search_rules.specs.Successors.Variables.{meaning, with_new}
@@ -396,7 +398,7 @@ same-answer p a b c e f = ap (answer_of p) (sym e) ∙ f
 answer-right : (p : Problem) (q : Query) (s : State) (c : Certificate) → HasTests p → map pred_in p.map ≡ predicates p.program → is_propositional p.program ≡ true
     → numbered p.program.queries p.query ≡ Some q → ChecksOf p.program.clauses 1 p.checks → Held p.program.clauses (start q p.checks) (map clause_in p.checks) s
     → (work : List Task) → s.work ≡ work → answer_at p s (length q.names) work ≡ Some (Some c) → Right p.program c
-answer-right p q s c tests maps e named checks h (t ∷ ts) w f = absurd (cc f)
+answer-right p q s c tests maps e named checks h (t ∷ ts) w f = absurd (cc (kept-answer (close_overflows s (t ∷ ts)) None c f))
 answer-right p q s c tests maps e named checks h [] w f =
     let none : s.covers ≡ [] = no-cover s.covers (ap (λ (z : List Task). (owed z).closes) (sym w) ∙ h.keeps.closes) in
     let lines : (view s).lines ≡ s.lines = ap (λ (z : List Cover). lines_before z ++ s.lines) none in
@@ -408,7 +410,8 @@ answer-right p q s c tests maps e named checks h [] w f =
     let here : Comes p.program p.query s.lines = subst (Comes p.program p.query) lines comes in
     let is = certificate-is p s (length q.names) (query-plain p.program e p.query q named).no_name h.plain here in
     made-right p is.0 here.trees here.checks s.lines c tests maps here.makes
-    (answer-parts p (made p.query p.map here.trees here.checks (new_parts 0 is.0)) c (same-answer p (certificate_at p s (length q.names)) (made p.query p.map here.trees here.checks (new_parts 0 is.0)) c is.1 f))
+    (answer-parts p (made p.query p.map here.trees here.checks (new_parts 0 is.0)) c (same-answer p (certificate_at p s (length q.names)) (made p.query p.map here.trees here.checks (new_parts 0 is.0)) c is.1
+    (kept-answer (end_overflows s) (answer_of p (certificate_at p s (length q.names))) c f)))
 
 -- ---- all answers
 

@@ -2,7 +2,8 @@
 use Rattle.std.specs.Prelude.{◌≡◌, ℕ, zero, suc, Bool, true, false, if◌then◌else◌, Option, None, Some, List}
 use Rattle.std.proofs.Common.{◌∙◌, refl, ap, sym, length}
 use Rattle.scasp_search_ends.specs.Ends.Ends.{problem}
-use Rattle.scasp_search_ends.specs.Ends.Sampling.{values_from, point_for, sample}
+use Rattle.scasp_search_ends.specs.Ends.Sampling.{evaluated, values_from, point_for, sample}
+use Rattle.scasp_command_run.proofs.AnswerLemmas.{evaluated-is}
 use Rattle.scasp_nmr.specs.declared.items.CheckItem.{CheckItem}
 use Rattle.scasp_num.specs.Arithmetic.{◌>>=◌}
 use Rattle.scasp_num.specs.declared.linear.RatPair.{RatPair}
@@ -38,10 +39,10 @@ ground-values is_number point fresh x (suc n) = by (is_number x) (ground-values 
 sampled : (fresh : ℕ) (cs : List Con) (n : ℕ) (ts : Tms) → sample fresh cs n ≡ Some ts → (length (items ts) ≡ n) × (are_ground ts ≡ true)
 sampled fresh cs n ts e = by (point_for cs) e
   where
-    by : (o : Option (List RatPair)) → (o >>= (λ point. Some (values_from (number_var cs) point fresh 0 n))) ≡ Some ts → (length (items ts) ≡ n) × (are_ground ts ≡ true)
+    by : (o : Option (List RatPair)) → (o >>= (λ point. evaluated cs (values_from (number_var cs) point fresh 0 n))) ≡ Some ts → (length (items ts) ≡ n) × (are_ground ts ≡ true)
     by None f = absurd (cc f)
     by (Some point) f =
-        let same : values_from (number_var cs) point fresh 0 n ≡ ts = cc f in (
+        let same : values_from (number_var cs) point fresh 0 n ≡ ts = evaluated-is cs (values_from (number_var cs) point fresh 0 n) ts f in (
           ap (λ (z : Tms). length (items z)) (sym same) ∙ long-values (number_var cs) point fresh 0 n,
           ap are_ground (sym same) ∙ ground-values (number_var cs) point fresh 0 n,
         )

@@ -47,7 +47,7 @@ pub fn head_args(alloc: Global, program: &Program, clause: u64, first: u64) -> R
 }
 
 /// The numbers of the rules of the atom's predicate, in order.
-fn rules_of(alloc: Global, program: &Program, atom: &Atom) -> Result<RuleList, Memory>
+pub fn rules_of(alloc: Global, program: &Program, atom: &Atom) -> Result<RuleList, Memory>
     ensures { IfOk result (λ made. made ≡ rules_of program.now (pred_of atom.now)) }
 {
     let mut made = RuleList::new(alloc);

@@ -70,7 +70,12 @@ fn all_leaves(alloc: Global, state: &State, body: &[FlatItem]) -> Result<States,
 }
 
 /// The call of the head of the clause of this number, with its variables from `first` on.
-fn head_call(alloc: Global, program: &Program, clause: u64, first: u64) -> Result<FlatItems, Memory>
+pub fn head_call(
+    alloc: Global,
+    program: &Program,
+    clause: u64,
+    first: u64,
+) -> Result<FlatItems, Memory>
     ensures { IfOk result (λ made. made ≡ head_call (numbered program.now.clauses clause) first) }
 {
     let mut made = FlatItems::new(alloc);

@@ -1,6 +1,8 @@
 -- Values for the free variables of a certificate. Those that the given constraints say to be numbers take the values of the point that meets
--- the rows and the disequations between numbers; each of the others takes a name of its own.
-use Rattle.std.specs.Prelude.{ℕ, zero, suc, Bool, if◌then◌else◌, List, [], ◌∷◌, ◌++◌, Option, None, Some, Result, Ok, Err}
+-- the rows and the disequations between numbers; each of the others takes a name of its own. Each given row is evaluated at these values.
+use Rattle.std.specs.Prelude.{ℕ, zero, suc, Bool, true, if◌then◌else◌, is_some, List, [], ◌∷◌, ◌++◌, Option, None, Some, Result, Ok, Err}
+use Rattle.std.specs.List.{list_all}
+use Rattle.scasp_checker_rules.specs.BoundedTruth.{bounded_sum}
 use Rattle.scasp_hint.specs.Sides.{minus_one, one}
 use Rattle.scasp_num.specs.Arithmetic.{◌>>=◌, negation_of}
 use Rattle.scasp_num.specs.Linear.{Linear}
@@ -12,8 +14,8 @@ use Rattle.scasp_num.specs.declared.linear.RatPair.{RatPair}
 use Rattle.scasp_rows.specs.Samples.{sample_of, value_in}
 use Rattle.scasp_rows.specs.declared.state.Halt.{Halt}
 use Rattle.scasp_rows.specs.declared.state.Halt.TheVariants as halt
-use Rattle.scasp_syntax.specs.Tm.{Tm, Tms, var, num, app, nil, cons}
-use Rattle.scasp_syntax.specs.Values.{Sub, under}
+use Rattle.scasp_syntax.specs.Tm.{Tm, Tms, var, num, app, nil, cons, items}
+use Rattle.scasp_syntax.specs.Values.{Sub, giving, under}
 use Rattle.scasp_syntax.specs.View.{tm_of}
 use Rattle.scasp_syntax.specs.declared.con.Con.{Con}
 use Rattle.scasp_syntax.specs.declared.con.Con.TheVariants as con
@@ -114,6 +116,21 @@ values_from is_number point fresh x (suc n) =
     if is_number x then cons (num (value_in point x)) (values_from is_number point fresh (suc x) n)
     else cons (app fresh nil) (values_from is_number point (suc fresh) (suc x) n)
 
--- values for so many free variables; none where the arithmetic overflows
+-- ---- the rows at these values
+
+-- the value of a row is in the range, and so is each sum on the way to it; no other constraint has a value
+abbrev pub is_in_range : Sub → Con → Bool
+is_in_range v (con.Row r) = is_some (bounded_sum v r)
+is_in_range v (con.Eq t u) = true
+is_in_range v (con.Neq t u) = true
+is_in_range v (con.NotShape x f n) = true
+is_in_range v (con.Num t) = true
+is_in_range v (con.NotNum t) = true
+
+-- the values, where each row can be evaluated at them
+abbrev pub evaluated : List Con → Tms → Option Tms
+evaluated cs ts = if list_all (is_in_range (giving (items ts))) cs then Some ts else None
+
+-- values for so many free variables; none where their arithmetic overflows, or that of a given row at them
 abbrev pub sample : ℕ → List Con → ℕ → Option Tms
-sample fresh cs n = point_for cs >>= (λ point. Some (values_from (number_var cs) point fresh 0 n))
+sample fresh cs n = point_for cs >>= (λ point. evaluated cs (values_from (number_var cs) point fresh 0 n))

@@ -9,6 +9,7 @@ ghost use Rattle.scasp_search_rules.specs.Successors.Answers.{sampled};
 ghost use Rattle.scasp_search_rules.specs.Successors.Search.{answer_at, asked_by};
 
 use crate::ends::pairs::all_apart;
+use crate::ends::replacing::end_overflows;
 use crate::ends::sampling::sample;
 use crate::finished::{About, certificate_at};
 use scasp_cert::Cert;
@@ -34,8 +35,8 @@ fn sampled(alloc: Global, fresh: u64, cert: Cert) -> Result<Cert, SearchErr>
 }
 
 /// The answer that a state with nothing left to do is, where so many variables are those of the query; None where two of its
-/// literals may be one. The names of its sample start with `fresh`. Overflow only where the sample overflows, or one of the
-/// lists that are asked about the literals.
+/// literals may be one. The names of its sample start with `fresh`. Overflow where the bindings cannot replace a row of the
+/// state; else only where the sample overflows, or one of the lists that are asked about the literals.
 pub fn answer_at(
     alloc: Global,
     about: &About,
@@ -46,6 +47,9 @@ pub fn answer_at(
     ensures { (checks : List CheckItem) → Ends result (answer_at (problem about.now.program.now about.now.query checks about.now.map.now fresh) state.now queried [])
         (asked_by (problem about.now.program.now about.now.query checks about.now.map.now fresh) state.now queried []) }
 {
+    if end_overflows(alloc, state)? {
+        return Err(SearchErr::Overflow);
+    }
     let cert = certificate_at(alloc, about, state, queried)?;
     if all_apart(alloc, about.program, &cert)? {
         Ok(Some(sampled(alloc, fresh, cert)?))

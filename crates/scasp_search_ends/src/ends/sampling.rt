@@ -1,14 +1,17 @@
 //! Values for the free variables of a certificate.
+ghost use Rattle.std.specs.List.{list_all};
 ghost use Rattle.std.specs.Prelude.{◌≡◌, ◌++◌, ◌∷◌, [], IfOk, OnOk};
 ghost use Rattle.scasp_search_ends.specs.Ends.Inside.Values.{is_one_of, name_behind, value_at};
-ghost use Rattle.scasp_search_ends.specs.Ends.Sampling.{point_for, sample, values_from};
+ghost use Rattle.scasp_search_ends.specs.Ends.Sampling.{evaluated, is_in_range, point_for, sample, values_from};
 ghost use Rattle.scasp_num.specs.Linear.{Gives};
 ghost use Rattle.scasp_rows.specs.Samples.{value_in, zero_number};
 ghost use Rattle.scasp_syntax.specs.Tm.{items};
+ghost use Rattle.scasp_syntax.specs.Values.{giving};
 ghost use Rattle.scasp_unify.specs.ResolvedLists.{ResolvesList};
 
 use crate::ends::differing::all_differ;
 use crate::ends::plain::all_plain;
+use scasp_checker_answer::bounded_sum;
 use scasp_list::Memory;
 use scasp_name::NameId;
 use scasp_num::{Rat, RatPair, RowErr};
@@ -91,13 +94,50 @@ fn values(
     Ok(made)
 }
 
+/// Whether the value of a row is in the range, and each sum on the way to it; no other constraint has a value.
+fn is_in_range(values: &Terms, constraint: &Con) -> bool
+    ensures { result ≡ is_in_range (giving (items values.now)) constraint.now }
+{
+    match constraint {
+        Con::Row(row) => bounded_sum(values, row).is_ok(),
+        Con::Eq(_, _) | Con::Neq(_, _) | Con::NotShape(_, _, _) | Con::Num(_) | Con::NotNum(_) => {
+            true
+        }
+    }
+}
+
+/// Whether each row has its value in the range.
+fn are_in_range(values: &Terms, given: &[Con]) -> bool
+    ensures { result ≡ list_all (is_in_range (giving (items values.now))) given.now }
+{
+    for constraint in given {
+        if !is_in_range(values, constraint) {
+            return false;
+        }
+    }
+    true
+}
+
+/// The values, where each row can be evaluated at them.
+fn evaluated(values: Terms, given: &[Con]) -> Result<Terms, RowErr>
+    ensures { Gives result (evaluated given.now values) }
+{
+    if are_in_range(&values, given) {
+        Ok(values)
+    } else {
+        Err(RowErr::Overflow)
+    }
+}
+
 /// Values for so many free variables that meet the given constraints: numbers by the sample of the rows, and for each other
-/// variable a name of its own, from `fresh` on. Overflow exactly where the arithmetic of the sample overflows.
+/// variable a name of its own, from `fresh` on. Overflow exactly where the arithmetic of the sample overflows, or where that
+/// of a given row at these values does.
 pub fn sample(alloc: Global, fresh: u64, given: &[Con], count: u64) -> Result<Terms, RowErr>
     ensures { Gives result (sample fresh given.now count) }
 {
     let resolver = resolver_of(alloc, given)?;
     let point = point_for(alloc, given, &resolver)?;
     let numbers = resolver.numbers.as_slice();
-    Ok(values(alloc, numbers, point.as_slice(), fresh, count)?)
+    let values = values(alloc, numbers, point.as_slice(), fresh, count)?;
+    evaluated(values, given)
 }

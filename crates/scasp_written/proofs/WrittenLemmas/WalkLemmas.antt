@@ -1,5 +1,5 @@
 -- The walk of the search, a state at a time.
-use Rattle.std.specs.Prelude.{◌≡◌, ◌⊎◌, ℕ, ◌+◌, ◌<◌, nat_eq, Bool, true, false, ◌&&◌, Option, Some, None, Result, Ok, Err, List, [], ◌∷◌, ◌++◌, option_map, refl}
+use Rattle.std.specs.Prelude.{◌≡◌, ◌⊎◌, ℕ, ◌+◌, ◌<◌, nat_eq, Bool, true, false, ◌&&◌, if◌then◌else◌, Option, Some, None, Result, Ok, Err, List, [], ◌∷◌, ◌++◌, option_map, refl}
 use Rattle.std.specs.List.{list_any}
 use Rattle.std.proofs.Common.{◌≢◌, inl, inr, arith, sym, ap, subst, ◌∙◌}
 use Rattle.std.proofs.lemmas.Bool.Decides.{nat_tests}
@@ -24,6 +24,7 @@ use Rattle.scasp_search_rules.specs.declared.states.state.State.{State}
 use Rattle.scasp_search_rules.specs.declared.states.tasks.Task.{Task}
 use Rattle.scasp_search_rules.specs.Successors.Machine.{Machine, answered, cost, ended, spent}
 use Rattle.scasp_search_rules.specs.Successors.Search.{answer_at, asked_by, pays, pays_for, step, step_at}
+use Rattle.scasp_search_rules.specs.Successors.Replacing.{close_overflows}
 
 pub not-so : (b : Bool) → b ≡ true → b ≡ false → ⊥
 not-so b t f = let wrong : true ≡ false = sym t ∙ f in absurd (cc wrong)
@@ -39,12 +40,22 @@ left-answers g s o e h = ap (answer_at (problem_in g) s g.queried) e ∙ h
 left-free : (g : Goal) (s : State) (after budget : ℕ) → s.work ≡ [] → ((of g).pays s && nat_eq after budget) ≡ false
 left-free g s after budget e = ap (λ work. pays_for s work && nat_eq after budget) e
 
-working : (g : Goal) (s : State) → s.work ≢ [] → (of g).answer s ≡ None
-working g s h = by s.work refl
+abbrev overflow_if : Bool → Option (Option Certificate)
+overflow_if b = if b then Some None else None
+
+working : (g : Goal) (s : State) → s.work ≢ [] → close_overflows s s.work ≡ false → (of g).answer s ≡ None
+working g s h o = by s.work refl
   where
     by : (work : List Task) → s.work ≡ work → answer_at (problem_in g) s g.queried work ≡ None
     by [] e = absurd (h e)
-    by (t ∷ ts) e = refl
+    by (t ∷ ts) e = ap overflow_if (ap (close_overflows s) (sym e) ∙ o)
+
+closing : (g : Goal) (s : State) → close_overflows s s.work ≡ true → (of g).answer s ≡ Some None
+closing g s o = by s.work refl
+  where
+    by : (work : List Task) → s.work ≡ work → answer_at (problem_in g) s g.queried work ≡ Some None
+    by [] e = absurd (not-so (close_overflows s s.work) o (ap (close_overflows s) e))
+    by (t ∷ ts) e = ap overflow_if (ap (close_overflows s) (sym e) ∙ o)
 
 free : (g : Goal) (s : State) (after budget : ℕ) → pays s ≡ false → ((of g).pays s && nat_eq after budget) ≡ false
 free g s after budget e = ap (λ b. b && nat_eq after budget) e
@@ -78,11 +89,16 @@ meets-overflow g budget calls s old rest new errors.Overflow r e h = by h
         allows-asked (of g) budget calls calls s old rest r (left-free g s calls budget e)
         (ap (λ work. list_any overflows_in (asked_by (problem_in g) s g.queried work)) e ∙ k)
 
+-- a case ends with a row that is not replaced
+pub meets-close : (g : Goal) (budget calls : ℕ) (s : State) (old rest new : List State) → Reached (of g) budget old calls (s ∷ rest) calls
+    → close_overflows s s.work ≡ true → Passes (of g) budget calls old new (Err errors.Overflow)
+meets-close g budget calls s old rest new r h = allows-sample (of g) budget calls calls s old rest r (closing g s h)
+
 -- a state that is no answer and costs nothing
-pub meets-free : (g : Goal) (budget calls : ℕ) (s : State) (old rest new : List State) → Reached (of g) budget old calls (s ∷ rest) calls → s.work ≢ [] → pays s ≡ false
-    → new ≡ (step g.program sat s).states ++ rest → Reached (of g) budget old calls new calls
-meets-free g budget calls s old rest new r h f e =
-    let next : Reached (of g) budget old calls ((of g).next s ++ rest) (calls + cost ((of g).pays s)) = reached-step (of g) budget calls calls s old rest r (working g s h) (free g s calls budget f) in
+pub meets-free : (g : Goal) (budget calls : ℕ) (s : State) (old rest new : List State) → Reached (of g) budget old calls (s ∷ rest) calls → s.work ≢ []
+    → close_overflows s s.work ≡ false → pays s ≡ false → new ≡ (step g.program sat s).states ++ rest → Reached (of g) budget old calls new calls
+meets-free g budget calls s old rest new r h o f e =
+    let next : Reached (of g) budget old calls ((of g).next s ++ rest) (calls + cost ((of g).pays s)) = reached-step (of g) budget calls calls s old rest r (working g s h o) (free g s calls budget f) in
     let spent : calls + cost ((of g).pays s) ≡ calls = ap (λ b. calls + cost b) f ∙ omega arith in
     subst (λ ss. Reached (of g) budget old calls ss calls) (sym e) (subst (λ c. Reached (of g) budget old calls ((of g).next s ++ rest) c) spent next)
 
@@ -100,10 +116,10 @@ free-overflow g budget calls s old rest new errors.Overflow r h f o =
         ap (list_any overflows_in) there ∙ o refl
 
 -- a state that costs a call
-pub meets-call : (g : Goal) (budget calls : ℕ) (s : State) (old rest new : List State) → Reached (of g) budget old calls (s ∷ rest) calls → s.work ≢ [] → pays s ≡ true → new ≡ s ∷ rest
-    → Meets (of g) budget calls old new ahead.Pays
-meets-call g budget calls s old rest new r h f e =
-    subst (λ ss. Reached (of g) budget old calls ss calls × BeginsWithCall (of g) ss) (sym e) (r, (working g s h, f))
+pub meets-call : (g : Goal) (budget calls : ℕ) (s : State) (old rest new : List State) → Reached (of g) budget old calls (s ∷ rest) calls → s.work ≢ []
+    → close_overflows s s.work ≡ false → pays s ≡ true → new ≡ s ∷ rest → Meets (of g) budget calls old new ahead.Pays
+meets-call g budget calls s old rest new r h o f e =
+    subst (λ ss. Reached (of g) budget old calls ss calls × BeginsWithCall (of g) ss) (sym e) (r, (working g s h o, f))
 
 -- the state, which has nothing left to do
 pub passes-finished : (g : Goal) (budget calls : ℕ) (s : State) (old rest : List State) (o : Option Cert) (a : Option Ahead) → a ≡ option_map ahead.Answer o → s.work ≡ []
@@ -113,14 +129,14 @@ passes-finished g budget calls s old rest None a is e r h = subst (λ b. Passes 
 passes-finished g budget calls s old rest (Some cert) a is e r h = subst (λ b. Passes (of g) budget calls old rest (Ok b)) (sym is) (meets-answer g budget calls s old rest cert r e h)
 
 -- the state, which costs a call
-pub passes-back : (g : Goal) (budget calls : ℕ) (s : State) (old rest new : List State) (x : Result (Option Ahead) SearchErr) → Reached (of g) budget old calls (s ∷ rest) calls → s.work ≢ [] → pays s ≡ true
-    → PutsBack s rest new x → Passes (of g) budget calls old new x
-passes-back g budget calls s old rest new (Ok (Some (ahead.Answer cert))) r h f p = absurd p
-passes-back g budget calls s old rest new (Ok (Some ahead.Ended)) r h f p = absurd p
-passes-back g budget calls s old rest new (Ok (Some ahead.Pays)) r h f p = meets-call g budget calls s old rest new r h f p
-passes-back g budget calls s old rest new (Ok None) r h f p = absurd p
-passes-back g budget calls s old rest new (Err errors.Overflow) r h f p = absurd p
-passes-back g budget calls s old rest new (Err errors.Memory) r h f p = tt
+pub passes-back : (g : Goal) (budget calls : ℕ) (s : State) (old rest new : List State) (x : Result (Option Ahead) SearchErr) → Reached (of g) budget old calls (s ∷ rest) calls → s.work ≢ []
+    → close_overflows s s.work ≡ false → pays s ≡ true → PutsBack s rest new x → Passes (of g) budget calls old new x
+passes-back g budget calls s old rest new (Ok (Some (ahead.Answer cert))) r h o f p = absurd p
+passes-back g budget calls s old rest new (Ok (Some ahead.Ended)) r h o f p = absurd p
+passes-back g budget calls s old rest new (Ok (Some ahead.Pays)) r h o f p = meets-call g budget calls s old rest new r h o f p
+passes-back g budget calls s old rest new (Ok None) r h o f p = absurd p
+passes-back g budget calls s old rest new (Err errors.Overflow) r h o f p = absurd p
+passes-back g budget calls s old rest new (Err errors.Memory) r h o f p = tt
 
 pub lower-back : (s : State) (old new : List State) (before after : ℕ) (x : Result (Option Ahead) SearchErr) → PutsBack s old new x → IsLower before after x
 lower-back s old new before after (Ok (Some a)) p = tt

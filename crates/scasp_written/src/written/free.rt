@@ -13,7 +13,7 @@ use crate::written::goal::Goal;
 use crate::written::stack::{Waiting, push_free};
 use scasp_cert::Cert;
 use scasp_search_constraints::SearchErr;
-use scasp_search_ends::{About, answer_at};
+use scasp_search_ends::{About, answer_at, close_overflows};
 use scasp_search_rules::State;
 use std::alloc::Global;
 
@@ -68,7 +68,8 @@ fn put_back(waiting: Waiting, stack: &mut Vec<Waiting>) -> Result<Option<Ahead>,
     Ok(Some(Ahead::Pays))
 }
 
-/// Goes on from a state, which was taken from the stack: what stands ahead where it is an answer or costs a call.
+/// Goes on from a state, which was taken from the stack: what stands ahead where it is an answer or costs a call. Overflow
+/// where it ends a case with a row that the bindings cannot replace.
 fn pass(
     alloc: Global,
     goal: &Goal,
@@ -82,6 +83,9 @@ fn pass(
     if waiting.state.work.is_empty() {
         return finish(alloc, goal, &waiting.state);
     }
+    if close_overflows(alloc, &waiting.state)? {
+        return Err(SearchErr::Overflow);
+    }
     if pays(&waiting.state) {
         return put_back(waiting, stack);
     }
@@ -92,7 +96,7 @@ fn pass(
 }
 
 /// Goes on up to the next answer, the next state that costs a call, or the end. Overflow only where a list that is asked
-/// on the way overflows, or the sample of an answer.
+/// on the way overflows, the sample of an answer, or a replacement in a row.
 pub(crate) fn advance(
     alloc: Global,
     goal: &Goal,

@@ -23,7 +23,7 @@ pub enum Event {
     Ended,
     /// The next cost would pass the budget.
     Spent,
-    /// A list of constraints, or a sample, whose arithmetic passes 128 bits.
+    /// A list of constraints, a row whose variables are replaced, or a sample, whose arithmetic passes 128 bits.
     Overflow,
 }
 
