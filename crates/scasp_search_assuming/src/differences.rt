@@ -1,12 +1,16 @@
 //! Disequations of terms, and the matching of heads.
-ghost use Rattle.std.specs.Prelude.{◌≡◌, ◌∷◌, [], IfOk, OnOk};
+ghost use Rattle.std.specs.Prelude.{◌≡◌, ◌++◌, ◌∷◌, [], IfOk, OnOk, length};
 ghost use Rattle.scasp_hint.specs.Satisfying.{sat};
 ghost use Rattle.scasp_search_rules.specs.Successors.Differences.{differ_first, differ_pairs, differ_terms, is_matched, same_shape, same_value, take_up};
+ghost use Rattle.scasp_search_rules.specs.Successors.Pairs.{pairs};
 ghost use Rattle.scasp_search_rules.specs.Successors.Regions.{before};
+ghost use Rattle.scasp_search_rules.specs.Successors.Variables.{next_variable};
 ghost use Rattle.scasp_search_state.specs.Choices.{Forks};
 ghost use Rattle.scasp_search_state.specs.Going.{Goes};
+ghost use Rattle.scasp_syntax.specs.Tm.{items};
 ghost use Rattle.scasp_syntax.specs.View.{tm_of};
 ghost use Rattle.scasp_syntax.specs.declared.program.Program.{Program as ThisProgram};
+ghost use Rattle.scasp_unify.specs.Negations.{new_parts};
 
 use crate::alternatives::when_same;
 use crate::equality::equated;
@@ -15,7 +19,7 @@ use crate::parts::differ_pair;
 use crate::shapes::becomes_shape;
 use scasp_list::Memory;
 use scasp_name::NameId;
-use scasp_search_constraints::{FirstPair, SearchErr, joined, split_first};
+use scasp_search_constraints::SearchErr;
 use scasp_search_rules::{Aim, Kind, Pair, Pairs, Task};
 use scasp_search_state::Situation;
 use scasp_syntax::{Term, Terms, copy};
@@ -42,6 +46,22 @@ pub fn same_value<M: Situation>(
     Ok(true)
 }
 
+/// The pairs of new variables and the arguments, and then those.
+fn parts_first<M: Situation>(
+    alloc: Global,
+    at: &M,
+    args: &Terms,
+    rest: Pairs,
+) -> Result<Pairs, Memory>
+    ensures { IfOk result (λ all. all ≡ pairs (new_parts (next_variable (M.now at.now)) (length (items args.now))) args.now ++ rest) }
+{
+    let mut all = new_pairs(alloc, at, args)?;
+    for pair in rest.into_vec() {
+        all.push(pair)?;
+    }
+    Ok(all)
+}
+
 /// Whether the variable can have the name; the pairs of its new arguments are looked at first then.
 pub fn same_shape<M: Situation>(
     alloc: Global,
@@ -55,7 +75,7 @@ pub fn same_shape<M: Situation>(
     ensures now { Goes result (same_shape sat (M.now at.old) x name args.now rest aim) (M.now at.new) }
     ensures points { IfOk result (λ _. M.points at.new ≡ M.points at.old) }
 {
-    let pairs = joined(new_pairs(alloc, at, args)?, rest)?;
+    let pairs = parts_first(alloc, at, args, rest)?;
     if !becomes_shape(alloc, at, x, name, args.len() as u64)? {
         return Ok(false);
     }
@@ -131,10 +151,12 @@ fn differ_pairs<M: Situation>(
 ) -> Result<bool, SearchErr>
     ensures { (p : ThisProgram) → Forks p (differ_pairs sat (M.now at.old) pairs aim) (M.now at.new) (M.points at.new) (M.points at.old) result }
 {
-    match split_first(pairs) {
-        Some(FirstPair { first, rest }) => differ_first(alloc, at, &first, rest, aim),
-        None => when_same(at, aim),
+    let mut pairs = pairs.into_vec();
+    if pairs.is_empty() {
+        return when_same(at, aim);
     }
+    let first = pairs.remove(0);
+    differ_first(alloc, at, &first, Pairs::from(pairs), aim)
 }
 
 /// Whether there is a state in which some of the pairs is apart; the first is the present one then, and the other waits.

@@ -1,15 +1,17 @@
 //! Equations of terms.
-ghost use Rattle.std.specs.Prelude.{◌≡◌, IfOk};
+ghost use Rattle.std.specs.Prelude.{◌≡◌, IfOk, OnOk};
 ghost use Rattle.scasp_hint.specs.Satisfying.{sat};
-ghost use Rattle.scasp_search_rules.specs.Successors.Equations.{equate_pairs, equate_terms, equated};
+ghost use Rattle.scasp_search_rules.specs.Successors.Equations.{equate_pairs, equate_terms, equated, equations_of};
+ghost use Rattle.scasp_search_rules.specs.Successors.Regions.{before};
 ghost use Rattle.scasp_search_state.specs.Going.{Goes};
 ghost use Rattle.scasp_syntax.specs.View.{tm_of};
 
 use crate::pairs::pairs_read;
 use crate::shapes::variable_app;
 use crate::variables::{two_variables, variable_number};
-use scasp_search_constraints::{FirstPair, SearchErr, equations_of, split_first};
-use scasp_search_rules::Pairs;
+use scasp_list::Memory;
+use scasp_search_constraints::SearchErr;
+use scasp_search_rules::{Pair, Pairs, Task};
 use scasp_search_state::Situation;
 use scasp_syntax::Term;
 use std::alloc::Global;
@@ -34,18 +36,31 @@ pub(crate) fn equated<M: Situation>(
     }
 }
 
+/// The pairs are to be equal, and wait.
+#[tactic(auto, using(crate::proofs::PairLemmas::last_equation))]
+fn put_equations<M: Situation>(at: &mut M, pairs: Vec<Pair>) -> Result<(), Memory>
+    ensures now { OnOk result (M.now at.new ≡ before (equations_of pairs.items) (M.now at.old)) }
+    ensures points { OnOk result (M.points at.new ≡ M.points at.old) }
+{
+    let mut pairs = pairs;
+    while let Some(Pair { left, right }) = pairs.pop() {
+        at.put(Task::Equate(left, right))?;
+    }
+    Ok(())
+}
+
 /// The first of the pairs that the terms come to is acted on, and the others wait.
 fn equate_pairs<M: Situation>(alloc: Global, at: &mut M, pairs: Pairs) -> Result<bool, SearchErr>
     ensures now { Goes result (equate_pairs sat (M.now at.old) pairs) (M.now at.new) }
     ensures points { IfOk result (λ _. M.points at.new ≡ M.points at.old) }
 {
-    match split_first(pairs) {
-        Some(FirstPair { first, rest }) => {
-            at.put_all(equations_of(alloc, rest)?)?;
-            equated(alloc, at, &first.left, &first.right)
-        }
-        None => Ok(true),
+    let mut pairs = pairs.into_vec();
+    if pairs.is_empty() {
+        return Ok(true);
     }
+    let first = pairs.remove(0);
+    put_equations(at, pairs)?;
+    equated(alloc, at, &first.left, &first.right)
 }
 
 /// Whether there is a state in which the two terms are equal; it is the present one then.

@@ -7,11 +7,12 @@ ghost use Rattle.scasp_syntax.specs.View.{tm_of};
 ghost use Rattle.scasp_syntax.specs.declared.program.Program.{Program as ThisProgram};
 
 use crate::alternatives::{are_apart, at_part};
+use crate::shapes::occurs_among;
 use crate::variables::is_inside;
 use scasp_name::NameId;
 use scasp_num::Rat;
-use scasp_search_constraints::{SearchErr, number_tasks, occurs_among, one_task};
-use scasp_search_rules::{Aim, Pairs, Task};
+use scasp_search_constraints::SearchErr;
+use scasp_search_rules::{Aim, Pairs, Task, Tasks};
 use scasp_search_state::Situation;
 use scasp_syntax::{Con, Term, Terms, copy_terms};
 use std::alloc::Global;
@@ -35,7 +36,7 @@ fn part_of_variables<M: Situation>(
         rest,
         aim,
     };
-    let other = one_task(alloc, same)?;
+    let other = Tasks::from(vec![in alloc; same]?);
     at_part(alloc, at, Con::Neq(Term::Var(x), Term::Var(y)), aim, other)
 }
 
@@ -78,7 +79,14 @@ fn differ_number<M: Situation>(
 ) -> Result<bool, SearchErr>
     ensures { (p : ThisProgram) → Forks p (differ_number sat (M.now at.old) x value rest aim) (M.now at.new) (M.points at.new) (M.points at.old) result }
 {
-    let other = number_tasks(alloc, x, value, rest, aim)?;
+    let number = Task::Assume(Con::Num(Term::Var(x)));
+    let avoid = Task::Avoid {
+        x,
+        value,
+        rest,
+        aim,
+    };
+    let other = Tasks::from(vec![in alloc; number, avoid]?);
     at_part(alloc, at, Con::NotNum(Term::Var(x)), aim, other)
 }
 
@@ -99,7 +107,7 @@ pub fn differ_value<M: Situation>(
         rest,
         aim,
     };
-    let other = one_task(alloc, same)?;
+    let other = Tasks::from(vec![in alloc; same]?);
     at_part(
         alloc,
         at,
@@ -133,7 +141,7 @@ fn differ_shape<M: Situation>(
         rest,
         aim,
     };
-    let other = one_task(alloc, shape)?;
+    let other = Tasks::from(vec![in alloc; shape]?);
     let excluded = Con::NotShape(x, name, args.len() as u64);
     at_part(alloc, at, excluded, aim, other)
 }

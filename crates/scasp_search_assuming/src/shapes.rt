@@ -8,17 +8,29 @@ ghost use Rattle.scasp_search_rules.specs.Successors.Variables.{next_variable};
 ghost use Rattle.scasp_search_state.specs.Going.{Goes};
 ghost use Rattle.scasp_syntax.specs.Tm.{items};
 ghost use Rattle.scasp_unify.specs.Negations.{new_parts};
+ghost use Rattle.scasp_unify.specs.Parts.{occurs_among};
 
 use crate::bindings::bound_to;
-use crate::pairs::new_pairs;
 use crate::replacements::replaced_if;
+use scasp_list::Memory;
 use scasp_name::NameId;
-use scasp_search_constraints::{SearchErr, equations_of, occurs_among};
+use scasp_search_constraints::{SearchErr, among, equations};
 use scasp_search_rules::Kind;
 use scasp_search_state::Situation;
+use scasp_search_terms::constraints::push_all_vars;
 use scasp_search_terms::forms::numbered_parts;
-use scasp_syntax::{Term, Terms};
+use scasp_syntax::{Term, Terms, VarList};
 use std::alloc::Global;
+
+/// Whether the variable stands in the terms.
+#[tactic(auto, using(scasp_search_constraints::proofs::EquateLemmas::OccursLemmas::among_all_vars))]
+pub(crate) fn occurs_among(alloc: Global, x: u64, terms: &Terms) -> Result<bool, Memory>
+    ensures { IfOk result (λ occurs. occurs ≡ occurs_among x terms.now) }
+{
+    let mut vars = VarList::new(alloc);
+    push_all_vars(terms, &mut vars)?;
+    Ok(among(x, vars.as_slice()))
+}
 
 /// Whether there is a state in which the variable has the name, with so many new arguments.
 pub(crate) fn becomes_shape<M: Situation>(
@@ -53,7 +65,8 @@ fn shaped_by<M: Situation>(
     ensures now { Goes result (each (before (equations (new_parts (next_variable (M.now at.old)) (length (items args.now))) args.now)) (becomes_shape sat (M.now at.old) x name (length (items args.now)))) (M.now at.new) }
     ensures points { IfOk result (λ _. M.points at.new ≡ M.points at.old) }
 {
-    let equations = equations_of(alloc, new_pairs(alloc, at, args)?)?;
+    let parts = numbered_parts(alloc, at.next_variable(), args.len() as u64)?;
+    let equations = equations(alloc, &parts, args)?;
     if !becomes_shape(alloc, at, x, name, args.len() as u64)? {
         return Ok(false);
     }

@@ -8,9 +8,7 @@ mod pairs;
 mod parts;
 mod shapes;
 
-pub use alternatives::one_task;
-pub use differences::{differ_terms, joined, same_shape, same_value};
+pub use differences::{differ_terms, same_shape, same_value};
 pub use equality::equate_terms;
-pub use pairs::{FirstPair, split_first};
-pub use parts::{differ_value, number_tasks};
-pub use shapes::{equations, equations_of, occurs_among};
+pub use parts::differ_value;
+pub use shapes::{equations, equations_of};

@@ -5,7 +5,4 @@ mod assuming;
 mod equate;
 
 pub use assuming::{SearchErr, States, among, assume, assume_all, is_general, passes};
-pub use equate::{
-    FirstPair, differ_terms, differ_value, equate_terms, equations, equations_of, joined,
-    number_tasks, occurs_among, one_task, same_shape, same_value, split_first,
-};
+pub use equate::{differ_terms, differ_value, equate_terms, equations, same_shape, same_value};

@@ -13,7 +13,7 @@ use scasp_syntax::{Con, DeepCopy};
 use std::alloc::Global;
 
 /// One task.
-pub fn one_task(alloc: Global, task: Task) -> Result<Tasks, Memory>
+pub(crate) fn one_task(alloc: Global, task: Task) -> Result<Tasks, Memory>
     ensures { IfOk result (λ tasks. tasks ≡ task ∷ []) }
 {
     let mut tasks = Tasks::new(alloc);

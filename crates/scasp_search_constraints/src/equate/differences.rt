@@ -38,7 +38,7 @@ pub fn same_value(
 }
 
 /// The pairs and then those.
-pub fn joined(first: Pairs, rest: Pairs) -> Result<Pairs, Memory>
+fn joined(first: Pairs, rest: Pairs) -> Result<Pairs, Memory>
     ensures { IfOk result (λ all. all ≡ first ++ rest) }
 {
     let mut all = first;

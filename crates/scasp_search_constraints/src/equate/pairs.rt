@@ -26,13 +26,13 @@ pub(crate) fn new_pairs(alloc: Global, state: &State, terms: &Terms) -> Result<P
 
 /// The first pair of a list, and those behind it.
 #[derive(Debug, Drop)]
-pub struct FirstPair {
-    pub first: Pair,
-    pub rest: Pairs,
+pub(crate) struct FirstPair {
+    pub(crate) first: Pair,
+    pub(crate) rest: Pairs,
 }
 
 /// The first of the pairs and the rest, where there is one.
-pub fn split_first(pairs: Pairs) -> Option<FirstPair>
+pub(crate) fn split_first(pairs: Pairs) -> Option<FirstPair>
     ensures { MatchOption result (pairs ≡ []) (λ both. pairs ≡ both.first ∷ both.rest) }
 {
     let mut all = pairs.into_vec();

@@ -75,13 +75,7 @@ fn differ_variables(
 // ---- a variable and a number
 
 /// The tasks where the variable is a number, which may be another one than this.
-pub fn number_tasks(
-    alloc: Global,
-    x: u64,
-    value: Rat,
-    rest: Pairs,
-    aim: Aim,
-) -> Result<Tasks, Memory>
+fn number_tasks(alloc: Global, x: u64, value: Rat, rest: Pairs, aim: Aim) -> Result<Tasks, Memory>
     ensures { IfOk result (λ tasks. tasks ≡ Task.Assume (Con.Num (Term.Var x)) ∷ Task.Avoid x value rest aim ∷ []) }
 {
     let mut tasks = one_task(alloc, Task::Assume(Con::Num(Term::Var(x))))?;

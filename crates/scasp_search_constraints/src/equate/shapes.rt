@@ -55,7 +55,7 @@ pub fn equations(alloc: Global, left: &Terms, right: &Terms) -> Result<Tasks, Me
 
 /// Whether the variable stands in the terms.
 #[tactic(auto, using(crate::proofs::EquateLemmas::OccursLemmas::among_all_vars))]
-pub fn occurs_among(alloc: Global, x: u64, terms: &Terms) -> Result<bool, Memory>
+pub(crate) fn occurs_among(alloc: Global, x: u64, terms: &Terms) -> Result<bool, Memory>
     ensures { IfOk result (λ occurs. occurs ≡ occurs_among x terms.now) }
 {
     let mut vars = VarList::new(alloc);
