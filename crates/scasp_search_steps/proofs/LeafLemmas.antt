@@ -1,6 +1,6 @@
 -- The leaves that a choice leaves.
 use Rattle.std.specs.Prelude.{◌≡◌, ℕ, zero, suc, ◌+◌, ◌-◌, ◌<◌, ◌≤◌, ltb, Bool, true, false, if◌then◌else◌, ◌⊎◌, Option, None, Some, List, [], ◌∷◌, ◌++◌, drop, length, map, refl}
-use Rattle.std.proofs.Common.{add-one, ap, append_assoc, arith, inl, inr, subst, sym, ◌∙◌}
+use Rattle.std.proofs.Common.{add-one, ap, append_assoc, arith, inl, inr, sym, ◌∙◌}
 use Rattle.std.proofs.lemmas.Bool.{ltb-false, ltb-true}
 use Rattle.std.proofs.lemmas.List.{map-append}
 use Rattle.scasp_search_rules.specs.declared.states.covers.Cover.{Cover}
@@ -15,7 +15,7 @@ use Rattle.scasp_search_state.specs.Choices.{Point, leaves_of, left, waiting}
 use Rattle.scasp_search_state.specs.Words.{innermost}
 use Rattle.scasp_search_state.specs.declared.choice.Begun.{Begun}
 use Rattle.scasp_search_state.specs.declared.choice.Choice.TheVariants as choice
-use Rattle.scasp_search_steps.specs.Leaves.{call_of, head_leaf, heads, leaf, leaf_count}
+use Rattle.scasp_search_steps.specs.Leaves.{call_of, head_leaf, leaf, leaf_count}
 use Rattle.scasp_syntax.specs.Instances.{atom_under}
 use Rattle.scasp_syntax.specs.Programs.{numbered}
 use Rattle.scasp_syntax.specs.Values.{raised}

@@ -1,5 +1,5 @@
 -- Tasks and points that are taken.
-use Rattle.std.specs.Prelude.{◌≡◌, suc, Bool, Option, None, Some, Result, List, [], ◌∷◌, ◌++◌, length, refl}
+use Rattle.std.specs.Prelude.{◌≡◌, suc, Bool, None, Some, Result, List, [], ◌∷◌, ◌++◌, length, refl}
 use Rattle.std.proofs.Common.{ap, subst, sym, ◌∙◌}
 use Rattle.scasp_hint.specs.Satisfying.{sat}
 use Rattle.scasp_search_constraints.specs.declared.assuming.step.SearchErr.{SearchErr}

@@ -1,5 +1,5 @@
 -- The leaves of a case, one by one.
-use Rattle.std.specs.Prelude.{ℕ, suc, ◌+◌, ltb, Bool, if◌then◌else◌, List, ◌++◌, length}
+use Rattle.std.specs.Prelude.{ℕ, suc, ◌+◌, ltb, if◌then◌else◌, List, ◌++◌, length}
 use Rattle.scasp_search_rules.specs.declared.states.lines.Line.TheVariants as line
 use Rattle.scasp_search_rules.specs.declared.states.state.State.{State}
 use Rattle.scasp_search_rules.specs.Successors.Cases.{head_call, leaf_at, with_items}

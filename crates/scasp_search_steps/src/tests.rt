@@ -7,9 +7,9 @@ ghost use Rattle.scasp_search_rules.specs.Successors.Regions.{before};
 ghost use Rattle.scasp_search_state.specs.Going.{Goes};
 ghost use Rattle.scasp_search_steps.specs.Tests.{is_assumed};
 
-use scasp_search_assuming::{assume, assume_all, is_general};
 use scasp_list::Memory;
 use scasp_num::Row;
+use scasp_search_assuming::{assume, assume_all, is_general};
 use scasp_search_constraints::SearchErr;
 use scasp_search_rules::{Aim, Line, Pair, Pairs, Task};
 use scasp_search_state::Situation;
