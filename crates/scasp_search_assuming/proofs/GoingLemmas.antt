@@ -1,0 +1,43 @@
+-- Steps in place, and steps that follow one another.
+use Rattle.std.specs.Prelude.{◌≡◌, Bool, true, false, List, [], ◌∷◌, Result, Ok, Err, IfOk, refl}
+use Rattle.std.specs.List.{list_any}
+use Rattle.std.proofs.Common.{subst, sym, ◌∙◌}
+use Rattle.scasp_hint.specs.Finding.{overflows_in}
+use Rattle.scasp_search_constraints.proofs.AssumingLemmas.StepLemmas.{followed-none, followed-one, overflows-first, overflows-later}
+use Rattle.scasp_search_constraints.specs.Assuming.Taken.{Gives}
+use Rattle.scasp_search_constraints.specs.declared.assuming.step.SearchErr.{SearchErr}
+use Rattle.scasp_search_constraints.specs.declared.assuming.step.SearchErr.TheVariants as errors
+use Rattle.scasp_search_rules.specs.declared.states.state.State.{State}
+use Rattle.scasp_search_rules.specs.Successors.Steps.{Step, followed, goes_where}
+use Rattle.scasp_search_state.specs.Going.{Goes}
+use Rattle.scasp_syntax.specs.declared.con.Con.{Con}
+
+-- the answer to one question decides whether there is a state
+pub goes_by_answer : (r : Result Bool SearchErr) (sat : List Con → Bool) (cs : List Con) (s t : State) → Gives r (sat cs) (cs ∷ []) → IfOk r (λ _. t ≡ s)
+    → Goes r (goes_where sat cs s) t
+goes_by_answer (Ok true) sat cs s t h e = rw (← h, e) refl
+goes_by_answer (Ok false) sat cs s t h e = rw (← h) refl
+goes_by_answer (Err errors.Overflow) sat cs s t h e = h
+goes_by_answer (Err errors.Memory) sat cs s t h e = tt
+
+-- what goes by a step goes by an equal one
+pub goes_same : (r : Result Bool SearchErr) (p q : Step) (t : State) → Goes r p t → p ≡ q → Goes r q t
+goes_same r p q t h e = subst (λ (s : Step). Goes r s t) e h
+
+-- an error of the first step is one of both
+pub goes-not : (e : SearchErr) (r : Step) (f : State → Step) (s t : State) → Goes (Err e) r s → Goes (Err e) (followed r f) t
+goes-not errors.Overflow r f s t h = overflows-first r f h
+goes-not errors.Memory r f s t h = tt
+
+-- an error of the step that is left is one of the whole step
+pub goes-left : (e : SearchErr) (left all : Step) (s t : State) → (list_any overflows_in left.asked ≡ true → list_any overflows_in all.asked ≡ true) → Goes (Err e) left s
+    → Goes (Err e) all t
+goes-left errors.Overflow left all s t h k = h k
+goes-left errors.Memory left all s t h k = tt
+
+-- what goes by the second step goes by both
+pub goes-later : (r : Result Bool SearchErr) (first : Step) (f : State → Step) (s t : State) → first.states ≡ s ∷ [] → Goes r (f s) t → Goes r (followed first f) t
+goes-later (Ok true) first f s t h k = followed-one first f s (sym h) ∙ k
+goes-later (Ok false) first f s t h k = followed-one first f s (sym h) ∙ k
+goes-later (Err errors.Overflow) first f s t h k = overflows-later first f s (sym h) k
+goes-later (Err errors.Memory) first f s t h k = tt

@@ -1,0 +1,26 @@
+-- A call behind constraints that are assumed.
+use Rattle.std.specs.Prelude.{◌≡◌, true, [], ◌∷◌, map}
+use Rattle.std.specs.List.{list_any}
+use Rattle.std.proofs.Common.{sym}
+use Rattle.scasp_search_constraints.proofs.AssumingLemmas.StepLemmas.{followed-none, followed-one, overflows-first}
+use Rattle.scasp_hint.specs.Finding.{overflows_in}
+use Rattle.scasp_hint.specs.Satisfying.{sat}
+use Rattle.scasp_search_rules.specs.declared.states.state.State.{State}
+use Rattle.scasp_search_rules.specs.Successors.Assumptions.{assume_all}
+use Rattle.scasp_search_rules.specs.Successors.Calls.{differing, entered, opposites, unrepeated}
+use Rattle.scasp_search_rules.specs.Successors.Steps.{gives}
+use Rattle.scasp_syntax.specs.declared.atom.Lit.{Lit}
+use Rattle.scasp_syntax.specs.declared.program.Program.{Program}
+
+pub new_overflows : (p : Program) (s : State) (l : Lit)
+    → list_any overflows_in (assume_all sat (map (differing l) (opposites s l)) s).asked ≡ true
+    → list_any overflows_in (unrepeated p sat s l []).asked ≡ true
+new_overflows p s l h = overflows-first (assume_all sat (map (differing l) (opposites s l)) s) (λ t. gives (entered p t l)) h
+
+pub new_none : (p : Program) (s : State) (l : Lit) → (assume_all sat (map (differing l) (opposites s l)) s).states ≡ []
+    → (unrepeated p sat s l []).states ≡ []
+new_none p s l h = followed-none (assume_all sat (map (differing l) (opposites s l)) s) (λ t. gives (entered p t l)) (sym h)
+
+pub new_one : (p : Program) (s : State) (l : Lit) (t : State) → (assume_all sat (map (differing l) (opposites s l)) s).states ≡ t ∷ []
+    → (unrepeated p sat s l []).states ≡ entered p t l
+new_one p s l t h = followed-one (assume_all sat (map (differing l) (opposites s l)) s) (λ u. gives (entered p u l)) t (sym h)
