@@ -18,6 +18,7 @@ impl Search {
     ghost use Rattle.std.specs.Prelude.{◌≡◌, None, Some, IfOk, IfSome, IsSome};
     ghost use Rattle.scasp_search.specs.Rests.{Advances, rest_of, stopped};
     ghost use Rattle.scasp_search_walk.specs.Slices.{stop_of};
+    ghost use Rattle.scasp_search_walk.specs.declared.events.Advance.TheVariants as answers;
     ghost use Rattle.scasp_syntax.specs.Programs.{numbered};
     ghost use Rattle.scasp_written.specs.Written.Rests.{IsSameRun, Opens};
 
@@ -67,8 +68,8 @@ impl Search {
         ensures event { stopped self.old ≡ None → Advances (rest_of self.old) calls result (rest_of self.new) }
         ensures same { IsSameRun (rest_of self.old) (rest_of self.new) }
         ensures stops { stopped self.new ≡ stop_of result }
-        ensures overflow { stopped self.old ≡ Some SearchErr.Overflow → result ≡ Advance.Overflow }
-        ensures memory { stopped self.old ≡ Some SearchErr.Memory → result ≡ Advance.Memory }
+        ensures overflow { stopped self.old ≡ Some SearchErr.Overflow → result ≡ answers.Overflow }
+        ensures memory { stopped self.old ≡ Some SearchErr.Memory → result ≡ answers.Memory }
         ensures stays { IsSome (stopped self.old) → self.new ≡ self.old }
     {
         advance_by(&mut self.walk, calls)

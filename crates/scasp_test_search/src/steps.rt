@@ -31,7 +31,7 @@ static TWO_ANSWERS: &str = "p(X) :- not q(X). q(3). ?- p(X).";
 
 static SLICES: [u64; 6] = [0, 1, 5, 5, 5, 5];
 
-static TOLD: [Told; 6] = [
+static EXPECTED: [Told; 6] = [
     Told::Paused,
     Told::Paused,
     Told::Answer,
@@ -70,10 +70,10 @@ fn tell_all(alloc: Global) -> Result<(Vec<Told>, u64), Fail> {
 #[test]
 fn two_answers_in_slices(rt: HostRuntime) -> Result<(), Fail> {
     let (each, calls) = tell_each(rt.alloc())?;
-    assert_eq!(rt; each.as_slice(), TOLD.as_slice());
+    assert_eq!(rt; each.as_slice(), EXPECTED.as_slice());
     assert_eq!(rt; calls, 3);
     let (all, calls) = tell_all(rt.alloc())?;
-    assert_eq!(rt; all.as_slice(), TOLD.as_slice());
+    assert_eq!(rt; all.as_slice(), EXPECTED.as_slice());
     assert_eq!(rt; calls, 3);
     Ok(())
 }
