@@ -1,5 +1,6 @@
 pub mod AgreeLemmas
 pub mod BoundLemmas
+pub mod FixedLemmas
 pub mod PartLemmas
 pub mod QuestionLemmas
 pub mod ReadLemmas

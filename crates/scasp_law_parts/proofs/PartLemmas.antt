@@ -15,7 +15,7 @@ use Rattle.scasp_law_parts.proofs.AgreeLemmas.{Agree, split-all, join-all, meets
 
 -- ---- the values of w where the test passes, and elsewhere those of v
 
-abbrev picked : (ℕ → Bool) → Sub → Sub → Sub
+abbrev pub picked : (ℕ → Bool) → Sub → Sub → Sub
 picked p w v y = if p y then w y else v y
 
 picked-here : (p : ℕ → Bool) (w v : Sub) → Agree p (picked p w v) w
@@ -25,21 +25,21 @@ picked-here p w v y e = by (p y) e
     by true f = refl
     by false f = cc
 
-picked-there : (p : ℕ → Bool) (w v : Sub) → Agree (λ x. not (p x)) (picked p w v) v
+pub picked-there : (p : ℕ → Bool) (w v : Sub) → Agree (λ x. not (p x)) (picked p w v) v
 picked-there p w v y e = by (p y) e
   where
     by : (b : Bool) → not b ≡ true → (if b then w y else v y) ≡ v y
     by true f = cc
     by false f = refl
 
-picked-ground : (p : ℕ → Bool) (w v : Valuation) (y : ℕ) → is_ground (picked p w.of v.of y) ≡ true
+pub picked-ground : (p : ℕ → Bool) (w v : Valuation) (y : ℕ) → is_ground (picked p w.of v.of y) ≡ true
 picked-ground p w v y = by (p y)
   where
     by : (b : Bool) → is_ground (if b then w.of y else v.of y) ≡ true
     by true = w.ground y
     by false = v.ground y
 
-abbrev glued : (ℕ → Bool) → Valuation → Valuation → Valuation
+abbrev pub glued : (ℕ → Bool) → Valuation → Valuation → Valuation
 glued p w v = record { of = picked p w.of v.of; ground = picked-ground p w v }
 
 -- ---- the constraints that pass a test, and the others
@@ -55,7 +55,7 @@ filtered f g (c ∷ cs) h = by (f c) h.0 (filtered f g cs h.1)
 pub some-pass : {X : Type 0} → (f g : X → Bool) (cs : List X) → list_all g cs ≡ true → list_all g (filter f cs) ≡ true
 some-pass f g cs e = filtered f g cs (Each-from_test g (λ c. f c ≡ true → g c ≡ true) (λ c a b. a) cs e)
 
-whole : (f g : Con → Bool) (cs : List Con) → list_all g (filter f cs) ≡ true → list_all g (filter (λ c. not (f c)) cs) ≡ true → list_all g cs ≡ true
+pub whole : (f g : Con → Bool) (cs : List Con) → list_all g (filter f cs) ≡ true → list_all g (filter (λ c. not (f c)) cs) ≡ true → list_all g cs ≡ true
 whole f g [] a b = refl
 whole f g (c ∷ cs) a b = by (f c) a b (whole f g cs)
   where
@@ -72,12 +72,12 @@ not-true : (b : Bool) → not b ≡ true → b ≡ false
 not-true true e = cc
 not-true false e = refl
 
-all-inside : (s : Sub) (p : ℕ → Bool) (cs : List Con) → list_all (lies_within s p) (inside s p cs) ≡ true
+pub all-inside : (s : Sub) (p : ℕ → Bool) (cs : List Con) → list_all (lies_within s p) (inside s p cs) ≡ true
 all-inside s p cs = filtered (lies_within s p) (lies_within s p) cs (Each-from (λ c. lies_within s p c ≡ true → lies_within s p c ≡ true) cs (λ c i e. e))
 
-all-outside : (s : Sub) (p : ℕ → Bool) (cs : List Con) → are_parted s p cs ≡ true → list_all (lies_within s (λ x. not (p x))) (outside s p cs) ≡ true
-all-outside s p cs e =
-    let q : ℕ → Bool = λ x. not (p x) in
+-- where each constraint lies in the one or in the other, those outside of the one lie in the other
+pub all-outside : (s : Sub) (p q : ℕ → Bool) (cs : List Con) → list_all (λ c. lies_within s p c || lies_within s q c) cs ≡ true → list_all (lies_within s q) (outside s p cs) ≡ true
+all-outside s p q cs e =
     filtered (λ c. not (lies_within s p c)) (lies_within s q) cs
     (Each-from_test (λ c. lies_within s p c || lies_within s q c) (λ c. not (lies_within s p c) ≡ true → lies_within s q c ≡ true) (λ c. or-else (lies_within s p c) (lies_within s q c)) cs e)
 
@@ -89,7 +89,7 @@ glued-meets s p cs w v e a b =
     let u : Sub = picked p w.of v.of in
     whole (lies_within s p) (holds (then_by s u)) cs
     (meets-within s p u w.of (inside s p cs) (picked-here p w.of v.of) (all-inside s p cs) a)
-    (meets-within s (λ x. not (p x)) u v.of (outside s p cs) (picked-there p w.of v.of) (all-outside s p cs e) b)
+    (meets-within s (λ x. not (p x)) u v.of (outside s p cs) (picked-there p w.of v.of) (all-outside s p (λ x. not (p x)) cs e) b)
 
 pub met-apart : (s : Sub) (p : ℕ → Bool) (cs : List Con) → are_parted s p cs ≡ true → SatUnder s cs ↔ (SatUnder s (inside s p cs) × SatUnder s (outside s p cs))
 met-apart s p cs e = (

@@ -3,19 +3,25 @@ ghost use Rattle.std.specs.Prelude.{◌≡◌, ◌↔◌, ℕ, Bool, true, false
 ghost use Rattle.std.specs.List.{filter, list_all};
 ghost use Rattle.scasp_hint.specs.Satisfying.{sat};
 ghost use Rattle.scasp_law_parts.specs.Bound.{AreSolved, IsFree, Triangular, equations};
+ghost use Rattle.scasp_law_parts.specs.Fixed.{IsCut, Makes, cut_with};
 ghost use Rattle.scasp_law_parts.specs.Index.{HasNumber, IsIndex, IsWalk};
 ghost use Rattle.scasp_law_parts.specs.Parts.{SatUnder, are_parted, inside, lies_within, outside};
 ghost use Rattle.scasp_law_parts.specs.Questions.{IsEnough, IsReadable, StandsForAll, part_read, part_with};
 ghost use Rattle.scasp_list.specs.Each.{Each};
+ghost use Rattle.scasp_num.specs.Linear.{Linear};
+ghost use Rattle.scasp_num.specs.Number.{Number};
+ghost use Rattle.scasp_num.specs.Values.{Holds};
 ghost use Rattle.scasp_search_rules.specs.Successors.Reading.{con_under};
 ghost use Rattle.scasp_syntax.specs.Constraints.{Sat};
-ghost use Rattle.scasp_syntax.specs.Tm.{Tm};
-ghost use Rattle.scasp_syntax.specs.Values.{Sub};
+ghost use Rattle.scasp_syntax.specs.Tm.{Tm, num, var};
+ghost use Rattle.scasp_syntax.specs.Values.{Sub, under};
 ghost use Rattle.scasp_syntax.specs.View.{tm_of};
 ghost use Rattle.scasp_syntax.specs.declared.con.Con.{Con as ThisCon};
+ghost use Rattle.scasp_syntax.specs.declared.con.Con.TheVariants as con;
+ghost use Rattle.scasp_syntax.specs.declared.term.Term.TheVariants.{Var as TermVar};
 ghost use Rattle.scasp_unify.specs.Parts.{occurs};
 ghost use Rattle.scasp_unify.specs.Solving.{sub_of};
-ghost use Rattle.scasp_unify.specs.Unification.{Absorbs};
+ghost use Rattle.scasp_unify.specs.Unification.{Absorbs, single, then_by};
 ghost use Rattle.scasp_unify.specs.declared.bindings.Binding.{Binding as ThisBinding};
 
 /// Constraints that share no variable with the others of their list have a valuation, and so have the others, exactly
@@ -61,4 +67,13 @@ pub fn triangular_bindings_are_solved()
     ensures fewer { (f : ThisBinding → Bool) (bs : List ThisBinding) → Triangular bs → Triangular (filter f bs) }
     ensures met_with_fewer { (f : ThisBinding → Bool) (bs : List ThisBinding) (cs : List ThisCon) → Triangular bs → SatUnder (sub_of bs) cs → SatUnder (sub_of (filter f bs)) cs }
     ensures met_with_more { (bs : List ThisBinding) (b : ThisBinding) (cs : List ThisCon) → list_all (lies_within (sub_of bs) (λ y. not (nat_eq y b.x))) cs ≡ true → SatUnder (sub_of bs) cs → SatUnder (sub_of (bs ++ b ∷ [])) cs }
+{}
+
+/// A number test with a row that leaves its variable one value makes it this number. A part that shares only such
+/// variables with the rest is asked together with what makes them numbers. And such a variable, bound to anything else,
+/// leaves no valuation.
+pub fn fixed_numbers_part()
+    ensures made { (s : Sub) (x : ℕ) (q : Number) (r : Linear) → s x ≡ var x → ((p : ℕ → Number) → Holds p r → p x ≡ q) → Makes s (con.Num (TermVar x) ∷ con.Row r ∷ []) x q }
+    ensures decide { (s : Sub) (p f : ℕ → Bool) (value : ℕ → Number) (cs facts asked : List ThisCon) → IsCut s p f value cs facts asked → SatUnder s (cs ++ asked) ↔ SatUnder s (cut_with s p f cs facts asked) }
+    ensures refuses { (s : Sub) (cs : List ThisCon) (x : ℕ) (q : Number) (t : Tm) → Makes s cs x q → ((w : Sub) → under w t ≡ num q → ⊥) → SatUnder (then_by s (single x t)) cs → ⊥ }
 {}
