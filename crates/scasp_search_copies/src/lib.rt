@@ -1,0 +1,10 @@
+//! A state of the search that is changed in place, with copies of the states that wait.
+#![tactic(auto)]
+
+mod ahead;
+mod closing;
+mod copied;
+mod literals;
+mod tasks;
+
+pub use copied::Copied;
