@@ -3,7 +3,7 @@ ghost use Rattle.std.specs.Prelude.{◌≡◌, ◌∷◌, OnOk, true};
 ghost use Rattle.scasp_hint.specs.Satisfying.{sat};
 ghost use Rattle.scasp_search_rules.specs.Successors.Differences.{alternatives, at_part, when_apart, when_same};
 ghost use Rattle.scasp_search_rules.specs.Successors.Regions.{before};
-ghost use Rattle.scasp_search_rules.specs.Successors.Steps.{gives, goes};
+ghost use Rattle.scasp_search_rules.specs.Successors.Steps.{gives};
 ghost use Rattle.scasp_search_state.specs.Choices.{Forked, Forks};
 ghost use Rattle.scasp_syntax.specs.declared.program.Program.{Program as ThisProgram};
 
@@ -17,7 +17,7 @@ use std::alloc::Global;
 // ---- terms that are apart, and terms that are the same
 
 /// What is to be done where the terms are apart comes next.
-fn when_apart<M: Situation>(at: &mut M, aim: Aim) -> Result<(), Memory>
+pub(crate) fn when_apart<M: Situation>(at: &mut M, aim: Aim) -> Result<(), Memory>
     ensures now { OnOk result (M.now at.new ≡ before (when_apart aim) (M.now at.old)) }
     ensures points { OnOk result (M.points at.new ≡ M.points at.old) }
 {
@@ -25,14 +25,6 @@ fn when_apart<M: Situation>(at: &mut M, aim: Aim) -> Result<(), Memory>
         Aim::Test => Ok(()),
         Aim::Head { .. } => at.put(Task::Void),
     }
-}
-
-/// The state in which the terms are apart.
-pub(crate) fn are_apart<M: Situation>(at: &mut M, aim: Aim) -> Result<bool, SearchErr>
-    ensures { (p : ThisProgram) → Forks p (goes (before (when_apart aim) (M.now at.old))) (M.now at.new) (M.points at.new) (M.points at.old) result }
-{
-    when_apart(at, aim)?;
-    Ok(true)
 }
 
 /// Whether there is a state in which the terms are the same: a test fails there, and the case of a rule begins.

@@ -151,12 +151,12 @@ fn differ_pairs<M: Situation>(
 ) -> Result<bool, SearchErr>
     ensures { (p : ThisProgram) → Forks p (differ_pairs sat (M.now at.old) pairs aim) (M.now at.new) (M.points at.new) (M.points at.old) result }
 {
-    let mut pairs = pairs.into_vec();
     if pairs.is_empty() {
         return when_same(at, aim);
     }
-    let first = pairs.remove(0);
-    differ_first(alloc, at, &first, Pairs::from(pairs), aim)
+    let mut rest = pairs.into_vec();
+    let first = rest.remove(0);
+    differ_first(alloc, at, &first, Pairs::from(rest), aim)
 }
 
 /// Whether there is a state in which some of the pairs is apart; the first is the present one then, and the other waits.

@@ -54,12 +54,12 @@ fn equate_pairs<M: Situation>(alloc: Global, at: &mut M, pairs: Pairs) -> Result
     ensures now { Goes result (equate_pairs sat (M.now at.old) pairs) (M.now at.new) }
     ensures points { IfOk result (λ _. M.points at.new ≡ M.points at.old) }
 {
-    let mut pairs = pairs.into_vec();
     if pairs.is_empty() {
         return Ok(true);
     }
-    let first = pairs.remove(0);
-    put_equations(at, pairs)?;
+    let mut rest = pairs.into_vec();
+    let first = rest.remove(0);
+    put_equations(at, rest)?;
     equated(alloc, at, &first.left, &first.right)
 }
 

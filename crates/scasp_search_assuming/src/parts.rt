@@ -6,7 +6,7 @@ ghost use Rattle.scasp_search_state.specs.Choices.{Forks};
 ghost use Rattle.scasp_syntax.specs.View.{tm_of};
 ghost use Rattle.scasp_syntax.specs.declared.program.Program.{Program as ThisProgram};
 
-use crate::alternatives::{are_apart, at_part};
+use crate::alternatives::{at_part, when_apart};
 use crate::shapes::occurs_among;
 use crate::variables::is_inside;
 use scasp_name::NameId;
@@ -132,7 +132,8 @@ fn differ_shape<M: Situation>(
     ensures { (p : ThisProgram) → Forks p (differ_shape sat (M.now at.old) x name args.now rest aim) (M.now at.new) (M.points at.new) (M.points at.old) result }
 {
     if occurs_among(alloc, x, args)? {
-        return are_apart(at, aim);
+        when_apart(at, aim)?;
+        return Ok(true);
     }
     let shape = Task::Shape {
         x,
@@ -167,6 +168,9 @@ pub(crate) fn differ_pair<M: Situation>(
         (Term::App(name, args), Term::Var(y)) => {
             differ_shape(alloc, at, *y, *name, args, rest, aim)
         }
-        (Term::Num(_) | Term::App(_, _), Term::Num(_) | Term::App(_, _)) => are_apart(at, aim),
+        (Term::Num(_) | Term::App(_, _), Term::Num(_) | Term::App(_, _)) => {
+            when_apart(at, aim)?;
+            Ok(true)
+        }
     }
 }

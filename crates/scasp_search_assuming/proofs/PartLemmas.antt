@@ -1,0 +1,27 @@
+-- Parts of a disequation, by what is known of the terms.
+use Rattle.std.specs.Prelude.{◌≡◌, ℕ, Bool, true, false, if◌then◌else◌, List, [], ◌∷◌}
+use Rattle.std.proofs.Common.{ap, sym}
+use Rattle.scasp_search_rules.specs.declared.states.state.State.{State}
+use Rattle.scasp_search_rules.specs.declared.states.tasks.Aim.{Aim}
+use Rattle.scasp_search_rules.specs.declared.states.tasks.Pair.{Pair}
+use Rattle.scasp_search_rules.specs.declared.states.tasks.Task.TheVariants as task
+use Rattle.scasp_search_rules.specs.Successors.Differences.{differ_first, differ_pair, differ_variables, is_matched, part_of_variables, stands_first, take_up}
+use Rattle.scasp_search_rules.specs.Successors.Regions.{before}
+use Rattle.scasp_search_rules.specs.Successors.Steps.{goes}
+use Rattle.scasp_syntax.specs.Tm.{Tm}
+use Rattle.scasp_syntax.specs.declared.con.Con.{Con}
+
+-- two variables, the first of which stands first, or the second
+pub in_order : (sat : List Con → Bool) (s : State) (x y : ℕ) (rest : List Pair) (aim : Aim) → stands_first s x y ≡ true
+    → part_of_variables sat s x y rest aim ≡ differ_variables sat s x y rest aim
+in_order sat s x y rest aim e = sym (ap (λ (b : Bool). if b then part_of_variables sat s x y rest aim else part_of_variables sat s y x rest aim) e)
+
+pub other_order : (sat : List Con → Bool) (s : State) (x y : ℕ) (rest : List Pair) (aim : Aim) → stands_first s x y ≡ false
+    → part_of_variables sat s y x rest aim ≡ differ_variables sat s x y rest aim
+other_order sat s x y rest aim e = sym (ap (λ (b : Bool). if b then part_of_variables sat s x y rest aim else part_of_variables sat s y x rest aim) e)
+
+-- a pair whose second side is no variable of a head
+pub unmatched : (sat : List Con → Bool) (s : State) (t u : Tm) (rest : List Pair) (aim : Aim) → is_matched s u ≡ false
+    → differ_pair sat s t u rest aim ≡ differ_first sat s t u rest aim
+unmatched sat s t u rest aim e =
+    sym (ap (λ (b : Bool). if b then goes (before (task.Differ rest aim ∷ []) (take_up s t u)) else differ_pair sat s t u rest aim) e)
