@@ -1,7 +1,7 @@
 //! Tables of calls, with the variables behind them.
 use crate::variables::Variables;
 use scasp_list::Memory;
-use scasp_search_rules::states::{Kind, Made};
+use scasp_search_rules::{Kind, Made};
 use std::alloc::Global;
 use std::process::Abort;
 use std::test::Fail;

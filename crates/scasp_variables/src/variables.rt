@@ -5,7 +5,7 @@ ghost use Rattle.scasp_search_rules.specs.Successors.Variables.{is_kind_existent
 ghost use Rattle.scasp_trail.specs.Past.{earlier, latest};
 
 use scasp_list::Memory;
-use scasp_search_rules::states::{Kind, Made};
+use scasp_search_rules::{Kind, Made};
 use scasp_trail::Trailed;
 use std::alloc::Global;
 use std::marker::Model;
