@@ -3,16 +3,21 @@ ghost use Rattle.std.specs.Prelude.{IfOk};
 ghost use Rattle.scasp_cert.specs.Certificate.{certificate_of};
 ghost use Rattle.scasp_command_run.specs.Inside.Events.{Comes, GoesOn, IsAbout, IsGoing};
 ghost use Rattle.scasp_command_run.specs.Queries.{Meets};
-ghost use Rattle.scasp_written.specs.Written.Rests.{Rest, rest_of, stopped};
+ghost use Rattle.scasp_search.specs.Rests.{rest_of, stopped};
+ghost use Rattle.scasp_written.specs.Written.Rests.{Rest};
 ghost use Rattle.scasp_search_rules.specs.Successors.Machine.{answered};
 
 use crate::ends::QueryEnd;
 use scasp_cert::Cert;
 use scasp_fill::{Finished, finish};
 use scasp_list::Memory;
+use scasp_search::Search;
 use scasp_syntax::Program;
-use scasp_written::{Event, Written};
+use scasp_written::Event;
 use std::alloc::Global;
+
+/// How many calls a search goes on for before it looks up.
+pub const SLICE: u64 = 1_000;
 
 /// What the search comes to next.
 #[derive(Drop)]
@@ -40,13 +45,13 @@ fn next_of(alloc: Global, program: &Program, tree: &Cert) -> Result<Next, Memory
 pub(crate) fn next_event(
     alloc: Global,
     program: &Program,
-    search: &mut Written,
+    search: &mut Search,
 ) -> Result<Next, Memory>
     requires { IsGoing program.now (rest_of search.old) (stopped search.old) }
     ensures comes { IfOk result (λ next. Comes program.now (rest_of search.old) (rest_of search.new) next) }
     ensures goes_on { IfOk result (λ next. GoesOn program.now (rest_of search.new) (stopped search.new) next) }
 {
-    match search.next()? {
+    match scasp_search::next_event(search, SLICE)? {
         Event::Answer(tree) => next_of(alloc, program, &tree),
         Event::Ended => Ok(Next::End(QueryEnd::Ended)),
         Event::Spent => Ok(Next::End(QueryEnd::Spent)),

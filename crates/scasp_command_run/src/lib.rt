@@ -10,4 +10,5 @@ mod runs;
 mod tables;
 
 pub use ends::{QueryEnd, RunEnd};
+pub use events::SLICE;
 pub use runs::run;

@@ -9,7 +9,7 @@ ghost use Rattle.scasp_command_run.specs.Inside.Events.{IsGoing};
 ghost use Rattle.scasp_command_run.specs.Inside.Tables.{IsTable};
 ghost use Rattle.scasp_command_run.specs.Jobs.{job};
 ghost use Rattle.scasp_command_run.specs.Queries.{Prints, fewer};
-ghost use Rattle.scasp_written.specs.Written.Rests.{rest_of, stopped};
+ghost use Rattle.scasp_search.specs.Rests.{rest_of, stopped};
 ghost use Rattle.scasp_syntax.specs.Programs.{numbered};
 ghost use Rattle.scasp_syntax.specs.declared.program.Program.{Program as ThisProgram};
 
@@ -20,8 +20,8 @@ use crate::tables::{Table, name_sample};
 use scasp_cert::Cert;
 use scasp_io::{OutputErr, Sink};
 use scasp_list::Memory;
+use scasp_search::Search;
 use scasp_syntax::Program;
-use scasp_written::Written;
 use std::alloc::Global;
 
 /// How the run of a query ended, and whether an answer was printed.
@@ -34,7 +34,7 @@ pub(crate) struct Queried {
 /// The run of a query between two events.
 #[derive(Drop)]
 pub(crate) struct Progress {
-    pub search: Written,
+    pub search: Search,
     /// How many more answers are asked for; all where no number is given.
     pub asked: Option<u64>,
     /// How many answers were printed.
@@ -153,7 +153,7 @@ pub(crate) fn run_query<K: Sink>(
     ensures write { IsErrOf result OutputErr.Write → Rose (K.faults out.old) (K.faults out.new) }
     ensures counts { K.faults out.old ≤ K.faults out.new }
 {
-    let search = Written::open(alloc, program, query, budget, table.program)?;
+    let search = Search::open(alloc, program, query, budget, table.program)?;
     let mut progress = Progress {
         search,
         asked: answers,

@@ -5,17 +5,20 @@ ghost use Rattle.scasp_cert.specs.Flat.{is_flat};
 ghost use Rattle.scasp_cert.specs.Lines.{all_lines};
 ghost use Rattle.scasp_command_run.specs.Inside.Events.{IsAbout, IsGoing};
 ghost use Rattle.scasp_command_run.specs.Queries.{Meets};
-ghost use Rattle.scasp_written.specs.Written.Rests.{Rest, rest_of, stopped};
+ghost use Rattle.scasp_search.specs.Rests.{rest_of, stopped};
+ghost use Rattle.scasp_written.specs.Written.Rests.{Rest};
 ghost use Rattle.scasp_search_rules.specs.Successors.Machine.{answered};
 ghost use Rattle.scasp_syntax.specs.Programs.{numbered};
 ghost use Rattle.scasp_command_trial.specs.Inside.{Leads};
 ghost use Rattle.scasp_command_trial.specs.Trials.{IsTrial, Tries};
 
 use scasp_cert::{Cert, flat, lines};
+use scasp_command_run::SLICE;
 use scasp_fill::{Finished, finish};
 use scasp_list::Memory;
+use scasp_search::{Search, next_event};
 use scasp_syntax::Program;
-use scasp_written::{Event, Written};
+use scasp_written::Event;
 use std::alloc::Global;
 
 /// What a trial comes to.
@@ -76,12 +79,12 @@ fn tree_of(
 }
 
 /// Goes on by one event of the search: what the trial comes to, if that is known then.
-fn step(alloc: Global, program: &Program, search: &mut Written) -> Result<Option<Trial>, Memory>
+fn step(alloc: Global, program: &Program, search: &mut Search) -> Result<Option<Trial>, Memory>
     requires { IsGoing program.now (rest_of search.old) (stopped search.old) }
     ensures leads { IfOk result (λ trial. Leads program.now (rest_of search.old) (rest_of search.new) trial) }
     ensures going { IfOk result (λ trial. trial ≡ None → IsGoing program.now (rest_of search.new) (stopped search.new)) }
 {
-    match search.next()? {
+    match next_event(search, SLICE)? {
         Event::Answer(tree) => tree_of(alloc, program, &tree, search.calls()),
         Event::Ended => Ok(Some(Trial::Ended)),
         Event::Spent => Ok(Some(Trial::Spent)),
@@ -90,7 +93,7 @@ fn step(alloc: Global, program: &Program, search: &mut Written) -> Result<Option
 }
 
 /// What the search comes to first.
-fn try_search(alloc: Global, program: &Program, search: &mut Written) -> Result<Trial, Memory>
+fn try_search(alloc: Global, program: &Program, search: &mut Search) -> Result<Trial, Memory>
     requires { IsGoing program.now (rest_of search.old) (stopped search.old) }
     ensures { IfOk result (λ trial. Tries program.now (rest_of search.old) trial) }
 {
@@ -108,7 +111,7 @@ fn try_query(alloc: Global, program: &Program, budget: u64, fresh: u64) -> Resul
     requires { IsSome (numbered program.now.queries 1) }
     ensures { IfOk result (λ trial. IsTrial program.now budget fresh trial) }
 {
-    let mut search = Written::open(alloc, program, 1, budget, fresh)?;
+    let mut search = Search::open(alloc, program, 1, budget, fresh)?;
     try_search(alloc, program, &mut search)
 }
 

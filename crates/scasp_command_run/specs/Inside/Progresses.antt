@@ -4,7 +4,7 @@ use Rattle.scasp_cert.specs.Certificate.{Certificate}
 use Rattle.scasp_command_run.specs.Inside.Continuing.{Standing}
 use Rattle.scasp_command_run.specs.Inside.Events.{MeetsRight}
 use Rattle.scasp_command_run.specs.declared.queries.Progress.{Progress}
-use Rattle.scasp_written.specs.Written.Rests.{rest_of}
+use Rattle.scasp_search.specs.Rests.{rest_of}
 use Rattle.scasp_syntax.specs.declared.program.Program.{Program}
 
 abbrev pub standing : Progress → Standing

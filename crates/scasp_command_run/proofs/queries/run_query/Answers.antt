@@ -4,7 +4,7 @@ use Rattle.scasp_command_run.proofs.EventLemmas.{about-opened}
 use Rattle.scasp_command_run.proofs.QueryLemmas.{going-first, going-on, opens-names, query-cut, query-ended, query-failed, query-none, some-each, some-known, some-more}
 use Rattle.scasp_command_run.specs.Inside.Progresses.{standing}
 use Rattle.scasp_command_run.specs.Jobs.{job}
-use Rattle.scasp_written.specs.Written.Rests.{rest_of}
+use Rattle.scasp_search.specs.Rests.{rest_of}
 use Rattle.scasp_syntax.specs.Programs.{numbered}
 use Rattle.scasp_command_run.proofs.queries.run_query.Goals as goal
 

@@ -3,7 +3,7 @@ use Rattle.std.proofs.lemmas.Result.{err_from_is_err_and}
 use Rattle.scasp_command_run.proofs.QueryLemmas.{ends-here, nothing-steps, pass-written, stops-here, true-false}
 use Rattle.scasp_command_run.specs.Inside.Progresses.{standing}
 use Rattle.scasp_command_run.specs.declared.queries.Progress.{Progress}
-use Rattle.scasp_written.specs.Written.Rests.{rest_of}
+use Rattle.scasp_search.specs.Rests.{rest_of}
 use Rattle.scasp_command_run.proofs.queries.step.Goals as goal
 
 pub returns-then-is_enough-clause-output : goal.returns-then-is_enough-clause-output

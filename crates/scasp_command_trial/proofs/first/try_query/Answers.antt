@@ -1,4 +1,4 @@
-use Rattle.scasp_written.specs.Written.Rests.{rest_of, stopped}
+use Rattle.scasp_search.specs.Rests.{rest_of, stopped}
 use Rattle.scasp_command_trial.proofs.TrialLemmas.{going-opened, tries-all}
 use Rattle.scasp_command_trial.proofs.first.try_query.Goals as goal
 

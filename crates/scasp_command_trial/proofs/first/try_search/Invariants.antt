@@ -1,5 +1,5 @@
 use Rattle.scasp_command_run.specs.Inside.Events.{IsGoing}
-use Rattle.scasp_written.specs.Written.Rests.{rest_of, stopped}
+use Rattle.scasp_search.specs.Rests.{rest_of, stopped}
 use Rattle.scasp_command_trial.specs.Trials.{Tries}
 use Rattle.scasp_command_trial.specs.declared.first.Trial.{Trial}
 use Rattle.scasp_command_trial.proofs.first.try_search.Given as goal
