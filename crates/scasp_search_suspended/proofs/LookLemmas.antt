@@ -28,10 +28,6 @@ pub no_work : (tasks : List Task) → has_work tasks ≡ false → tasks ≡ []
 no_work [] h = refl
 no_work (t ∷ ts) h = absurd (cc h)
 
-pub some_work : (tasks : List Task) → has_work tasks ≡ true → tasks ≢ []
-some_work [] h = absurd (cc h)
-some_work (t ∷ ts) h = λ e. cc e
-
 -- ---- a state with nothing left to do
 
 sees_answer : (g : Goal) (s : State) (rest : List State) (cert : Cert) → s.work ≡ [] → answer_at (problem_in g) s g.queried [] ≡ Some (Some (certificate_of cert))
@@ -56,17 +52,3 @@ pub sees_found : (g : Goal) (s : State) (rest : List State) (found : Option Cert
     → Ends (Ok found) (answer_at (problem_in g) s g.queried []) (asked_by (problem_in g) s g.queried []) → Sees certificate_of (of g) (s ∷ rest) rest (Ok l)
 sees_found g s rest None l is e h = rw is (sees_nothing g s rest e h)
 sees_found g s rest (Some cert) l is e h = rw is (sees_answer g s rest cert e h)
-
--- ---- a state with something left to do, which stays
-
--- a case ends with a row that is not replaced
-pub sees_close : (g : Goal) (s : State) (rest new : List State) → close_overflows s s.work ≡ true → Sees certificate_of (of g) (s ∷ rest) new (Err errors.Overflow)
-sees_close g s rest new h = inl (closing g s h)
-
-pub sees_pays : (g : Goal) (s : State) (points : List Point) (b : Bool) → has_work s.work ≡ b → b ≡ true → close_overflows s s.work ≡ false → pays s ≡ true
-    → Sees certificate_of (of g) (s ∷ waiting g.program points) (states g.program b s points) (Ok look.Pays)
-sees_pays g s points b h e o f = rw e (working g s (some_work s.work (h ∙ e)) o, f, refl)
-
-pub sees_free : (g : Goal) (s : State) (points : List Point) (b : Bool) → has_work s.work ≡ b → b ≡ true → close_overflows s s.work ≡ false → pays s ≡ false
-    → Sees certificate_of (of g) (s ∷ waiting g.program points) (states g.program b s points) (Ok look.Free)
-sees_free g s points b h e o f = rw e (working g s (some_work s.work (h ∙ e)) o, f, refl)
