@@ -1,7 +1,6 @@
 use Rattle.std.proofs.Common.{subst}
 use Rattle.scasp_cert.specs.Certificate.{certificate_of}
 use Rattle.scasp_search_state.specs.Choices.{states}
-use Rattle.scasp_search_suspended.proofs.SuspendedLemmas.{sees_end}
 use Rattle.scasp_search_suspended.proofs.suspended.SuspendedFrontierCert.look.Goals as goal
 use Rattle.scasp_search_walk.specs.Slices.{Sees}
 use Rattle.scasp_written.proofs.WrittenLemmas.WalkLemmas.{of}
