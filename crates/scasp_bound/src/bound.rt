@@ -8,7 +8,7 @@ ghost use Rattle.scasp_bound.specs.Bounds.{among, bound_in, unbound, without};
 ghost use Rattle.scasp_bound.specs.Inside.Gaps.{without_unless};
 
 use crate::places::{Place, binding_at, first_of, forget, is_among, note, take_out_of};
-use crate::reading::resolve;
+use crate::reading::{Head, head_of, resolve_all};
 use scasp_list::Memory;
 use scasp_syntax::Term;
 use scasp_trail::Trailed;
@@ -129,7 +129,13 @@ impl Bound {
     {
         let items = self.list.as_slice();
         let places = self.places.as_slice();
-        resolve(alloc, items, places, self.is_whole, 0, term)
+        match head_of(items, places, self.is_whole, 0, term) {
+            Head::All(read) => Ok(read),
+            Head::Name(name, args, from) => {
+                let read = resolve_all(alloc, items, places, self.is_whole, from, args)?;
+                Ok(Term::App(name, read))
+            }
+        }
     }
 
     /// Marks the bindings as they are now; after an error of a change there is no mark to be had until the next `leave`.
