@@ -1,7 +1,7 @@
 //! Atoms by number.
-ghost use Rattle.std.specs.Prelude.{◌≡◌, [], length, slice_get, IsTrue, IfOk, OnOk, OnErr, Some, option_copied};
-ghost use Rattle.scasp_model.specs.Atoms.{are_distinct};
-ghost use Rattle.scasp_tables.specs.Tables.{place_of, with_atom};
+ghost use Rattle.std.specs.Prelude.{◌≡◌, false, [], length, slice_get, IsTrue, IfOk, IfSome, IfNone, OnOk, OnErr, Some};
+ghost use Rattle.scasp_model.specs.Atoms.{among, are_distinct};
+ghost use Rattle.scasp_tables.specs.Tables.{with_atom};
 
 use crate::key_table::KeyTable;
 use crate::keys::atom_key;
@@ -20,10 +20,14 @@ pub struct AtomTable {
 impl Model for AtomTable {
     ghost use Rattle.std.specs.Prelude.{◌≡◌, List, map, IsTrue};
     ghost use Rattle.scasp_model.specs.Atoms.{are_distinct};
+    ghost use Rattle.std.specs.Coded.{codes};
+    ghost use Rattle.scasp_syntax.specs.TmCode.{coded_tms};
     ghost use Rattle.scasp_tables.specs.Inside.Keys.{atom_key};
     ghost use Rattle.scasp_syntax.specs.declared.atom.Atom.{Atom};
 
     ghost Value = { List Atom };
+
+    ghost coded = { Prim.hlevel (codes, coded_tms) };
 
     ghost view = { λ t. t.atoms };
 
@@ -59,10 +63,22 @@ impl AtomTable {
 
     /// The number of the atom, where it is there. It takes memory for its key.
     pub fn find(&self, alloc: Global, atom: &Atom) -> Result<Option<usize>, Memory>
-        ensures { IfOk result (λ place. place ≡ place_of self.now atom.now) }
+        ensures found { IfOk result (λ place. IfSome place (λ n. slice_get self.now n ≡ Some atom.now)) }
+        ensures absent { IfOk result (λ place. IfNone place (among self.now atom.now ≡ false)) }
     {
         let key = atom_key(alloc, atom)?;
-        Ok(self.keys.find(key.as_slice()))
+        match self.keys.find(key.as_slice()) {
+            Some(place) => Ok(Some(place)),
+            None => Ok(None),
+        }
+    }
+
+    /// Whether the atom is there. It takes memory for its key.
+    pub fn contains(&self, alloc: Global, atom: &Atom) -> Result<bool, Memory>
+        ensures { IfOk result (λ answer. answer ≡ among self.now atom.now) }
+    {
+        let key = atom_key(alloc, atom)?;
+        Ok(self.keys.contains(key.as_slice()))
     }
 
     /// The number of the atom, of which a copy goes last where it is new. Old atoms keep their numbers; after an error the table

@@ -1,11 +1,10 @@
 //! Domains: finite lists of distinct ground terms.
-ghost use Rattle.std.specs.Prelude.{◌≡◌, ◌∷◌, [], ◌++◌, length, slice_get, IsTrue, true, false, IfOk, OnOk, OnErr, None, option_copied, option_map, is_some};
+ghost use Rattle.std.specs.Prelude.{◌≡◌, false, length, slice_get, IsTrue, IfOk, IfSome, IfNone, OnErr, Some, option_copied, option_map};
 ghost use Rattle.scasp_model.specs.Grounding.{is_domain};
 ghost use Rattle.scasp_syntax.specs.Tm.{nil, items};
-ghost use Rattle.scasp_syntax.specs.Values.{is_ground};
 ghost use Rattle.scasp_syntax.specs.View.{tm_of};
 ghost use Rattle.scasp_tables.specs.Pushing.{PushedBy};
-ghost use Rattle.scasp_tables.specs.Tables.{place_of_term};
+ghost use Rattle.scasp_tables.specs.Tables.{is_member};
 
 use crate::key_table::KeyTable;
 use crate::keys::term_key;
@@ -73,10 +72,14 @@ impl Domain {
 
     /// The place of the term, where it is a member. It takes memory for its key.
     pub fn find(&self, alloc: Global, term: &Term) -> Result<Option<usize>, Memory>
-        ensures { IfOk result (λ place. place ≡ place_of_term (items self.now) (tm_of term.now)) }
+        ensures found { IfOk result (λ place. IfSome place (λ n. slice_get (items self.now) n ≡ Some (tm_of term.now))) }
+        ensures absent { IfOk result (λ place. IfNone place (is_member (items self.now) (tm_of term.now) ≡ false)) }
     {
         let key = term_key(alloc, term)?;
-        Ok(self.keys.find(key.as_slice()))
+        match self.keys.find(key.as_slice()) {
+            Some(place) => Ok(Some(place)),
+            None => Ok(None),
+        }
     }
 
     /// Makes the term the last member, where it is ground and no member yet; else, and after an error, the domain is as it was.
@@ -88,7 +91,7 @@ impl Domain {
             return Ok(Pushed::NotGround);
         }
         let key = term_key(alloc, &term)?;
-        if self.keys.find(key.as_slice()).is_some() {
+        if self.keys.contains(key.as_slice()) {
             return Ok(Pushed::Repeated);
         }
         self.keys.push(key)?;

@@ -1,6 +1,6 @@
 //! Distinct lists of numbers in order, found by hashing.
-ghost use Rattle.std.specs.Prelude.{◌≡◌, [], ◌∷◌, ◌++◌, length, OnOk, OnErr};
-ghost use Rattle.scasp_tables.specs.Inside.Keys.{place_of_key};
+ghost use Rattle.std.specs.Prelude.{◌≡◌, ℕ, false, List, [], ◌∷◌, ◌++◌, slice_get, Some, IfSome, IfNone, OnOk, OnErr};
+ghost use Rattle.scasp_name.specs.Texts.{has_text};
 
 use indexmap::IndexSet;
 use scasp_list::Memory;
@@ -33,14 +33,25 @@ impl KeyTable {
 
     /// The place of the key.
     pub(crate) fn find(&self, key: &[u64]) -> Option<usize>
-        ensures { result ≡ place_of_key self.now key.now }
+        ensures found { IfSome result (λ place. slice_get self.now place ≡ Some key.now) }
+        ensures absent { IfNone result (has_text self.now key.now ≡ false) }
     {
-        self.keys.get_index_of(key)
+        match self.keys.get_index_of(key) {
+            Some(place) => Some(place),
+            None => None,
+        }
+    }
+
+    /// Whether the key is there.
+    pub(crate) fn contains(&self, key: &[u64]) -> bool
+        ensures { result ≡ has_text self.now key.now }
+    {
+        self.keys.get_index_of(key).is_some()
     }
 
     /// Puts a key that is not there at the end.
     pub(crate) fn push(&mut self, key: Vec<u64>) -> Result<(), Memory>
-        requires { place_of_key self.old key.items ≡ None }
+        requires { has_text self.old key.items ≡ false }
         ensures ok { OnOk result (self.new ≡ self.old ++ key.items ∷ []) }
         ensures err { OnErr result (self.new ≡ self.old) }
     {

@@ -1,6 +1,7 @@
 //! Terms and atoms as lists of numbers, by which tables find them.
-ghost use Rattle.std.specs.Prelude.{◌≡◌, ◌++◌, IfOk, OnOk};
-ghost use Rattle.scasp_tables.specs.Inside.Keys.{words, number_key, key_of, keys_of, atom_key};
+ghost use Rattle.std.specs.Prelude.{◌≡◌, [], ◌∷◌, ◌++◌, IfOk, OnOk};
+ghost use Rattle.scasp_tables.specs.Inside.Keys.{words, key_of, keys_of, atom_key};
+ghost use Rattle.scasp_syntax.specs.Tm.{num};
 ghost use Rattle.scasp_syntax.specs.View.{tm_of, tms_of};
 
 use scasp_list::Memory;
@@ -22,10 +23,20 @@ fn push_words(key: &mut Vec<u64>, n: u128) -> Result<(), Memory>
     Ok(())
 }
 
-/// Puts the words of a rational number at the end.
-fn push_number(key: &mut Vec<u64>, value: &Rat) -> Result<(), Memory>
-    ensures { OnOk result (key.new.items ≡ key.old.items ++ number_key value.now) }
+/// Puts a mark and a number at the end.
+fn push_marked(key: &mut Vec<u64>, mark: u64, n: u64) -> Result<(), Memory>
+    ensures { OnOk result (key.new.items ≡ key.old.items ++ mark ∷ n ∷ []) }
 {
+    key.push(mark)?;
+    key.push(n)?;
+    Ok(())
+}
+
+/// Puts the key of a rational number at the end.
+fn push_number(key: &mut Vec<u64>, value: &Rat) -> Result<(), Memory>
+    ensures { OnOk result (key.new.items ≡ key.old.items ++ key_of (num value.now)) }
+{
+    key.push(NUMBER)?;
     key.push(u64::from(value.num() < 0))?;
     push_words(key, value.num().unsigned_abs())?;
     push_words(key, value.den().unsigned_abs())
@@ -40,18 +51,15 @@ fn push_terms(alloc: Global, key: &mut Vec<u64>, terms: &[Term]) -> Result<(), M
     loop {
         match rest.split_first() {
             Some((Term::Var(x), others)) => {
-                key.push(VARIABLE)?;
-                key.push(*x)?;
+                push_marked(key, VARIABLE, *x)?;
                 rest = others;
             }
             Some((Term::Num(value), others)) => {
-                key.push(NUMBER)?;
                 push_number(key, value)?;
                 rest = others;
             }
             Some((Term::App(name, args), others)) => {
-                key.push(NAME)?;
-                key.push(name.place())?;
+                push_marked(key, NAME, name.place())?;
                 unseen.push(others)?;
                 rest = args.as_slice();
             }
@@ -72,17 +80,10 @@ pub(crate) fn term_key(alloc: Global, term: &Term) -> Result<Vec<u64>, Memory>
 {
     let mut key = Vec::new(alloc);
     match term {
-        Term::Var(x) => {
-            key.push(VARIABLE)?;
-            key.push(*x)?;
-        }
-        Term::Num(value) => {
-            key.push(NUMBER)?;
-            push_number(&mut key, value)?;
-        }
+        Term::Var(x) => push_marked(&mut key, VARIABLE, *x)?,
+        Term::Num(value) => push_number(&mut key, value)?,
         Term::App(name, args) => {
-            key.push(NAME)?;
-            key.push(name.place())?;
+            push_marked(&mut key, NAME, name.place())?;
             push_terms(alloc, &mut key, args.as_slice())?;
         }
     }

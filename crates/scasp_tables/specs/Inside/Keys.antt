@@ -1,6 +1,5 @@
 -- Terms and atoms as lists of numbers, by which tables find them: equal lists are of equal terms.
-use Rattle.std.specs.Prelude.{ℕ, ◌/◌, ◌%◌, ◌^◌, Bool, true, false, ℤ, pos, negsuc, unsigned_abs, List, [], ◌∷◌, ◌++◌, Option, position}
-use Rattle.std.specs.Str.{bytes_eq}
+use Rattle.std.specs.Prelude.{ℕ, ◌/◌, ◌%◌, ◌^◌, Bool, true, false, ℤ, pos, negsuc, unsigned_abs, List, [], ◌∷◌, ◌++◌}
 use Rattle.scasp_num.specs.Number.{Number}
 use Rattle.scasp_syntax.specs.Tm.{Tm, Tms, var, num, app, nil, cons}
 use Rattle.scasp_syntax.specs.declared.atom.Atom.{Atom}
@@ -33,7 +32,3 @@ bit false = 0
 
 abbrev pub atom_key : Atom → List ℕ
 atom_key a = bit a.minus ∷ a.name ∷ keys_of a.args
-
--- the place of the key
-abbrev pub place_of_key : List (List ℕ) → List ℕ → Option ℕ
-place_of_key keys key = position (bytes_eq key) keys

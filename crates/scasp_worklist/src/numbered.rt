@@ -1,6 +1,6 @@
 //! Rules over numbers that stand for atoms, and sets of numbers.
 ghost use Rattle.std.specs.Prelude.{◌≡◌};
-ghost use Rattle.scasp_closure.specs.Numbered.{has};
+ghost use Rattle.scasp_worklist.specs.Numbered.{has};
 
 use scasp_list::Sequence;
 use std::marker::Model;
