@@ -1,3 +1,1 @@
-pub mod Inside
-pub mod Numbered
 pub mod Reading

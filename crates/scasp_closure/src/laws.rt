@@ -2,9 +2,9 @@
 ghost use Rattle.std.specs.Prelude.{◌≡◌, ℕ, Bool, IsTrue, List};
 ghost use Rattle.scasp_model.specs.Atoms.{SameAtoms, are_distinct};
 ghost use Rattle.scasp_model.specs.Least.{least_model};
-ghost use Rattle.scasp_closure.specs.Numbered.{IsLeast};
+ghost use Rattle.scasp_worklist.specs.Numbered.{IsLeast};
 ghost use Rattle.scasp_closure.specs.Reading.{StandFor, atoms_in};
-ghost use Rattle.scasp_closure.specs.declared.numbered.NumberedRule.{NumberedRule as ThisRule};
+ghost use Rattle.scasp_worklist.specs.declared.numbered.NumberedRule.{NumberedRule as ThisRule};
 ghost use Rattle.scasp_model.specs.declared.program.DefiniteRule.{DefiniteRule as GroundRule};
 ghost use Rattle.scasp_syntax.specs.declared.atom.Atom.{Atom as ThisAtom};
 

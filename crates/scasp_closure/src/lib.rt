@@ -3,11 +3,8 @@
 
 mod closure;
 pub mod laws;
-mod numbered;
+mod reduct;
 mod stable;
-mod worklist;
 
-pub use closure::closure;
-pub use numbered::{NumberList, NumberSet, NumberedRule, NumberedRules};
+pub use closure::{atoms_in, closure, numbered_rule};
 pub use stable::is_stable;
-pub use worklist::least_set;

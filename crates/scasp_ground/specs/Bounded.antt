@@ -1,6 +1,6 @@
 -- Grounding within limits: how many instances there are, and tests by arithmetic in the range of the numbers.
-use Rattle.std.specs.Prelude.{◌≡◌, ℕ, ◌+◌, ◌^◌, Bool, true, false, not, nat_lt, if◌then◌else◌, List, [], ◌∷◌, ◌++◌, length, map, Option, None, Some, is_some}
-use Rattle.std.specs.List.{list_any, flat_map, sum_by}
+use Rattle.std.specs.Prelude.{ℕ, ◌+◌, ◌^◌, Bool, true, false, not, nat_lt, if◌then◌else◌, List, [], ◌∷◌, length, Option, Some, is_some}
+use Rattle.std.specs.List.{list_any, flat_map}
 use Rattle.std.specs.Option.{option_map}
 use Rattle.scasp_checker_rules.specs.BoundedTruth.{bounded_sum}
 use Rattle.scasp_model.specs.Grounding.{choices}
@@ -17,13 +17,14 @@ use Rattle.scasp_syntax.specs.declared.con.Con.{Con}
 use Rattle.scasp_syntax.specs.declared.con.Con.TheVariants as con
 use Rattle.scasp_syntax.specs.declared.program.Program.{Program}
 
--- how many instances the clauses have before any is dropped
-abbrev pub instance_count : List Tm → List Clause → ℕ
-instance_count d clauses = sum_by (λ c. length d ^ c.vars) clauses
+-- how many instances the clauses have over so many members, before any is dropped
+abbrev pub count_over : ℕ → List Clause → ℕ
+count_over members [] = 0
+count_over members (c ∷ clauses) = members ^ c.vars + count_over members clauses
 
 -- more than 1,000,000 of them
 abbrev pub is_too_large : List Tm → Program → Bool
-is_too_large d p = nat_lt 1000000 (instance_count d p.clauses)
+is_too_large d p = nat_lt 1000000 (count_over (length d) p.clauses)
 
 -- whether the constraint holds; none where the sum of a row overflows
 abbrev pub tested : Sub → Con → Option Bool

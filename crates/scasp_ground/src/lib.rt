@@ -5,10 +5,12 @@ mod choice;
 mod count;
 mod error;
 mod ground;
-mod tests_of;
+mod instances;
+mod tested;
 
 pub use choice::choice;
-pub use count::{INSTANCE_LIMIT, count_instances, power};
+pub use count::{INSTANCE_LIMIT, is_too_large, power};
 pub use error::GroundErr;
-pub use ground::{ground, instance_of};
-pub use tests_of::{body_tests, passes};
+pub use ground::ground;
+pub use instances::instance_of;
+pub use tested::{body_tests, passes};
