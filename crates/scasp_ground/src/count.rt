@@ -1,5 +1,5 @@
 //! How many instances there are.
-ghost use Rattle.std.specs.Prelude.{◌≡◌, ◌<◌, ◌≤◌, ◌^◌, nat_lt, IfSome, IfNone};
+ghost use Rattle.std.specs.Prelude.{◌≡◌, ◌<◌, ◌≤◌, ◌^◌, IfSome, IfNone};
 ghost use Rattle.scasp_ground.specs.Bounded.{count_over};
 
 use scasp_syntax::Clause;
@@ -35,19 +35,20 @@ fn power_above(members: u64, variables: u64) -> Option<u64>
     Some(count)
 }
 
-/// Whether the clauses have more than 1,000,000 instances before any is dropped. Nothing is made.
-pub fn is_too_large(clauses: &[Clause], members: u64) -> bool
-    ensures { result ≡ nat_lt 1000000 (count_over members clauses.now) }
+/// How many instances the clauses have before any is dropped, where these are at most 1,000,000. Nothing is made.
+pub fn count_instances(clauses: &[Clause], members: u64) -> Option<u64>
+    ensures some { IfSome result (λ count. (count ≡ count_over members clauses.now) × (count ≤ 1000000)) }
+    ensures none { IfNone result (1000000 < count_over members clauses.now) }
 {
     let mut count = 0;
     for clause in clauses {
         match power(members, clause.vars) {
             Some(more) => count += more,
-            None => return true,
+            None => return None,
         }
         if count > INSTANCE_LIMIT {
-            return true;
+            return None;
         }
     }
-    false
+    Some(count)
 }

@@ -5,7 +5,7 @@ ghost use Rattle.scasp_ground.specs.Bounded.{is_too_large, overflows};
 ghost use Rattle.scasp_ground.specs.Told.{Limits};
 ghost use Rattle.scasp_syntax.specs.Tm.{items};
 
-use crate::count::is_too_large;
+use crate::count::count_instances;
 use crate::error::GroundErr;
 use crate::instances::push_instances;
 use scasp_list::Sequence;
@@ -24,7 +24,8 @@ pub fn ground(alloc: Global, program: &Program, domain: &Domain) -> Result<Groun
     ensures ok { IfOk result (λ g. g ≡ ground_program (items domain.now) program.now) }
     ensures limited { Limits result (is_too_large (items domain.now) program.now) (overflows (items domain.now) program.now) }
 {
-    if is_too_large(program.clauses.as_slice(), domain.len() as u64) {
+    let members = domain.len() as u64;
+    if count_instances(program.clauses.as_slice(), members).is_none() {
         return Err(GroundErr::TooLarge);
     }
     let mut made = Sequence::new(alloc);

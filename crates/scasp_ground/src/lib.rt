@@ -9,7 +9,7 @@ mod instances;
 mod tested;
 
 pub use choice::choice;
-pub use count::{INSTANCE_LIMIT, is_too_large, power};
+pub use count::{INSTANCE_LIMIT, count_instances, power};
 pub use error::GroundErr;
 pub use ground::ground;
 pub use instances::instance_of;
