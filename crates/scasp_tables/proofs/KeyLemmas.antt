@@ -184,7 +184,7 @@ pub with_atom-there : (atoms : List Atom) (a : Atom) (i : ℕ) → slice_get ato
 with_atom-there atoms a i e = sym (cond-true (among atoms a) atoms (atoms ++ a ∷ []) (among-at atoms a i e))
 
 pub last-at : {A : Type 0} (xs new : List A) (x y : A) (n : ℕ) → n ≡ length xs → x ≡ y → new ≡ xs ++ x ∷ [] → slice_get new n ≡ Some y
-last-at xs new x y n e c d = (λ j. slice_get (d j) (e j)) ∙ last xs ∙ ap Some c
+last-at {A = A} xs new x y n e c d = (λ j. slice_get (d j) (e j)) ∙ last xs ∙ ap Some c
   where
     last : (zs : List A) → slice_get (zs ++ x ∷ []) (length zs) ≡ Some x
     last [] = refl

@@ -4,11 +4,13 @@ use Rattle.std.specs.Prelude.{slice_index_or, slice_set, slice_get, replicate, m
 use Rattle.std.specs.List.{list_all, list_any}
 use Rattle.std.proofs.lemmas.Bool.{true≢false, false≢true, and_parts, and_from, or_cases, or_left, or_right, not-true, not-false, cond-true, cond-false, cond_both, cases_Bool}
 use Rattle.std.proofs.lemmas.Bool.Decides.{Decides-eqb, Decides-ltb}
-use Rattle.std.proofs.lemmas.List.{length-set, get_or-set_same, get_or-set_other}
+use Rattle.std.proofs.lemmas.List.{length-set, length-map, get_or-set_same, get_or-set_other}
 use Rattle.std.proofs.lemmas.List.Folds.{list_all-append, list_any-append}
 use Rattle.scasp_worklist.specs.Numbered.{has, keeps, is_closed_under, IsLeast}
-use Rattle.scasp_worklist.specs.Inside.Closing.{Entry, State, rule_entry, begun, waiting_at, unknown_from, reached, awaited, settled, placed, all_placed, emptied, woken, is_below, keeps_by, keeps_all, unknown, highest_from, highest_in}
+use Rattle.scasp_worklist.specs.Inside.Closing.{Entry, State, entry_of, state_of, rule_entry, begun, waiting_at, unknown_from, reached, awaited, settled, placed, all_placed, emptied, woken, is_below, keeps_by, keeps_all, unknown, highest_from, highest_in}
 use Rattle.scasp_worklist.specs.declared.numbered.NumberedRule.{NumberedRule}
+use Rattle.scasp_worklist.specs.declared.worklist.Closing.{Closing}
+use Rattle.scasp_worklist.specs.declared.worklist.Waiting.{Waiting}
 
 -- ---- lists by number
 
@@ -365,7 +367,10 @@ length-false : (n : ℕ) → length (replicate n false) ≡ n
 length-false zero = refl
 length-false (suc n) = ap suc (length-false n)
 
-length-nil : (n : ℕ) → length (replicate n ([] {A = Entry})) ≡ n
+abbrev no_entries : List Entry
+no_entries = []
+
+length-nil : (n : ℕ) → length (replicate n no_entries) ≡ n
 length-nil zero = refl
 length-nil (suc n) = ap suc (length-nil n)
 
@@ -500,3 +505,50 @@ set-set (z ∷ xs) (suc n) x y = ap (λ l. z ∷ l) (set-set xs n x y)
 pub replicate-pushed : {A : Type 0} (n : ℕ) (x : A) → replicate n x ++ x ∷ [] ≡ replicate (suc n) x
 replicate-pushed zero x = refl
 replicate-pushed (suc n) x = ap (λ l. x ∷ l) (replicate-pushed n x)
+
+-- ---- the state of the code
+
+pub woken-begins : (s : Closing) (after : List (List Waiting)) (n : ℕ) (rules items new : List Waiting)
+    → slice_get s.waiting.items n ≡ Some rules → new ≡ [] → after ≡ slice_set s.waiting.items n new → items ≡ rules
+    → all_placed (record { known = s.known.items; queue = s.queue.items; waiting = map (map entry_of) after }) (map entry_of items) ≡ woken (state_of s) n
+woken-begins s after n rules items new g e a i =
+    let w : List (List Entry) = map (map entry_of) s.waiting.items in
+    let p : map (map entry_of) after ≡ slice_set w n [] =
+        ap (map (map entry_of)) a ∙ map-set (map entry_of) s.waiting.items n new ∙ ap (λ z. slice_set w n (map entry_of z)) e in
+    let q : map entry_of items ≡ waiting_at w n = ap (map entry_of) i ∙ sym (map-at (map entry_of) s.waiting.items n rules [] g) in
+    λ j. all_placed (record { known = s.known.items; queue = s.queue.items; waiting = p j }) (q j)
+
+pub waits : (s : Closing) (first second : List (List Waiting)) (n : ℕ) (rules more new : List Waiting) (r : Waiting)
+    → n < length s.waiting.items → slice_get s.waiting.items n ≡ Some rules → first ≡ slice_set s.waiting.items n new → more ≡ rules ++ r ∷ []
+    → second ≡ slice_set first n more
+    → record { known = s.known.items; queue = s.queue.items; waiting = map (map entry_of) second } ≡ awaited (state_of s) n (entry_of r)
+waits s first second n rules more new r b g f m e =
+    let w : List (List Entry) = map (map entry_of) s.waiting.items in
+    let inside : nat_lt n (length w) ≡ true =
+        ap (nat_lt n) (length-map s.waiting.items (map entry_of)) ∙ (Decides-ltb n (length s.waiting.items)).1 b in
+    let to : second ≡ slice_set s.waiting.items n more = e ∙ ap (λ z. slice_set z n more) f ∙ set-set s.waiting.items n new more in
+    let old : map entry_of rules ≡ waiting_at w n = sym (map-at (map entry_of) s.waiting.items n rules [] g) in
+    let grown : map entry_of more ≡ waiting_at w n ++ entry_of r ∷ [] =
+        ap (map entry_of) m ∙ map-pushed entry_of rules r ∙ ap (λ z. z ++ entry_of r ∷ []) old in
+    let p : map (map entry_of) second ≡ slice_set w n (waiting_at w n ++ entry_of r ∷ []) =
+        ap (map (map entry_of)) to ∙ map-set (map entry_of) s.waiting.items n more ∙ ap (slice_set w n) grown in
+    let after : State = record { known = s.known.items; queue = s.queue.items; waiting = slice_set w n (waiting_at w n ++ entry_of r ∷ []) } in
+    (λ j. record { known = s.known.items; queue = s.queue.items; waiting = p j })
+    ∙ sym (cond-true (nat_lt n (length w)) after (state_of s) inside)
+
+pub good-next : (bound : ℕ) (rules : List NumberedRule) (s : Closing) (queue : List ℕ) (n : ℕ) (next : State)
+    → s.queue.items ≡ queue ++ n ∷ [] → next ≡ woken (record { known = s.known.items; queue = queue; waiting = map (map entry_of) s.waiting.items }) n
+    → Good bound rules [] (state_of s) → Good bound rules [] next
+good-next bound rules s queue n next q e g =
+    let w : List (List Entry) = map (map entry_of) s.waiting.items in
+    let popped : Good bound rules [] (record { known = s.known.items; queue = queue ++ n ∷ []; waiting = w }) =
+        subst (λ (z : List ℕ). Good bound rules [] (record { known = s.known.items; queue = z; waiting = w })) q g in
+    subst (λ (z : State). Good bound rules [] z) (sym e) (good-woken bound rules n s.known.items queue w popped)
+
+pub left-next : (s : Closing) (queue : List ℕ) (n : ℕ) (next : State)
+    → s.queue.items ≡ queue ++ n ∷ [] → next ≡ woken (record { known = s.known.items; queue = queue; waiting = map (map entry_of) s.waiting.items }) n
+    → left next < left (state_of s)
+left-next s queue n next q e =
+    let a : left next ≡ unknown s.known.items + length queue = ap left e ∙ left-woken (record { known = s.known.items; queue = queue; waiting = map (map entry_of) s.waiting.items }) n in
+    let b : length s.queue.items ≡ length (queue ++ n ∷ []) = ap length q in
+    omega (arith, a, b, length-append queue (n ∷ []))

@@ -1,6 +1,6 @@
 //! The least set that rules over numbers give.
 ghost use Rattle.std.specs.Prelude.{◌≡◌, ◌<◌, length, map, slice_get, slice_set, Some, IfOk, OnOk};
-ghost use Rattle.scasp_worklist.specs.Inside.Closing.{state_of, entry_of, rule_entry, begun, unknown_from, reached, awaited, placed, all_placed, woken, highest_from, highest_in};
+ghost use Rattle.scasp_worklist.specs.Inside.Closing.{state_of, rule_entry, begun, unknown_from, reached, awaited, placed, all_placed, woken, highest_from, highest_in};
 ghost use Rattle.scasp_worklist.specs.Numbered.{IsLeast, has};
 
 use crate::numbered::{NumberSet, NumberedRules, is_marked};
@@ -128,13 +128,13 @@ impl<'a> Closing<'a> {
         Ok(())
     }
 
-    /// Has a rule wait for the number.
-    fn wait(&mut self, alloc: Global, number: u64, rule: Waiting<'a>) -> Result<(), Memory>
-        ensures { OnOk result (state_of self.new ≡ awaited (state_of self.old) number (entry_of rule)) }
+    /// Has the rule of this head, and of this rest of its body, wait for the number.
+    fn wait(&mut self, alloc: Global, number: u64, head: u64, rest: &'a [u64]) -> Result<(), Memory>
+        ensures { OnOk result (state_of self.new ≡ awaited (state_of self.old) number (head, rest.now)) }
     {
         if (number as usize) < self.waiting.len() {
             let mut rules = replace_at(&mut self.waiting, number as usize, Sequence::new(alloc));
-            rules.push(rule)?;
+            rules.push(Waiting { head, rest })?;
             let _ = replace_at(&mut self.waiting, number as usize, rules);
         }
         Ok(())
@@ -146,7 +146,7 @@ impl<'a> Closing<'a> {
     {
         let rest = unknown_from(self.known.as_slice(), body);
         match rest.split_first() {
-            Some((number, rest)) => self.wait(alloc, *number, Waiting { head, rest }),
+            Some((number, rest)) => self.wait(alloc, *number, head, rest),
             None => self.reach(head),
         }
     }
