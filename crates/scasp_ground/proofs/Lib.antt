@@ -1,0 +1,4 @@
+pub mod ChoiceLemmas
+pub mod InstanceLemmas
+pub mod RowLemmas
+pub mod TestLemmas
