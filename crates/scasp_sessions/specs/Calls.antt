@@ -3,7 +3,7 @@ use Rattle.std.specs.Prelude.{◌≡◌, ℕ, ◌+◌, ◌<◌, ◌≤◌, List,
 use Rattle.scasp_cert.specs.declared.certificate.Cert.{Cert}
 use Rattle.scasp_search.specs.Rests.{Advances, rest_of, stopped}
 use Rattle.scasp_search.specs.declared.search.Search.{Search}
-use Rattle.scasp_search_constraints.specs.declared.assuming.step.SearchErr.TheVariants as stops
+use Rattle.scasp_search_constraints.specs.declared.assuming.step.SearchErr.TheVariants as errors
 use Rattle.scasp_search_walk.specs.Slices.{stop_of}
 use Rattle.scasp_search_walk.specs.declared.events.Advance.{Advance}
 use Rattle.scasp_search_walk.specs.declared.events.Advance.TheVariants as advance
@@ -28,8 +28,8 @@ pub record IsAdvanced (old : Search) (calls : ℕ) (comes : Advance Cert) (new :
   pub event : stopped old ≡ None → Advances (rest_of old) calls comes (rest_of new)
   pub same : IsSameRun (rest_of old) (rest_of new)
   pub stops : stopped new ≡ stop_of comes
-  pub overflow : stopped old ≡ Some stops.Overflow → comes ≡ advance.Overflow
-  pub memory : stopped old ≡ Some stops.Memory → comes ≡ advance.Memory
+  pub overflow : stopped old ≡ Some errors.Overflow → comes ≡ advance.Overflow
+  pub memory : stopped old ≡ Some errors.Memory → comes ≡ advance.Memory
   pub stays : IsSome (stopped old) → new ≡ old
 
 -- ---- a search among others

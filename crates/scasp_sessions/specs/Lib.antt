@@ -3,3 +3,4 @@ pub mod Calls
 pub mod Alone
 pub mod Numbers
 pub mod Inside
+pub mod Laws

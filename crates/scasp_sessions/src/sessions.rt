@@ -1,6 +1,7 @@
 //! The open sessions.
 ghost use Rattle.std.specs.Prelude.{◌≡◌, ◌<◌, ◌^◌};
 ghost use Rattle.scasp_sessions.specs.Calls.{Advancing, Closing, Opening};
+ghost use Rattle.scasp_sessions.specs.Inside.{place_in};
 ghost use Rattle.scasp_sessions.specs.Tables.{no_sessions};
 
 use crate::errors::{NoSession, OpenErr};
@@ -62,6 +63,57 @@ impl Sessions {
         if self.opened.len() >= MOST_OPEN {
             return Err(OpenErr::Full);
         }
-        Err(OpenErr::Memory)
+        let search = Search::open(*self.opened.allocator(), program, query, budget, fresh)?;
+        let number = self.next;
+        self.opened.push(Session { number, search })?;
+        self.next += 1;
+        Ok(number)
     }
+
+    /// What comes within so many calls of the session with the number, as `Search::advance` has it. Every other session stays as
+    /// it is.
+    ///
+    /// # Errors
+    ///
+    /// No open session has the number; nothing has changed then.
+    pub fn next(&mut self, id: u64, calls: u64) -> Result<Advance, NoSession>
+        ensures { Advancing self.old id calls result self.new }
+    {
+        match place_of(&self.opened, id) {
+            Some(place) => {
+                let session = &mut self.opened[place];
+                Ok(session.search.advance(calls))
+            }
+            None => Err(NoSession),
+        }
+    }
+
+    /// Ends the session with the number. Takes no memory.
+    ///
+    /// # Errors
+    ///
+    /// No open session has the number; nothing has changed then.
+    pub fn close(&mut self, id: u64) -> Result<(), NoSession>
+        ensures { Closing self.old id result self.new }
+    {
+        match place_of(&self.opened, id) {
+            Some(place) => {
+                self.opened.remove(place);
+                Ok(())
+            }
+            None => Err(NoSession),
+        }
+    }
+}
+
+/// Where the session with the number stands.
+fn place_of(opened: &[Session], id: u64) -> Option<usize>
+    ensures { result ≡ place_in id opened.now }
+{
+    for (place, session) in opened.iter().enumerate() {
+        if session.number == id {
+            return Some(place);
+        }
+    }
+    None
 }
