@@ -1,5 +1,5 @@
 -- Numbers and refusals follow from the calls.
-use Rattle.std.specs.Prelude.{◌≡◌, ℕ, ◌+◌, ◌<◌, ◌≤◌, ◌==◌, ◌||◌, nat_lt, Bool, true, false, if◌then◌else◌, List, [], ◌∷◌, ◌++◌, length, map, Option, None, Some, IsSome, Ok, Err, refl}
+use Rattle.std.specs.Prelude.{◌≡◌, ℕ, ◌+◌, ◌<◌, ◌≤◌, ◌==◌, ◌||◌, nat_lt, Bool, true, false, if◌then◌else◌, List, [], ◌∷◌, ◌++◌, length, map, Option, None, Some, IsSome, IsSomeAnd, Ok, Err, refl}
 use Rattle.std.proofs.Common.{ap, arith, length-map, map-append, subst, sym, ◌∙◌}
 use Rattle.std.proofs.lemmas.Bool.Decides.{nat_tests}
 use Rattle.scasp_search.specs.declared.search.Search.{Search}
@@ -72,8 +72,15 @@ query-there : (o : Option Query) → IsSome o → (q : Query) × (o ≡ Some q)
 query-there None h = absurd (cc h)
 query-there (Some q) h = (q, refl)
 
+query-asked : (o : Option Query) (P : Query → Type 0) → IsSomeAnd o P → (q : Query) × (o ≡ Some q)
+query-asked None P h = absurd h
+query-asked (Some q) P h = (q, refl)
+
 is-due : (e : Exchange) (old new : Table) → Replies old e new → IsDue e old new
-is-due (opening program query budget fresh (Ok number)) old new r = ?
+is-due (opening program query budget fresh (Ok number)) old new r =
+    let q = query-asked (numbered program.queries query) _ r.2.1.run in
+    let session : Session = record { number = number; search = r.2.0 } in
+    rw (q.1, room old.opened r.0, r.2.2, map-append number_of old.opened (session ∷ []), r.1) refl
 is-due (opening program query budget fresh (Err refusal.NoQuery)) old new r = rw (r.0, r.1) refl
 is-due (opening program query budget fresh (Err refusal.Full)) old new r = let q = query-there (numbered program.queries query) r.0 in rw (q.1, no-room old.opened r.1, r.2) refl
 is-due (opening program query budget fresh (Err refusal.Memory)) old new r = let q = query-there (numbered program.queries query) r.0 in rw (q.1, room old.opened r.1, r.2) refl
