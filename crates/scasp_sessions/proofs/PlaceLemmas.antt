@@ -46,3 +46,11 @@ nowhere id k (s ∷ ss) h = by (has_number id s) h (nowhere id (k + 1) ss)
         → (position_from (has_number id) (k + 1) ss ≡ None → search_of id ss ≡ None) → (if b then Some s.search else search_of id ss) ≡ None
     by true h next = absurd (cc h)
     by false h next = next h
+
+-- ---- the sessions behind a call
+
+pub placed : (id place : ℕ) (items opened : List Session) (found : Option ℕ) → items ≡ opened → found ≡ position_from (has_number id) 0 items → found ≡ Some place → IsAt id place opened
+placed id place items opened found same is there = at id place opened (subst (λ l. position_from (has_number id) 0 l ≡ Some place) same (sym is ∙ there))
+
+pub unplaced : (id : ℕ) (items opened : List Session) (found : Option ℕ) → items ≡ opened → found ≡ position_from (has_number id) 0 items → found ≡ None → search_of id opened ≡ None
+unplaced id items opened found same is there = nowhere id 0 opened (subst (λ l. position_from (has_number id) 0 l ≡ None) same (sym is ∙ there))
