@@ -1,10 +1,11 @@
 -- Where a session stands.
-use Rattle.std.specs.Prelude.{◌≡◌, ℕ, ◌+◌, ◌<◌, suc, Bool, true, false, if◌then◌else◌, List, [], ◌∷◌, ◌++◌, length, get_or, set, take, drop, Option, None, Some, refl}
+use Rattle.std.specs.Prelude.{◌≡◌, ℕ, ◌+◌, ◌<◌, suc, Bool, true, false, if◌then◌else◌, List, [], ◌∷◌, ◌++◌, length, get_or, set, take, drop, not, Option, None, Some, IfSome, IsSomeAnd, is_some, option_copied, refl}
 use Rattle.std.specs.List.{position_from}
-use Rattle.std.proofs.Common.{ap, arith, subst, sym, ◌∙◌}
+use Rattle.std.proofs.Common.{Bor, ap, arith, subst, sym, ◌∙◌}
 use Rattle.scasp_search.specs.declared.search.Search.{Search}
-use Rattle.scasp_sessions.specs.Tables.{has_number, search_of, with_search, without}
+use Rattle.scasp_sessions.specs.Tables.{Table, has_number, search_of, with_search, without}
 use Rattle.scasp_sessions.specs.declared.session.Session.{Session}
+use Rattle.scasp_syntax.specs.declared.clause.Query.{Query}
 
 -- the first session with the number stands at this place
 pub record IsAt (id place : ℕ) (ss : List Session) : Type 0 where
@@ -54,3 +55,13 @@ placed id place items opened found same is there = at id place opened (subst (λ
 
 pub unplaced : (id : ℕ) (items opened : List Session) (found : Option ℕ) → items ≡ opened → found ≡ position_from (has_number id) 0 items → found ≡ None → search_of id opened ≡ None
 unplaced id items opened found same is there = nowhere id 0 opened (subst (λ l. position_from (has_number id) 0 l ≡ None) same (sym is ∙ there))
+
+pub same-table : {opened other : List Session} {next number : ℕ} → opened ≡ other → next ≡ number
+    → let one : Table = record { opened = opened; next = next } in let two : Table = record { opened = other; next = number } in one ≡ two
+same-table e f = rw (e, f) refl
+
+-- ---- the query of a call that opens
+
+pub asked : (query : Option (Bor Query)) (none : Bool) (there : Option Query) (P : Query → Type 0) → is_some query ≡ not none → none ≡ false → option_copied query ≡ there → IfSome there P → IsSomeAnd there P
+asked None none there P is no same h = let wrong : false ≡ not false = is ∙ ap not no in absurd (cc wrong)
+asked (Some q) none there P is no same h = subst (λ o. IfSome o P → IsSomeAnd o P) same (λ i. i) h
