@@ -63,5 +63,5 @@ same-table e f = rw (e, f) refl
 -- ---- the query of a call that opens
 
 pub asked : (query : Option (Bor Query)) (none : Bool) (there : Option Query) (P : Query → Type 0) → is_some query ≡ not none → none ≡ false → option_copied query ≡ there → IfSome there P → IsSomeAnd there P
-asked None none there P is no same h = let wrong : false ≡ not false = is ∙ ap not no in absurd (cc wrong)
-asked (Some q) none there P is no same h = subst (λ o. IfSome o P → IsSomeAnd o P) same (λ i. i) h
+asked None none there P is here same h = let wrong : false ≡ not false = is ∙ ap not here in absurd (cc wrong)
+asked (Some q) none there P is here same h = subst (λ o. IfSome o P → IsSomeAnd o P) same (λ i. i) h
