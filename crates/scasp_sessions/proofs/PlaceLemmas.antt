@@ -20,6 +20,7 @@ at-place id k place (s ∷ ss) h = by (has_number id s) refl h (at-place id (k +
   where
     first : has_number id s ≡ true → IsAt id 0 (s ∷ ss)
     first e = record { within = omega arith; searches = λ d. rw e refl; changed = λ d t. rw e refl; taken = rw e refl }
+
     later : (i : ℕ) → has_number id s ≡ false → IsAt id i ss → IsAt id (suc i) (s ∷ ss)
     later i e h = record {
       within = omega (arith, h.within);
@@ -27,6 +28,7 @@ at-place id k place (s ∷ ss) h = by (has_number id s) refl h (at-place id (k +
       changed = λ d t. rw e (ap (λ l. s ∷ l) (h.changed d t));
       taken = rw e (ap (λ l. s ∷ l) h.taken);
     }
+
     by : (b : Bool) → has_number id s ≡ b → (if b then Some k else position_from (has_number id) (k + 1) ss) ≡ Some place
         → (position_from (has_number id) (k + 1) ss ≡ Some place → (i : ℕ) × (place ≡ (k + 1) + i) × IsAt id i ss)
         → (i : ℕ) × (place ≡ k + i) × IsAt id i (s ∷ ss)

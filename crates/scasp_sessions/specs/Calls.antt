@@ -42,7 +42,7 @@ abbrev pub Opening : Table → Program → ℕ → ℕ → ℕ → Result ℕ Op
 Opening old program query budget fresh (Ok number) new =
     (length old.opened < 64) × (number ≡ old.next)
     × ((search : Search) × IsOpened program query budget fresh search
-        × (new ≡ record { opened = old.opened ++ record { number = number; search = search } ∷ []; next = number + 1 }))
+    × (new ≡ record { opened = old.opened ++ record { number = number; search = search } ∷ []; next = number + 1 }))
 Opening old program query budget fresh (Err refusal.NoQuery) new = (numbered program.queries query ≡ None) × (new ≡ old)
 Opening old program query budget fresh (Err refusal.Full) new = has_query program query × (64 ≤ length old.opened) × (new ≡ old)
 Opening old program query budget fresh (Err refusal.Memory) new = has_query program query × (length old.opened < 64) × (new ≡ old)

@@ -52,9 +52,18 @@ fn sixty_four_are_open(rt: HostRuntime) -> Result<(), Fail> {
     let text = number_or_not(rt.alloc())?;
     let mut sessions = Sessions::new(rt.alloc());
     open_all(&rt, &text, &mut sessions);
-    assert_eq!(rt; sessions.open(&text.program, 1, 9, text.fresh), Err(OpenErr::Full));
-    assert_eq!(rt; sessions.open(&text.program, 0, 9, text.fresh), Err(OpenErr::NoQuery));
-    assert_eq!(rt; sessions.open(&text.program, 2, 9, text.fresh), Err(OpenErr::NoQuery));
+    assert_eq!(rt;
+        sessions.open(&text.program, 1, 9, text.fresh),
+        Err(OpenErr::Full)
+    );
+    assert_eq!(rt;
+        sessions.open(&text.program, 0, 9, text.fresh),
+        Err(OpenErr::NoQuery)
+    );
+    assert_eq!(rt;
+        sessions.open(&text.program, 2, 9, text.fresh),
+        Err(OpenErr::NoQuery)
+    );
     sessions.close(3)?;
     assert!(rt; sessions.close(3).is_err());
     assert!(rt; sessions.next(3, 1).is_err());

@@ -19,17 +19,20 @@ returns-in-Some-clause-reply c =
     let there = placed c.args.id place c.deref.result.now opened c.place_of.result (c.deref.ensures.value ∙ is) c.place_of.ensures c.in-Some.is in
     let here = c.index_mut-session.ensures.value ∙ ap (λ l. get_or l place session) is in
     let changed : Session → Session = λ s. record s { search = new } in
-    let searched = λ (s : Session). Some s.search in
-    (session.search, new, there.searches session ∙ ap searched (sym here),
-    record {
-      event = c.advance.ensures.event;
-      same = c.advance.ensures.same;
-      stops = c.advance.ensures.stops;
-      overflow = c.advance.ensures.overflow;
-      memory = c.advance.ensures.memory;
-      stays = c.advance.ensures.stays;
-    },
-    same-table (ap (λ l. set l place (changed session)) is ∙ ap (λ s. set opened place (changed s)) here ∙ sym (there.changed session new)) (ap (λ t. t.next) c.self.view_is))
+    let searched = λ (s : Session). Some s.search in (
+      session.search,
+      new,
+      there.searches session ∙ ap searched (sym here),
+      record {
+        event = c.advance.ensures.event;
+        same = c.advance.ensures.same;
+        stops = c.advance.ensures.stops;
+        overflow = c.advance.ensures.overflow;
+        memory = c.advance.ensures.memory;
+        stays = c.advance.ensures.stays;
+      },
+      same-table (ap (λ l. set l place (changed session)) is ∙ ap (λ s. set opened place (changed s)) here ∙ sym (there.changed session new)) (ap (λ t. t.next) c.self.view_is),
+    )
 
 pub returns-in-None-clause-reply : goal.returns-in-None-clause-reply
 returns-in-None-clause-reply c =
