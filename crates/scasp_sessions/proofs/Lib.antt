@@ -1,0 +1,7 @@
+pub mod TableLemmas
+pub mod PlaceLemmas
+pub mod AloneLemmas
+pub mod EventLemmas
+pub mod NumberLemmas
+pub mod RoomLemmas
+pub mod CountLemmas

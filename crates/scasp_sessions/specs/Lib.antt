@@ -1,0 +1,5 @@
+pub mod Tables
+pub mod Calls
+pub mod Alone
+pub mod Numbers
+pub mod Laws
