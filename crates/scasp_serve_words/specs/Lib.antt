@@ -1,0 +1,4 @@
+pub mod Splits
+pub mod Commands
+pub mod Reading
+pub mod Examples
