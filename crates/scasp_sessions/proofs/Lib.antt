@@ -1,0 +1,5 @@
+pub mod TableLemmas
+pub mod PlaceLemmas
+pub mod AloneLemmas
+pub mod EventLemmas
+pub mod NumberLemmas

@@ -2,5 +2,4 @@ pub mod Tables
 pub mod Calls
 pub mod Alone
 pub mod Numbers
-pub mod Inside
 pub mod Laws

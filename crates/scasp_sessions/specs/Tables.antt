@@ -1,5 +1,5 @@
 -- The sessions that are open.
-use Rattle.std.specs.Prelude.{ℕ, ◌==◌, if◌then◌else◌, List, [], ◌∷◌, Option, None, Some}
+use Rattle.std.specs.Prelude.{ℕ, ◌==◌, if◌then◌else◌, Bool, List, [], ◌∷◌, Option, None, Some}
 use Rattle.scasp_search.specs.declared.search.Search.{Search}
 use Rattle.scasp_sessions.specs.declared.session.Session.{Session}
 
@@ -11,17 +11,20 @@ pub record Table : Type 0 where
 abbrev pub no_sessions : Table
 no_sessions = record { opened = []; next = 1 }
 
+abbrev pub has_number : ℕ → Session → Bool
+has_number id s = s.number == id
+
 -- the search of the session with the number, if one is open
 abbrev pub search_of : ℕ → List Session → Option Search
 search_of id [] = None
-search_of id (s ∷ ss) = if s.number == id then Some s.search else search_of id ss
+search_of id (s ∷ ss) = if has_number id s then Some s.search else search_of id ss
 
 -- the sessions, with another search for the one with the number
 abbrev pub with_search : ℕ → Search → List Session → List Session
 with_search id search [] = []
-with_search id search (s ∷ ss) = if s.number == id then record s { search = search } ∷ ss else s ∷ with_search id search ss
+with_search id search (s ∷ ss) = if has_number id s then record s { search = search } ∷ ss else s ∷ with_search id search ss
 
 -- the sessions but the one with the number
 abbrev pub without : ℕ → List Session → List Session
 without id [] = []
-without id (s ∷ ss) = if s.number == id then ss else s ∷ without id ss
+without id (s ∷ ss) = if has_number id s then ss else s ∷ without id ss

@@ -1,8 +1,8 @@
 //! The open sessions.
 ghost use Rattle.std.specs.Prelude.{◌≡◌, ◌<◌, ◌^◌};
+ghost use Rattle.std.specs.List.{position_from};
 ghost use Rattle.scasp_sessions.specs.Calls.{Advancing, Closing, Opening};
-ghost use Rattle.scasp_sessions.specs.Inside.{place_in};
-ghost use Rattle.scasp_sessions.specs.Tables.{no_sessions};
+ghost use Rattle.scasp_sessions.specs.Tables.{has_number, no_sessions};
 
 use crate::errors::{NoSession, OpenErr};
 use crate::session::Session;
@@ -108,12 +108,7 @@ impl Sessions {
 
 /// Where the session with the number stands.
 fn place_of(opened: &[Session], id: u64) -> Option<usize>
-    ensures { result ≡ place_in id opened.now }
+    ensures { result ≡ position_from (has_number id) 0 opened.now }
 {
-    for (place, session) in opened.iter().enumerate() {
-        if session.number == id {
-            return Some(place);
-        }
-    }
-    None
+    opened.iter().position(|session| session.number == id)
 }
