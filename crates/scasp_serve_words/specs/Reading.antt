@@ -1,5 +1,5 @@
 -- What is read from the bytes of a file of commands: a command a line, or the place of the first line that is none.
-use Rattle.std.specs.Prelude.{◌≡◌, ℕ, ◌+◌, Option, None, Some, List, [], ◌∷◌, length, Result, Ok, Err}
+use Rattle.std.specs.Prelude.{◌≡◌, ⊤, ℕ, ◌+◌, Option, None, Some, List, [], ◌∷◌, length, Result, Ok, Err}
 use Rattle.scasp_serve_words.specs.Splits.{split_lines}
 use Rattle.scasp_serve_words.specs.Commands.{command_in}
 use Rattle.scasp_serve_words.specs.declared.command.Command.{Command}
@@ -25,8 +25,7 @@ commands_at at (line ∷ lines) rest = begins_with (command_in line) at (command
 abbrev pub commands_in : List ℕ → Reading
 commands_in bytes = commands_at 0 (split_lines bytes).lines (split_lines bytes).rest
 
--- what the code answers is what is read; want of memory is free
-abbrev pub Told : Reading → Result (List Command) CommandsErr → Type 0
-Told reading (Ok commands) = reading ≡ Ok commands
-Told reading (Err (error.Line at)) = reading ≡ Err at
-Told reading (Err error.Memory) = Unit {0}
+-- the line that the code refuses is the first; want of memory is free
+abbrev pub Refuses : Reading → CommandsErr → Type 0
+Refuses reading (error.Line at) = reading ≡ Err at
+Refuses reading error.Memory = ⊤

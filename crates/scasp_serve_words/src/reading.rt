@@ -1,5 +1,6 @@
 //! The commands in a file.
-ghost use Rattle.scasp_serve_words.specs.Reading.{Told, commands_in};
+ghost use Rattle.std.specs.Prelude.{◌≡◌, Ok, IfOk, IfErr};
+ghost use Rattle.scasp_serve_words.specs.Reading.{Refuses, commands_in};
 
 use crate::command::{Command, command_in};
 use crate::error::CommandsErr;
@@ -12,7 +13,8 @@ use std::alloc::Global;
 ///
 /// `Line` with the place of the first line that is no command or lacks its end; `Memory` for want of memory.
 pub fn read_commands(alloc: Global, bytes: &[u8]) -> Result<Vec<Command>, CommandsErr>
-    ensures { Told (commands_in bytes.now) result }
+    ensures ok { IfOk result (λ commands. commands_in bytes.now ≡ Ok commands.items) }
+    ensures err { IfErr result (Refuses (commands_in bytes.now)) }
 {
     let mut commands = Vec::new(alloc);
     let mut rest = bytes;
