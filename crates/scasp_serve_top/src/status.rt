@@ -28,19 +28,26 @@ impl ServeStatus {
     ghost use Rattle.scasp_command_inputs.specs.Codes.{code_of};
     ghost use Rattle.scasp_serve_top.specs.Statuses.{status_of};
 
+    /// The status of `scasp` that is the same.
+    pub fn status(self) -> Status
+        ensures { result ≡ status_of self }
+    {
+        match self {
+            ServeStatus::Done => Status::Done,
+            ServeStatus::Usage => Status::Usage,
+            ServeStatus::Text => Status::Text,
+            ServeStatus::Read => Status::Read,
+            ServeStatus::Write => Status::Write,
+            ServeStatus::Memory => Status::Memory,
+            ServeStatus::Limit => Status::Limit,
+        }
+    }
+
     /// The exit code of the program, as that of `scasp`.
     pub fn code(self) -> u8
         ensures { result ≡ code_of (status_of self) }
     {
-        match self {
-            ServeStatus::Done => 0,
-            ServeStatus::Usage => 2,
-            ServeStatus::Text => 3,
-            ServeStatus::Read => 4,
-            ServeStatus::Write => 5,
-            ServeStatus::Memory => 8,
-            ServeStatus::Limit => 11,
-        }
+        self.status().code()
     }
 }
 

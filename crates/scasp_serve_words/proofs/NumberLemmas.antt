@@ -24,8 +24,8 @@ number-digits (a ∷ b ∷ bs) h = (and_parts (not (a == 48) && nat_le (length (
 
 -- what is no text is no number
 pub no-number : (least most : ℕ) (word : List ℕ) → ¬ (IsUtf8 word) → None ≡ number_between least most word
-no-number least most word no = by (is_number word) refl
+no-number least most word other = by (is_number word) refl
   where
     by : (b : Bool) → is_number word ≡ b → None ≡ number_between least most word
-    by true e = absurd (no (IsUtf8-from_ascii word (digits-ascii word (number-digits word e))))
+    by true e = absurd (other (IsUtf8-from_ascii word (digits-ascii word (number-digits word e))))
     by false e = rw e refl

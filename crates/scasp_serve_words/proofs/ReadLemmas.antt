@@ -60,6 +60,10 @@ no-line : (at : ℕ) (bytes : List ℕ) → bytes ≢ [] → commands_at at [] b
 no-line at [] there = absurd (there refl)
 no-line at (b ∷ bs) there = refl
 
+pub some-byte : (bytes : List ℕ) (b : Bool) → b ≡ (length bytes == 0) → b ≡ false → bytes ≢ []
+some-byte [] b is full e = cc (is, full)
+some-byte (x ∷ xs) b is full e = cc e
+
 -- no line ends
 pub lacks-end : (at : ℕ) (bytes : List ℕ) → length bytes ≤ len_of bytes → bytes ≢ [] → read_on at bytes ≡ Err at
 lacks-end at bytes all there = ap (λ x. commands_at at x.lines x.rest) (split-rest bytes all) ∙ no-line at bytes there
