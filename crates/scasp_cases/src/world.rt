@@ -102,11 +102,15 @@ impl World {
         self.files.calls = 0;
         let failing = one(alloc, device.failing_write)?;
         let mut out = MemSink::new(alloc, ROOM, device.chunk, failing)?;
-        self.status = match words {
-            ["serve", behind @ ..] => {
-                serve(alloc, &words_of(alloc, behind)?, &mut self.files, &mut out).status()
+        self.status = match words.split_first() {
+            Some((first, behind)) if *first == "serve" => {
+                let words = words_of(alloc, behind)?;
+                serve(alloc, &words, &mut self.files, &mut out).status()
             }
-            _ => scasp(alloc, &words_of(alloc, words)?, &mut self.files, &mut out),
+            _ => {
+                let words = words_of(alloc, words)?;
+                scasp(alloc, &words, &mut self.files, &mut out)
+            }
         };
         self.printed = out.taken;
         Ok(())
