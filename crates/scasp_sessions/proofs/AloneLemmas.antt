@@ -57,8 +57,10 @@ comes-slice id other calls comes es old between s r h l is next = by (other == i
   where
     stays : between ≡ record old { opened = with_search other r.1 old.opened }
     stays = r.4
+
     keeps : id < between.next
     keeps = rw stays l
+
     by : (b : Bool) → (other == id) ≡ b → (last : Search) × IsAdvancedBy s (if b then calls ∷ slices_of id es else slices_of id es) (if b then comes ∷ comes_of id es else comes_of id es) last
     by true e =
         let same : other ≡ id = eqb-true other id e in
@@ -132,8 +134,8 @@ stands-alone before after program query budget fresh number end r =
     let search = reply.2.0 in
     let is : number ≡ old.next = reply.1 in
     let new : search_of number (old.opened ++ record { number = number; search = search } ∷ []) ≡ Some search =
-      search-new number search old.opened (subst (λ n. AllBelow n old.opened) (sym is) there.1) in
+    search-new number search old.opened (subst (λ n. AllBelow n old.opened) (sym is) there.1) in
     let next : number < number + 1 = omega arith in
     let rest = comes-alone number after between end search there.2.2 (numbered-reply (opening program query budget fresh (Ok number)) old between reply there.1)
-      (rw stays next) (rw stays new) in
+    (rw stays next) (rw stays new) in
     record { first = search; last = rest.0; opened = reply.2.1; advanced = rest.1 }

@@ -41,9 +41,10 @@ comes-behind value m budget calls middle held more after old between new [] (f �
 comes-behind value m budget calls middle held more after old between new (n ∷ ns) [] r e h = absurd h
 comes-behind value m budget calls middle held more after old between new (n ∷ ns) (advance.Answer a ∷ es) r e h =
     (h.0, h.1, tells-later m budget calls middle h.0 old between h.1 (answered (value a)) r h.2, by-slice h.0 middle calls held more n h.3 e, h.4)
-comes-behind value m budget calls middle held more after old between new (n ∷ ns) (advance.Paused ∷ es) r e h =
-    (subst (λ k. NeedsMore m budget old calls k) (held-more held more n) (needs-behind m budget calls middle held (more + n) old between r e h.0),
-    subst (λ k. Comes value m budget old calls k ns es new after) (held-more held more n) (comes-behind value m budget calls middle held (more + n) after old between new ns es r e h.1))
+comes-behind value m budget calls middle held more after old between new (n ∷ ns) (advance.Paused ∷ es) r e h = (
+  subst (λ k. NeedsMore m budget old calls k) (held-more held more n) (needs-behind m budget calls middle held (more + n) old between r e h.0),
+  subst (λ k. Comes value m budget old calls k ns es new after) (held-more held more n) (comes-behind value m budget calls middle held (more + n) after old between new ns es r e h.1),
+)
 comes-behind value m budget calls middle held more after old between new (n ∷ ns) (advance.Ended ∷ es) r e h =
     (h.0, h.1, tells-later m budget calls middle h.0 old between h.1 ended r h.2, by-slice h.0 middle calls held more n h.3 e, h.4)
 comes-behind value m budget calls middle held more after old between new (n ∷ ns) (advance.Spent ∷ es) r e h =
@@ -87,10 +88,11 @@ pause-first : (old between last : Rest) (n : ℕ) (ns : List ℕ) (es : List (Ad
 pause-first old between last n ns es a h =
     let m = machine old.problem old.queried in
     let zero-more : (k : ℕ) → k + 0 ≡ 0 + k = λ k. omega arith in
-    let zero-before : n ≡ 0 + n = omega arith in
-    (subst (λ k. NeedsMore m old.budget old.states old.calls k) zero-before a.keeps.1,
-    subst (λ k. Comes certificate_of m old.budget old.states old.calls k ns es last.states last.calls) (zero-more n)
-    (comes-behind certificate_of m old.budget old.calls between.calls n 0 last.calls old.states between.states last.states ns es a.gives a.keeps.0 h))
+    let zero-before : n ≡ 0 + n = omega arith in (
+      subst (λ k. NeedsMore m old.budget old.states old.calls k) zero-before a.keeps.1,
+      subst (λ k. Comes certificate_of m old.budget old.states old.calls k ns es last.states last.calls) (zero-more n)
+          (comes-behind certificate_of m old.budget old.calls between.calls n 0 last.calls old.states between.states last.states ns es a.gives a.keeps.0 h),
+    )
 
 pub events-come : (first last : Search) (ns : List ℕ) (es : List (Advance Cert)) → stopped first ≡ None → IsAdvancedBy first ns es last → AdvancesAll (rest_of first) ns es (rest_of last)
 events-come first last [] [] goes h = rw h (nothing (rest_of first))

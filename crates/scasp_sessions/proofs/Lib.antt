@@ -3,3 +3,5 @@ pub mod PlaceLemmas
 pub mod AloneLemmas
 pub mod EventLemmas
 pub mod NumberLemmas
+pub mod RoomLemmas
+pub mod CountLemmas

@@ -1,6 +1,7 @@
 -- Numbers and refusals follow from the calls.
 use Rattle.std.specs.Prelude.{◌≡◌, ℕ, ◌+◌, ◌<◌, ◌≤◌, ◌==◌, ◌||◌, nat_lt, Bool, true, false, if◌then◌else◌, List, [], ◌∷◌, ◌++◌, length, map, Option, None, Some, IsSome, IsSomeAnd, Ok, Err, refl}
-use Rattle.std.proofs.Common.{ap, arith, length-map, map-append, subst, sym, ◌∙◌}
+use Rattle.std.proofs.Common.{ap, arith, subst, sym, ◌∙◌}
+use Rattle.std.proofs.lemmas.List.{length-map, map-append}
 use Rattle.std.proofs.lemmas.Bool.Decides.{nat_tests}
 use Rattle.scasp_search.specs.declared.search.Search.{Search}
 use Rattle.scasp_sessions.specs.Alone.{Exchange, Replies, RepliesAll, advancing, closing, opening}

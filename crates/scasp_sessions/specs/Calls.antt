@@ -34,18 +34,18 @@ pub record IsAdvanced (old : Search) (calls : ℕ) (comes : Advance Cert) (new :
 
 -- ---- a search among others
 
-abbrev pub has_query : Program → ℕ → Type 0
-has_query program query = IsSome (numbered program.queries query)
+abbrev pub HasQuery : Program → ℕ → Type 0
+HasQuery program query = IsSome (numbered program.queries query)
 
 -- `open`: a session with the next number stands behind the others. No such query goes before too many sessions, and both before want of memory.
 abbrev pub Opening : Table → Program → ℕ → ℕ → ℕ → Result ℕ OpenErr → Table → Type 0
 Opening old program query budget fresh (Ok number) new =
     (length old.opened < 64) × (number ≡ old.next)
     × ((search : Search) × IsOpened program query budget fresh search
-        × (new ≡ record { opened = old.opened ++ record { number = number; search = search } ∷ []; next = number + 1 }))
+    × (new ≡ record { opened = old.opened ++ record { number = number; search = search } ∷ []; next = number + 1 }))
 Opening old program query budget fresh (Err refusal.NoQuery) new = (numbered program.queries query ≡ None) × (new ≡ old)
-Opening old program query budget fresh (Err refusal.Full) new = has_query program query × (64 ≤ length old.opened) × (new ≡ old)
-Opening old program query budget fresh (Err refusal.Memory) new = has_query program query × (length old.opened < 64) × (new ≡ old)
+Opening old program query budget fresh (Err refusal.Full) new = HasQuery program query × (64 ≤ length old.opened) × (new ≡ old)
+Opening old program query budget fresh (Err refusal.Memory) new = HasQuery program query × (length old.opened < 64) × (new ≡ old)
 
 -- `next`: the search of the session with the number goes on, and nothing else changes
 abbrev pub Advancing : Table → ℕ → ℕ → Result (Advance Cert) NoSession → Table → Type 0

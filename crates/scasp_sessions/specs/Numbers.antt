@@ -73,3 +73,11 @@ due_to ns (closes id) = if is_taken id ns.taken then (closed, record ns { taken 
 abbrev pub due_to_all : Numbers → List Asked → List Said
 due_to_all ns [] = []
 due_to_all ns (a ∷ more) = (due_to ns a).0 ∷ due_to_all (due_to ns a).1 more
+
+-- the numbers that calls have given, in order
+abbrev pub numbers_in : List Exchange → List ℕ
+numbers_in [] = []
+numbers_in (opening program query budget fresh (Ok number) ∷ es) = number ∷ numbers_in es
+numbers_in (opening program query budget fresh (Err refused) ∷ es) = numbers_in es
+numbers_in (advancing id calls reply ∷ es) = numbers_in es
+numbers_in (closing id reply ∷ es) = numbers_in es

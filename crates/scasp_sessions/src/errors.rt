@@ -1,17 +1,15 @@
 //! Why a call is refused.
 use scasp_list::Memory;
-use thiserror::Error;
+use std::alloc::AllocFailed;
 
 /// Why no session is opened.
-#[derive(Clone, Copy, Debug, PartialEq, Eq, Error)]
+#[derive(Clone, Copy, Debug, PartialEq, Eq)]
 pub enum OpenErr {
     /// The program has no query of that number.
-    #[error("no such query")]
     NoQuery,
     /// As many sessions are open as may be.
-    #[error("too many open sessions")]
     Full,
-    #[error("out of memory")]
+    /// Want of memory.
     Memory,
 }
 
@@ -26,7 +24,17 @@ impl From<Memory> for OpenErr {
     }
 }
 
+impl<T: Drop> From<AllocFailed<T>> for OpenErr {
+    ghost use Rattle.std.specs.Prelude.{◌≡◌};
+    ghost use Rattle.scasp_sessions.specs.declared.errors.OpenErr.TheVariants as errors;
+
+    ghost from_gives = { λ _ error. error ≡ errors.Memory };
+
+    fn from(_error: AllocFailed<T>) -> OpenErr {
+        OpenErr::Memory
+    }
+}
+
 /// No open session has the number.
-#[derive(Clone, Copy, Debug, PartialEq, Eq, Error)]
-#[error("no such session")]
+#[derive(Clone, Copy, Debug, PartialEq, Eq)]
 pub struct NoSession;

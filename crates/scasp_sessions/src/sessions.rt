@@ -1,5 +1,5 @@
 //! The open sessions.
-ghost use Rattle.std.specs.Prelude.{◌≡◌, ◌<◌, ◌^◌};
+ghost use Rattle.std.specs.Prelude.{◌≡◌, ◌<◌, ◌≤◌, ◌+◌, ◌^◌};
 ghost use Rattle.std.specs.List.{position_from};
 ghost use Rattle.scasp_sessions.specs.Calls.{Advancing, Closing, Opening};
 ghost use Rattle.scasp_sessions.specs.Tables.{calls_in, has_number, no_sessions};
@@ -55,7 +55,8 @@ impl Sessions {
         fresh: u64,
     ) -> Result<u64, OpenErr>
         requires { self.old.next < 2 ^ 63 }
-        ensures { Opening self.old program.now query budget fresh result self.new }
+        ensures reply { Opening self.old program.now query budget fresh result self.new }
+        ensures next { self.new.next ≤ self.old.next + 1 }
     {
         if program.query(query).is_none() {
             return Err(OpenErr::NoQuery);
@@ -77,7 +78,8 @@ impl Sessions {
     ///
     /// No open session has the number; nothing has changed then.
     pub fn next(&mut self, id: u64, calls: u64) -> Result<Advance, NoSession>
-        ensures { Advancing self.old id calls result self.new }
+        ensures reply { Advancing self.old id calls result self.new }
+        ensures next { self.new.next ≡ self.old.next }
     {
         match place_of(&self.opened, id) {
             Some(place) => {
@@ -102,7 +104,8 @@ impl Sessions {
     ///
     /// No open session has the number; nothing has changed then.
     pub fn close(&mut self, id: u64) -> Result<(), NoSession>
-        ensures { Closing self.old id result self.new }
+        ensures reply { Closing self.old id result self.new }
+        ensures next { self.new.next ≡ self.old.next }
     {
         match place_of(&self.opened, id) {
             Some(place) => {

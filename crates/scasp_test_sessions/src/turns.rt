@@ -2,7 +2,6 @@
 use crate::texts::{Text, number_or_not, told};
 use scasp_sessions::Sessions;
 use std::alloc::Global;
-use std::process::Abort;
 use std::test::Fail;
 
 /// Slices, each with the number of its session.
@@ -74,20 +73,15 @@ fn apart(alloc: Global, text: &Text) -> Result<Told, Fail> {
     Ok(made)
 }
 
-/// The number-th of what came of the slices of a session.
-fn nth(told: &Told, session: u64, number: usize) -> Option<&[u8]> {
-    told.iter()
-        .filter(|item| item.0 == session)
-        .nth(number)
-        .map(|item| item.1.as_slice())
-}
-
-/// What comes of the slices of a session is the same both times, and is not nothing.
-fn check_session(rt: &impl Abort, left: &Told, right: &Told, session: u64) {
-    assert!(rt; nth(left, session, 0).is_some());
-    for number in 0..SLICES.len() {
-        assert!(rt; nth(left, session, number) == nth(right, session, number));
+/// What came of the slices of one session, one behind the other.
+fn text_of(alloc: Global, told: &Told, session: u64) -> Result<Vec<u8>, Fail> {
+    let mut text = Vec::new(alloc);
+    for line in told {
+        if line.0 == session {
+            text.extend_from_slice(line.1.as_slice())?;
+        }
     }
+    Ok(text)
 }
 
 #[test]
@@ -97,7 +91,10 @@ fn apart_or_in_turn(rt: HostRuntime) -> Result<(), Fail> {
     let right = apart(rt.alloc(), &text)?;
     assert_eq!(rt; left.len(), right.len());
     for session in [1, 2, 3] {
-        check_session(&rt, &left, &right, session);
+        let one = text_of(rt.alloc(), &left, session)?;
+        let other = text_of(rt.alloc(), &right, session)?;
+        assert!(rt; one.starts_with(b"paused"));
+        assert_eq!(rt; one.as_slice(), other.as_slice());
     }
     Ok(())
 }
