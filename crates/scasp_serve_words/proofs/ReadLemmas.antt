@@ -3,10 +3,10 @@ use Rattle.std.proofs.Common.{◌≡◌, ◌≢◌, ◌∙◌, ℕ, ◌+◌, ◌
 use Rattle.std.proofs.lemmas.List.{length-take-le}
 use Rattle.std.specs.Prelude.{◌==◌}
 use Rattle.std.specs.List.{position_or_len}
-use Rattle.scasp_serve_words.proofs.SplitLemmas.{split-rest, split-line}
+use Rattle.scasp_answers.proofs.FilesLemmas.ByteLemmas.{split-rest, split-line}
 use Rattle.scasp_serve_words.specs.Commands.{command_in}
 use Rattle.scasp_serve_words.specs.Reading.{Reading, begins_with, commands_at}
-use Rattle.scasp_serve_words.specs.Splits.{split_lines}
+use Rattle.scasp_answers.specs.Blocks.Files.{split_lines}
 use Rattle.scasp_serve_words.specs.declared.command.Command.{Command}
 
 -- what is read of these bytes from here on

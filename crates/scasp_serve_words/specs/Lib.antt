@@ -1,4 +1,3 @@
-pub mod Splits
 pub mod Commands
 pub mod Reading
 pub mod Examples

@@ -1,6 +1,6 @@
 -- What is read from the bytes of a file of commands: a command a line, or the place of the first line that is none.
 use Rattle.std.specs.Prelude.{◌≡◌, ⊤, ℕ, ◌+◌, Option, None, Some, List, [], ◌∷◌, length, Result, Ok, Err}
-use Rattle.scasp_serve_words.specs.Splits.{split_lines}
+use Rattle.scasp_answers.specs.Blocks.Files.{split_lines}
 use Rattle.scasp_serve_words.specs.Commands.{command_in}
 use Rattle.scasp_serve_words.specs.declared.command.Command.{Command}
 use Rattle.scasp_serve_words.specs.declared.error.CommandsErr.{CommandsErr}

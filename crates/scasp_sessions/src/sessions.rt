@@ -94,8 +94,13 @@ impl Sessions {
     pub fn calls(&self, id: u64) -> Option<u64>
         ensures { result ≡ calls_in id self.now }
     {
-        let place = place_of(&self.opened, id)?;
-        Some(self.opened[place].search.calls())
+        match place_of(&self.opened, id) {
+            Some(place) => {
+                let session = &self.opened[place];
+                Some(session.search.calls())
+            }
+            None => None,
+        }
     }
 
     /// Ends the session with the number. Takes no memory.
