@@ -13,6 +13,7 @@ use scasp_search_calls::{
 use scasp_search_constraints::{
     SearchErr, asked_list, is_constrained, is_number_by, passes, split_at, status,
 };
+use scasp_search_ends::close_overflows;
 use scasp_search_rules::{
     Bindings, Covers, Kind, Line, Lines, Literals, Made, Repeated, State, Status, Task, Tasks,
     Variables,
@@ -314,6 +315,10 @@ impl Situation for Copied {
 
     fn pays(&self) -> bool {
         pays(&self.state)
+    }
+
+    fn close_overflows(&self, alloc: Global) -> Result<bool, Memory> {
+        close_overflows(alloc, &self.state)
     }
 
     // ---- points

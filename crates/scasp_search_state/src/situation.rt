@@ -9,6 +9,7 @@ ghost use Rattle.scasp_search_rules.specs.Successors.Equations.{equations};
 ghost use Rattle.scasp_search_rules.specs.Successors.Items.{body_of, with_line};
 ghost use Rattle.scasp_search_rules.specs.Successors.Pairs.{pairs};
 ghost use Rattle.scasp_search_rules.specs.Successors.Regions.{asked_with, before, context, is_constrained, with_given};
+ghost use Rattle.scasp_search_rules.specs.Successors.Replacing.{close_overflows};
 ghost use Rattle.scasp_search_rules.specs.Successors.Search.{pays, waits};
 ghost use Rattle.scasp_search_rules.specs.Successors.Splits.{is_number_by, split_at};
 ghost use Rattle.scasp_search_rules.specs.Successors.Variables.{depth_of, is_universal, lowered, made_at, meaning, next_variable, universals_of, with_binding, with_new};
@@ -259,6 +260,10 @@ pub trait Situation {
     /// Whether a call, a case that begins or a remainder that is taken up comes next.
     fn pays(&self) -> bool
         ensures { result ≡ pays (now self.now) };
+
+    /// Whether the end of a case with universal variables comes next, and the bindings cannot replace a row of its lines.
+    fn close_overflows(&self, alloc: Global) -> Result<bool, Memory>
+        ensures { IfOk result (λ overflows. overflows ≡ close_overflows (now self.now) (now self.now).work) };
 
     // ---- points
 
