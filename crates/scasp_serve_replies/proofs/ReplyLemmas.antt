@@ -1,8 +1,9 @@
 -- The reply to each command.
-use Rattle.std.proofs.Common.{◌≡◌, ◌∙◌, ℕ, ◌+◌, true, false, List, [], ◌∷◌, ◌++◌, length, Option, None, Some, Ok, Err, refl, ap, sym, subst, arith, length-append, codes, is_some, option_map}
+use Rattle.std.proofs.Common.{◌≡◌, ◌∙◌, ℕ, ◌+◌, true, false, List, [], ◌∷◌, ◌++◌, length, Option, None, Some, Result, Ok, Err, IfOk, refl, ap, sym, subst, arith, length-append, codes}
 use Rattle.scasp_cert.specs.Certificate.{Certificate, certificate_of}
 use Rattle.scasp_cert.specs.declared.certificate.Cert.{Cert}
 use Rattle.scasp_print_samples.specs.Tables.{IsTable}
+use Rattle.scasp_search.specs.Rests.{rest_of}
 use Rattle.scasp_search.specs.declared.search.Search.{Search}
 use Rattle.scasp_serve_replies.specs.Comings.{SessionGoesOn}
 use Rattle.scasp_serve_replies.specs.Desks.{IsCounted, Tells, standing}
@@ -22,6 +23,21 @@ use Rattle.scasp_sessions.specs.Calls.{Closing, Opening}
 use Rattle.scasp_sessions.specs.Tables.{Table, calls_in, search_of}
 use Rattle.scasp_sessions.specs.declared.errors.OpenErr.TheVariants as refusal
 use Rattle.scasp_syntax.specs.declared.program.Program.{Program}
+
+-- what follows of each value holds of the one that is there
+pub ok-more : {A E : Type 0} {P Q : A → Type 0} (r : Result A E) → ((x : A) → P x → Q x) → IfOk r P → IfOk r Q
+ok-more (Ok x) more h = more x h
+ok-more (Err e) more h = tt
+
+-- no calls are told of a number that no open session has
+pub calls-none : (id : ℕ) (t : Table) → calls_in id t ≡ None → search_of id t.opened ≡ None
+calls-none id t h = by (search_of id t.opened) refl
+  where
+    by : (o : Option Search) → search_of id t.opened ≡ o → search_of id t.opened ≡ None
+    by None e = e
+    by (Some s) e =
+        let k : calls_in id t ≡ Some (rest_of s).calls = rw e refl in
+        absurd (cc (k, h))
 
 module _ (p : Program) (names : List (List ℕ)) (old new : Desk) (text : List ℕ) where
   told : (command : Command) (r : Reply) (table : Table) (tallies : List Tally) → new.sessions ≡ table → new.tallies.items ≡ tallies
@@ -80,12 +96,12 @@ module _ (p : Program) (names : List (List ℕ)) (old new : Desk) (text : List �
       (answers id calls mid.sessions cert new.table.names none goes a.table)
       (a.text_is ∙ ap (λ (ts : List Tally). reply_text (answer id ((tally_of id ts).answers + 1) new.table.names (certificate_of cert))) tallies)
 
-  pub tells-without : (id calls : ℕ) (none : NoAnswer) → (tally_of id old.tallies.items).overflowed ≡ false → SessionGoesOn p old.sessions id calls (coming.Without none) new.sessions
-      → new.tallies.items ≡ with_tally id (behind none (tally_of id old.tallies.items)) old.tallies.items → text ≡ session_line id (word_of none)
+  pub tells-without : (id calls : ℕ) (none : NoAnswer) (t : Table) → (tally_of id old.tallies.items).overflowed ≡ false → SessionGoesOn p old.sessions id calls (coming.Without none) t
+      → new.sessions ≡ t → new.tallies.items ≡ with_tally id (behind none (tally_of id old.tallies.items)) old.tallies.items → text ≡ session_line id (word_of none)
       → Tells p names old (Next id calls) text new
-  tells-without id calls none over goes tallies is =
-      told (Next id calls) (without id none) new.sessions (with_tally id (behind none (tally_of id old.tallies.items)) old.tallies.items) refl tallies
-      (goes_without id calls new.sessions none over goes) is
+  tells-without id calls none t over goes sessions tallies is =
+      told (Next id calls) (without id none) t (with_tally id (behind none (tally_of id old.tallies.items)) old.tallies.items) sessions tallies
+      (goes_without id calls t none over goes) is
 
   -- ---- `close`
 
