@@ -5,7 +5,7 @@ use Rattle.scasp_cert.specs.Skeleton.{skeleton}
 use Rattle.scasp_fill.specs.Finishing.Right.{Completes, HasNoAccepted}
 use Rattle.scasp_command_run.specs.Agreeing.{RunsAgree, skeletons}
 use Rattle.scasp_command_run.specs.Queries.{Meets, MayOverflow, Printed, Prints, fewer, ends, is_cut, is_spent, overflows, passes, prints, stops}
-use Rattle.scasp_command_run.specs.Samples.{NamesSample}
+use Rattle.scasp_print_samples.specs.Samples.{NamesSample}
 use Rattle.scasp_command_run.specs.declared.ends.QueryEnd.{QueryEnd}
 use Rattle.scasp_command_run.specs.declared.ends.QueryEnd.TheVariants.{Ended, Stopped, Spent, Overflow}
 use Rattle.scasp_written.specs.Written.Rests.{Rest, machine}

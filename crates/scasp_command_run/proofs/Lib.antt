@@ -4,4 +4,3 @@ pub mod EventLemmas
 pub mod OutputLemmas
 pub mod QueryLemmas
 pub mod RunLemmas
-pub mod TableLemmas

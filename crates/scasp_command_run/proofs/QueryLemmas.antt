@@ -14,16 +14,16 @@ use Rattle.scasp_command_run.proofs.OutputLemmas.{behind-both, behind-nil, err-b
 use Rattle.scasp_command_run.specs.Inside.Continuing.{Continues, Going, IsQueryRun, IsText, QueryText, Remains, Standing, Steps}
 use Rattle.scasp_command_run.specs.Inside.Events.{EndsSo, MeetsNoAccepted, MeetsRight}
 use Rattle.scasp_command_run.specs.Inside.Progresses.{IsAnswered}
-use Rattle.scasp_command_run.specs.Inside.Tables.{IsTable}
+use Rattle.scasp_print_samples.specs.Tables.{IsTable}
 use Rattle.scasp_command_run.specs.Jobs.{Job}
 use Rattle.scasp_command_run.specs.Queries.{Meets, Printed, Prints, fewer, ends, is_cut, is_spent, overflows, passes, prints, stops}
 use Rattle.scasp_command_run.specs.Runs.{has_any}
-use Rattle.scasp_command_run.specs.Samples.{NamesSample}
+use Rattle.scasp_print_samples.specs.Samples.{NamesSample}
 use Rattle.scasp_command_run.specs.Texts.{answer_text, end_line, shown_from}
 use Rattle.scasp_command_run.specs.declared.ends.QueryEnd.{QueryEnd}
 use Rattle.scasp_command_run.specs.declared.ends.QueryEnd.TheVariants.{Ended, Stopped, Spent, Overflow}
 use Rattle.scasp_command_run.specs.declared.queries.Queried.{Queried}
-use Rattle.scasp_command_run.specs.declared.tables.Table.{Table}
+use Rattle.scasp_print_samples.specs.declared.tables.Table.{Table}
 use Rattle.scasp_written.specs.Written.Rests.{Opens, Rest}
 use Rattle.scasp_search_rules.specs.Successors.Machine.{answered}
 use Rattle.scasp_syntax.specs.declared.clause.Query.{Query}

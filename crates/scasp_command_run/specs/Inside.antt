@@ -2,5 +2,4 @@
 pub mod Continuing
 pub mod Events
 pub mod Progresses
-pub mod Tables
 pub mod Whole

@@ -3,5 +3,4 @@ pub mod Inside
 pub mod Jobs
 pub mod Queries
 pub mod Runs
-pub mod Samples
 pub mod Texts

@@ -3,7 +3,7 @@ use Rattle.std.specs.Prelude.{◌≡◌, ◌≢◌, ℕ, ◌-◌, List, [], ◌�
 use Rattle.scasp_cert.specs.Certificate.{Certificate}
 use Rattle.scasp_fill.specs.Finishing.Right.{Completes, HasNoAccepted}
 use Rattle.scasp_command_run.specs.Jobs.{Job}
-use Rattle.scasp_command_run.specs.Samples.{NamesSample}
+use Rattle.scasp_print_samples.specs.Samples.{NamesSample}
 use Rattle.scasp_command_run.specs.declared.ends.QueryEnd.{QueryEnd}
 use Rattle.scasp_command_run.specs.declared.ends.QueryEnd.TheVariants.{Ended, Stopped, Spent, Overflow}
 use Rattle.scasp_search_walk.specs.Walks.{Allows, Tells}

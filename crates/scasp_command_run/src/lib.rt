@@ -7,7 +7,6 @@ pub mod laws;
 mod printing;
 mod queries;
 mod runs;
-mod tables;
 
 pub use ends::{QueryEnd, RunEnd};
 pub use events::SLICE;

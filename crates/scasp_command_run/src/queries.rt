@@ -6,7 +6,7 @@ ghost use Rattle.scasp_io.specs.Taken.{Writes};
 ghost use Rattle.scasp_command_run.specs.Inside.Continuing.{QueryText, Standing, Steps};
 ghost use Rattle.scasp_command_run.specs.Inside.Progresses.{IsAnswered, standing};
 ghost use Rattle.scasp_command_run.specs.Inside.Events.{IsGoing};
-ghost use Rattle.scasp_command_run.specs.Inside.Tables.{IsTable};
+ghost use Rattle.scasp_print_samples.specs.Tables.{IsTable};
 ghost use Rattle.scasp_command_run.specs.Jobs.{job};
 ghost use Rattle.scasp_command_run.specs.Queries.{Prints, fewer};
 ghost use Rattle.scasp_search.specs.Rests.{rest_of, stopped};
@@ -16,7 +16,7 @@ ghost use Rattle.scasp_syntax.specs.declared.program.Program.{Program as ThisPro
 use crate::ends::QueryEnd;
 use crate::events::{Next, next_event};
 use crate::printing::{write_answer, write_end};
-use crate::tables::{Table, name_sample};
+use scasp_print_samples::{Table, name_sample};
 use scasp_cert::Cert;
 use scasp_io::{OutputErr, Sink};
 use scasp_list::Memory;

@@ -9,4 +9,5 @@ mod word;
 
 pub use command::{Command, DEFAULT_ANSWERS, DEFAULT_BUDGET, MOST_NODES, parse_words};
 pub use error::WordErr;
+pub use number::number_between;
 pub use word::Word;

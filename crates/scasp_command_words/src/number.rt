@@ -23,7 +23,7 @@ fn is_number(word: &[u8]) -> bool
 }
 
 /// The number that the word spells, where it is from `least` to `most`.
-pub(crate) fn number_between(least: u64, most: u64, word: &str) -> Option<u64>
+pub fn number_between(least: u64, most: u64, word: &str) -> Option<u64>
     ensures value { result ≡ spec.number_between least most word.now }
     ensures within { IfSome result (λ number. number ≤ most) }
 {

@@ -1,5 +1,6 @@
 -- The sessions that are open.
-use Rattle.std.specs.Prelude.{ℕ, ◌==◌, if◌then◌else◌, Bool, List, [], ◌∷◌, Option, None, Some}
+use Rattle.std.specs.Prelude.{ℕ, ◌==◌, if◌then◌else◌, Bool, List, [], ◌∷◌, Option, None, Some, option_map}
+use Rattle.scasp_search.specs.Rests.{rest_of}
 use Rattle.scasp_search.specs.declared.search.Search.{Search}
 use Rattle.scasp_sessions.specs.declared.session.Session.{Session}
 
@@ -18,6 +19,10 @@ has_number id s = s.number == id
 abbrev pub search_of : ℕ → List Session → Option Search
 search_of id [] = None
 search_of id (s ∷ ss) = if has_number id s then Some s.search else search_of id ss
+
+-- how many calls the session with the number has spent, if one is open
+abbrev pub calls_in : ℕ → Table → Option ℕ
+calls_in id t = option_map (λ s. (rest_of s).calls) (search_of id t.opened)
 
 -- the sessions, with another search for the one with the number
 abbrev pub with_search : ℕ → Search → List Session → List Session

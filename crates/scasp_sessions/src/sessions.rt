@@ -2,7 +2,7 @@
 ghost use Rattle.std.specs.Prelude.{◌≡◌, ◌<◌, ◌≤◌, ◌+◌, ◌^◌};
 ghost use Rattle.std.specs.List.{position_from};
 ghost use Rattle.scasp_sessions.specs.Calls.{Advancing, Closing, Opening};
-ghost use Rattle.scasp_sessions.specs.Tables.{has_number, no_sessions};
+ghost use Rattle.scasp_sessions.specs.Tables.{calls_in, has_number, no_sessions};
 
 use crate::errors::{NoSession, OpenErr};
 use crate::session::Session;
@@ -87,6 +87,19 @@ impl Sessions {
                 Ok(session.search.advance(calls))
             }
             None => Err(NoSession),
+        }
+    }
+
+    /// How many calls the session with the number has spent; none where no open session has it. Takes no memory.
+    pub fn calls(&self, id: u64) -> Option<u64>
+        ensures { result ≡ calls_in id self.now }
+    {
+        match place_of(&self.opened, id) {
+            Some(place) => {
+                let session = &self.opened[place];
+                Some(session.search.calls())
+            }
+            None => None,
         }
     }
 

@@ -22,11 +22,12 @@ use Rattle.scasp_command_check.specs.declared.checking.Rechecked.TheVariants as 
 use Rattle.scasp_command_check.proofs.MeaningLemmas.{means_accepted}
 use Rattle.scasp_top.specs.Agreeing.{ChecksAgree, ChecksMean}
 use Rattle.scasp_top.specs.Ends.{check_status, IsCheck}
-use Rattle.scasp_top.specs.Outputs.{answers_in, program_file, without_faults, AreBytes, Checks, Failed, IsAnswers, IsProgram, Outputs, Outside, Says, unread, refused, unread_answers, refused_answers, nothing, usage, no_program, runs, no_answers, checks, tries}
-use Rattle.scasp_top.specs.Texts.{answers_refusal, program_refusal, refusal_line, refusal_status}
-use Rattle.scasp_top.specs.declared.refusals.Input.TheVariants as input
-use Rattle.scasp_top.specs.declared.status.Status.{Status}
-use Rattle.scasp_top.specs.declared.status.Status.TheVariants.{Done, Memory, Refused}
+use Rattle.scasp_command_inputs.specs.Inputs.{answers_in, without_faults, AreBytes, Failed, IsAnswers, IsProgram, Outside, Says, unread, refused, unread_answers, refused_answers}
+use Rattle.scasp_top.specs.Outputs.{program_file, Checks, Outputs, nothing, usage, no_program, runs, no_answers, checks, tries}
+use Rattle.scasp_command_inputs.specs.Texts.{answers_refusal, program_refusal, refusal_line, refusal_status}
+use Rattle.scasp_command_inputs.specs.declared.refusals.Input.TheVariants as input
+use Rattle.scasp_command_inputs.specs.declared.status.Status.{Status}
+use Rattle.scasp_command_inputs.specs.declared.status.Status.TheVariants.{Done, Memory, Refused}
 
 -- what is printed for these bytes, and the status: the program is refused, or the answers are, or the blocks are checked
 data Comes (bytes blocks text : List ℕ) (status : Status) : Type 0 where

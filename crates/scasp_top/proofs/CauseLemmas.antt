@@ -10,12 +10,13 @@ use Rattle.scasp_command_check.specs.declared.checking.Rechecked.TheVariants as 
 use Rattle.scasp_command_trial.specs.declared.first.Trial.{Trial as Trying}
 use Rattle.scasp_command_trial.specs.declared.first.Trial.TheVariants as trial
 use Rattle.scasp_top.specs.Ends.{run_status, check_status, trial_status}
-use Rattle.scasp_top.specs.Outputs.{Outside, without_faults, program_file, HasReadFault, unread, refused, unread_answers, refused_answers, Outputs, nothing, usage, no_program, runs, no_answers, checks, tries, is_refused, is_tried}
+use Rattle.scasp_command_inputs.specs.Inputs.{Outside, without_faults, unread, refused, unread_answers, refused_answers}
+use Rattle.scasp_top.specs.Outputs.{program_file, HasReadFault, Outputs, nothing, usage, no_program, runs, no_answers, checks, tries, is_refused, is_tried}
 use Rattle.scasp_io.specs.Taken.{TakesWhole}
-use Rattle.scasp_top.specs.Reports.{Reports, whole, part}
-use Rattle.scasp_top.specs.Texts.{Refusal, refusal_status, program_refusal, answers_refusal}
-use Rattle.scasp_top.specs.declared.status.Status.{Status}
-use Rattle.scasp_top.specs.declared.status.Status.TheVariants.{Done, NoAnswer, Usage, Text, Read, Write, Spent, Overflow, Memory, Refused, Limit}
+use Rattle.scasp_command_inputs.specs.Reports.{Reports, whole, part}
+use Rattle.scasp_command_inputs.specs.Texts.{Refusal, refusal_status, program_refusal, answers_refusal}
+use Rattle.scasp_command_inputs.specs.declared.status.Status.{Status}
+use Rattle.scasp_command_inputs.specs.declared.status.Status.TheVariants.{Done, NoAnswer, Usage, Text, Read, Write, Spent, Overflow, Memory, Refused, Limit}
 
 -- the status of a fault of the outside
 is_fault : Status → Bool

@@ -4,13 +4,14 @@ use Rattle.scasp_syntax.specs.declared.program.Program.{Program}
 use Rattle.scasp_answers.specs.Blocks.States.{Entry}
 use Rattle.scasp_command_words.specs.declared.command.Command.{Command}
 use Rattle.scasp_command_words.specs.declared.command.Command.TheVariants.{Run, Check, Trial}
-use Rattle.scasp_top.specs.Inside.Halts.{IfLine, Tells}
-use Rattle.scasp_top.specs.Outputs.{outside, program_file, Checks, IsAnswers, IsNoAnswers, IsNoProgram, IsProgram, Outputs, Outside, Runs, TriesNodes, nothing, no_program, runs, no_answers, checks, tries}
-use Rattle.scasp_top.specs.Reports.{Reports}
-use Rattle.scasp_top.specs.declared.halt.Halt.{Halt}
-use Rattle.scasp_top.specs.declared.status.Status.{Status}
-use Rattle.scasp_top.proofs.InputLemmas.{no_answers-since}
-use Rattle.scasp_top.proofs.ReportLemmas.{reports-widen, tells-widen}
+use Rattle.scasp_command_inputs.specs.Halts.{IfLine, Tells}
+use Rattle.scasp_command_inputs.specs.Inputs.{outside, IsAnswers, IsNoAnswers, IsNoProgram, IsProgram, Outside}
+use Rattle.scasp_top.specs.Outputs.{program_file, Checks, Outputs, Runs, TriesNodes, nothing, no_program, runs, no_answers, checks, tries}
+use Rattle.scasp_command_inputs.specs.Reports.{Reports}
+use Rattle.scasp_command_inputs.specs.declared.halt.Halt.{Halt}
+use Rattle.scasp_command_inputs.specs.declared.status.Status.{Status}
+use Rattle.scasp_command_inputs.proofs.InputLemmas.{no_answers-since}
+use Rattle.scasp_command_inputs.proofs.ReportLemmas.{reports-widen, tells-widen}
 
 -- the program's file is not read
 pub stops-at-program : (command : Command) (file : List ℕ) (told : List ℕ → Option (List ℕ)) (first after : List ℕ → ℕ) (h : Halt)

@@ -13,9 +13,9 @@ use Rattle.scasp_command_check.specs.Texts.{block_lines, recheck_text, rechecked
 use Rattle.scasp_command_check.specs.declared.checking.Rechecked.{Rechecked}
 use Rattle.scasp_top.specs.Ends.{run_status, check_status}
 use Rattle.scasp_top.specs.Outputs.{asked_answers, Checks, Runs}
-use Rattle.scasp_top.specs.Reports.{Reports, whole, part}
-use Rattle.scasp_top.specs.declared.status.Status.{Status}
-use Rattle.scasp_top.specs.declared.status.Status.TheVariants.{Memory, Write}
+use Rattle.scasp_command_inputs.specs.Reports.{Reports, whole, part}
+use Rattle.scasp_command_inputs.specs.declared.status.Status.{Status}
+use Rattle.scasp_command_inputs.specs.declared.status.Status.TheVariants.{Memory, Write}
 
 -- a run that ended, or was cut off by want of memory
 pub takes-run : (p : Program) (names : List (List ℕ)) (budget answers : ℕ) (asked : Option ℕ) (end : Option RunEnd) (status : Status) (before after : Option (List ℕ)) (faults faults' : ℕ)

@@ -2,5 +2,4 @@ mod AgreeLemmas
 pub mod CauseLemmas
 pub mod CommandLemmas
 pub mod EndLemmas
-pub mod InputLemmas
-pub mod ReportLemmas
+pub mod TrialLemmas

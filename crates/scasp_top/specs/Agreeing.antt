@@ -4,9 +4,10 @@ use Rattle.scasp_syntax.specs.declared.program.Program.{Program}
 use Rattle.scasp_answers.specs.Blocks.States.{Entry}
 use Rattle.scasp_command_check.specs.Meaning.{IsAccepted}
 use Rattle.scasp_command_words.specs.declared.command.Command.TheVariants.{Check}
-use Rattle.scasp_top.specs.Outputs.{Checks, Outputs, Outside, without_faults}
-use Rattle.scasp_top.specs.declared.status.Status.{Status}
-use Rattle.scasp_top.specs.declared.status.Status.TheVariants.{Done, Memory, Refused}
+use Rattle.scasp_command_inputs.specs.Inputs.{Outside, without_faults}
+use Rattle.scasp_top.specs.Outputs.{Checks, Outputs}
+use Rattle.scasp_command_inputs.specs.declared.status.Status.{Status}
+use Rattle.scasp_command_inputs.specs.declared.status.Status.TheVariants.{Done, Memory, Refused}
 
 -- Where the bytes of both files are told, no read fails and memory is not wanting, one text alone may be printed, with one status.
 abbrev pub ChecksAgree : Type 0

@@ -10,8 +10,8 @@ use Rattle.scasp_command_check.specs.declared.checking.Rechecked.{Rechecked}
 use Rattle.scasp_command_check.specs.declared.checking.Rechecked.TheVariants as check
 use Rattle.scasp_command_trial.specs.declared.first.Trial.{Trial}
 use Rattle.scasp_command_trial.specs.declared.first.Trial.TheVariants as trial
-use Rattle.scasp_top.specs.declared.status.Status.{Status}
-use Rattle.scasp_top.specs.declared.status.Status.TheVariants as status
+use Rattle.scasp_command_inputs.specs.declared.status.Status.{Status}
+use Rattle.scasp_command_inputs.specs.declared.status.Status.TheVariants as status
 
 -- of a run that ended so, or was cut off
 abbrev pub run_status : Option RunEnd → Status

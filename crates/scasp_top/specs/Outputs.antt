@@ -1,14 +1,12 @@
 -- What a command prints, and the status with which it ends.
-use Rattle.std.specs.Prelude.{◌≡◌, ◌==◌, ◌⊎◌, ℕ, if◌then◌else◌, Option, None, Some, IfSome, List, [], length, All, Ok, Err}
+use Rattle.std.specs.Prelude.{◌≡◌, ◌==◌, ◌⊎◌, ℕ, if◌then◌else◌, Option, None, Some, List, [], length, All, Ok}
 use Rattle.scasp_name.specs.Texts.{list_names}
 use Rattle.scasp_syntax.specs.declared.program.Program.{Program}
-use Rattle.scasp_reader_terms.specs.declared.fault.Fault.{Fault}
 use Rattle.scasp_reader.specs.Programs.Programs.{program_in, reading_of}
-use Rattle.scasp_answers.specs.Blocks.Files.{Reading, file_in}
 use Rattle.scasp_answers.specs.Blocks.States.{Entry}
-use Rattle.scasp_answers.specs.declared.blocks.fault.AnswerFault.{AnswerFault}
-use Rattle.scasp_answers.specs.Files.Texts.{with_names}
-use Rattle.scasp_io.specs.Counts.{Rose}
+use Rattle.scasp_command_inputs.specs.Inputs.{Failed, IsAnswers, IsNoAnswers, IsNoProgram, IsProgram, Outside, RefusesProgram, Says}
+use Rattle.scasp_command_inputs.specs.declared.status.Status.{Status}
+use Rattle.scasp_command_inputs.specs.declared.status.Status.TheVariants.{Usage, Memory}
 use Rattle.scasp_command_words.specs.declared.command.Command.{Command}
 use Rattle.scasp_command_words.specs.declared.command.Command.TheVariants.{Run, Check, Trial}
 use Rattle.scasp_gen.specs.Trial.{trial_text}
@@ -21,76 +19,7 @@ use Rattle.scasp_command_trial.specs.Texts.{trial_line}
 use Rattle.scasp_command_trial.specs.Trials.{IsTrial}
 use Rattle.scasp_command_trial.specs.declared.first.Trial.{Trial as Trying}
 use Rattle.scasp_top.specs.Ends.{IsCheck, run_status, check_status, trial_status}
-use Rattle.scasp_top.specs.Texts.{usage_line, read_line, refusal_line, refusal_status, program_refusal, answers_refusal}
-use Rattle.scasp_top.specs.declared.refusals.Input.TheVariants as input
-use Rattle.scasp_top.specs.declared.status.Status.{Status}
-use Rattle.scasp_top.specs.declared.status.Status.TheVariants.{Usage, Read, Memory}
-
--- ---- the outside
-
--- the bytes of each file, where they are told, and the count of faults of reading it before and after the call
-pub record Outside : Type 0 where
-  pub told : List ℕ → Option (List ℕ)
-  pub before : List ℕ → ℕ
-  pub after : List ℕ → ℕ
-
-abbrev pub outside : (List ℕ → Option (List ℕ)) → (List ℕ → ℕ) → (List ℕ → ℕ) → Outside
-outside told before after = record { told = told; before = before; after = after }
-
--- a read of the file failed
-abbrev pub Failed : Outside → List ℕ → Type 0
-Failed o file = Rose (o.before file) (o.after file)
-
--- these are the bytes of a file, if those are told
-abbrev pub AreBytes : Option (List ℕ) → List ℕ → Type 0
-AreBytes told bytes = IfSome told (λ all. bytes ≡ all)
-
--- ---- files that are read
-
--- the file, of which these bytes are told, spells this program, with this table of names
-pub record IsProgram (told : Option (List ℕ)) (p : Program) (names : List (List ℕ)) : Type 0 where
-  pub bytes : List ℕ
-  pub are : AreBytes told bytes
-  pub read : program_in list_names bytes ≡ Ok (reading_of (p, names))
-
--- what is read of an answer file behind a program with these names
-abbrev pub answers_in : List (List ℕ) → List ℕ → Reading
-answers_in names bytes = file_in (with_names names bytes) bytes
-
--- the file has these entries
-pub record IsAnswers (told : Option (List ℕ)) (names : List (List ℕ)) (entries : List Entry) : Type 0 where
-  pub bytes : List ℕ
-  pub are : AreBytes told bytes
-  pub read : answers_in names bytes ≡ Ok entries
-
--- ---- what is printed
-
--- this line alone is printed, and so the command ends
-pub record Says (line : List ℕ) (ending : Status) (text : List ℕ) (status : Status) : Type 0 where
-  pub line_is : text ≡ line
-  pub ending_is : status ≡ ending
-
--- the bytes spell no program: the first fault is told
-pub record RefusesProgram (bytes text : List ℕ) (status : Status) : Type 0 where
-  pub fault : Fault
-  pub is : program_in list_names bytes ≡ Err fault
-  pub says : Says (refusal_line input.Program fault.at (program_refusal fault.kind)) (refusal_status (program_refusal fault.kind)) text status
-
--- the bytes are no answer file
-pub record RefusesAnswers (names : List (List ℕ)) (bytes text : List ℕ) (status : Status) : Type 0 where
-  pub fault : AnswerFault
-  pub is : answers_in names bytes ≡ Err fault
-  pub says : Says (refusal_line input.Answers fault.at (answers_refusal fault.kind)) (refusal_status (answers_refusal fault.kind)) text status
-
--- the file could not be read, or it spells no program
-pub data IsNoProgram (o : Outside) (file text : List ℕ) (status : Status) : Type 0 where
-  unread : Failed o file → Says (read_line input.Program) Read text status → IsNoProgram o file text status
-  refused : (bytes : List ℕ) → AreBytes (o.told file) bytes → RefusesProgram bytes text status → IsNoProgram o file text status
-
--- the same of an answer file
-pub data IsNoAnswers (o : Outside) (file : List ℕ) (names : List (List ℕ)) (text : List ℕ) (status : Status) : Type 0 where
-  unread_answers : Failed o file → Says (read_line input.Answers) Read text status → IsNoAnswers o file names text status
-  refused_answers : (bytes : List ℕ) → AreBytes (o.told file) bytes → RefusesAnswers names bytes text status → IsNoAnswers o file names text status
+use Rattle.scasp_top.specs.Texts.{usage_line}
 
 -- how many answers are asked for: 0 asks for all
 abbrev pub asked_answers : ℕ → Option ℕ
@@ -153,7 +82,3 @@ HasReadFault None o = ⊥
 HasReadFault (Some (Run file budget answers)) o = Failed o file
 HasReadFault (Some (Check program answers)) o = Failed o program ⊎ Failed o answers
 HasReadFault (Some (Trial n)) o = ⊥
-
--- the same outside, where no read fails
-abbrev pub without_faults : Outside → Outside
-without_faults o = outside o.told (λ _. 0) (λ _. 0)

@@ -3,14 +3,13 @@ ghost use Rattle.std.specs.Prelude.{◌≡◌, Some, map};
 ghost use Rattle.scasp_answers.specs.Files.View.{entry_of};
 ghost use Rattle.scasp_command_words.specs.declared.command.Command.TheVariants as command;
 ghost use Rattle.scasp_top.specs.Ends as spec;
-ghost use Rattle.scasp_top.specs.Outputs.{outside, Checks, Outputs};
-ghost use Rattle.scasp_top.specs.Reports.{Reports};
+ghost use Rattle.scasp_command_inputs.specs.Inputs.{outside};
+ghost use Rattle.scasp_top.specs.Outputs.{Checks, Outputs};
+ghost use Rattle.scasp_command_inputs.specs.Reports.{Reports};
 
-use crate::halt::tell;
-use crate::inputs::{answers_in_file, program_in_file};
-use crate::status::Status;
 use scasp_answers::Entries;
 use scasp_command_check::{Rechecked, recheck};
+use scasp_command_inputs::{Status, answers_in_file, program_in_file, tell};
 use scasp_io::{Files, OutputErr, Sink};
 use scasp_syntax::Program;
 use std::alloc::Global;

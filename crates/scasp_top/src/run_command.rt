@@ -2,12 +2,11 @@
 ghost use Rattle.std.specs.Prelude.{◌≡◌, Some};
 ghost use Rattle.scasp_command_words.specs.declared.command.Command.TheVariants as command;
 ghost use Rattle.scasp_top.specs.Ends as spec;
-ghost use Rattle.scasp_top.specs.Outputs.{asked_answers, outside, Outputs, Runs};
-ghost use Rattle.scasp_top.specs.Reports.{Reports};
+ghost use Rattle.scasp_command_inputs.specs.Inputs.{outside};
+ghost use Rattle.scasp_top.specs.Outputs.{asked_answers, Outputs, Runs};
+ghost use Rattle.scasp_command_inputs.specs.Reports.{Reports};
 
-use crate::halt::tell;
-use crate::inputs::program_in_file;
-use crate::status::Status;
+use scasp_command_inputs::{Status, program_in_file, tell};
 use scasp_command_run::{RunEnd, run};
 use scasp_io::{Files, OutputErr, Sink};
 use scasp_name::Names;

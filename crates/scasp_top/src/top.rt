@@ -4,14 +4,14 @@ ghost use Rattle.scasp_io.specs.Counts.{Rose};
 ghost use Rattle.scasp_io.specs.Lookup.{bytes_or_none};
 ghost use Rattle.scasp_io.specs.Taken.{TakesWhole};
 ghost use Rattle.scasp_command_words.specs.Commands.{command_of};
-ghost use Rattle.scasp_top.specs.Outputs.{outside, without_faults, HasReadFault, Outputs};
-ghost use Rattle.scasp_top.specs.Reports.{Reports};
+ghost use Rattle.scasp_command_inputs.specs.Inputs.{outside, without_faults};
+ghost use Rattle.scasp_top.specs.Outputs.{HasReadFault, Outputs};
+ghost use Rattle.scasp_command_inputs.specs.Reports.{Reports};
 
 use crate::check_command::check_files;
-use crate::halt::print;
 use crate::run_command::run_file;
-use crate::status::Status;
 use crate::trial_command::try_nodes;
+use scasp_command_inputs::{Status, print};
 use scasp_command_words::{Command, WordErr, parse_words};
 use scasp_io::{Files, Sink, SureFiles, SureSink};
 use std::alloc::Global;

@@ -2,13 +2,12 @@
 ghost use Rattle.std.specs.Prelude.{◌≡◌, Some, IfOk};
 ghost use Rattle.scasp_command_words.specs.declared.command.Command.TheVariants as command;
 ghost use Rattle.scasp_top.specs.Ends as spec;
-ghost use Rattle.scasp_top.specs.Inside.Halts.{IfLine};
-ghost use Rattle.scasp_top.specs.Outputs.{Outputs, Outside, Tries, TriesNodes};
-ghost use Rattle.scasp_top.specs.Reports.{Reports};
+ghost use Rattle.scasp_command_inputs.specs.Halts.{IfLine};
+ghost use Rattle.scasp_command_inputs.specs.Inputs.{Outside};
+ghost use Rattle.scasp_top.specs.Outputs.{Outputs, Tries, TriesNodes};
+ghost use Rattle.scasp_command_inputs.specs.Reports.{Reports};
 
-use crate::halt::{Halt, tell};
-use crate::inputs::read_text;
-use crate::status::Status;
+use scasp_command_inputs::{Halt, Status, read_text, tell};
 use scasp_command_trial::{Trial, trial_line, try_first};
 use scasp_gen::trial_program;
 use scasp_io::Sink;

@@ -2,7 +2,7 @@ use Rattle.std.proofs.Common.{◌≤◌, ℕ, List}
 use Rattle.scasp_command_run.specs.Inside.Continuing.{Going}
 use Rattle.scasp_command_run.specs.Inside.Events.{IsGoing}
 use Rattle.scasp_command_run.specs.Inside.Progresses.{standing}
-use Rattle.scasp_command_run.specs.Inside.Tables.{IsTable}
+use Rattle.scasp_print_samples.specs.Tables.{IsTable}
 use Rattle.scasp_search.specs.Rests.{rest_of, stopped}
 use Rattle.scasp_command_run.proofs.queries.run_query.Given as goal
 

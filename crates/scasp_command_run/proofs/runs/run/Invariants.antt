@@ -1,5 +1,5 @@
 use Rattle.std.proofs.Common.{◌≤◌, ◌+◌, drop}
-use Rattle.scasp_command_run.specs.Inside.Tables.{IsTable}
+use Rattle.scasp_print_samples.specs.Tables.{IsTable}
 use Rattle.scasp_command_run.specs.Inside.Whole.{IsBefore}
 use Rattle.scasp_command_run.specs.Jobs.{job}
 use Rattle.scasp_command_run.proofs.runs.run.Given as goal

@@ -1,6 +1,6 @@
 use Rattle.std.proofs.Common.{None, Some, refl}
 use Rattle.scasp_top.proofs.EndLemmas.{takes-part, takes-run}
-use Rattle.scasp_top.specs.declared.status.Status.TheVariants.{Memory}
+use Rattle.scasp_command_inputs.specs.declared.status.Status.TheVariants.{Memory}
 use Rattle.scasp_top.proofs.run_command.run_program.Goals as goal
 
 pub returns-in-Ok : goal.returns-in-Ok

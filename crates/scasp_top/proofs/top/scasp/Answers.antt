@@ -1,7 +1,7 @@
 use Rattle.std.proofs.Common.{◌≡◌, ◌∙◌, ap, sym, List, Some, map, string_bytes, Global, ℕ}
 use Rattle.scasp_command_words.specs.Commands.{command_of}
 use Rattle.scasp_command_words.specs.declared.command.Command.TheVariants.{Run, Check, Trial}
-use Rattle.scasp_top.specs.Outputs.{outside}
+use Rattle.scasp_command_inputs.specs.Inputs.{outside}
 use Rattle.scasp_top.proofs.CauseLemmas.{command-completes, command-reports, completes, read-cause, write-cause}
 use Rattle.scasp_top.proofs.top.scasp.Goals as goal
 

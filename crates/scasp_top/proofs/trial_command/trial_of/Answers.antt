@@ -1,5 +1,5 @@
 use Rattle.std.proofs.Common.{◌∙◌}
-use Rattle.scasp_top.proofs.InputLemmas.{line-tried}
+use Rattle.scasp_top.proofs.TrialLemmas.{line-tried}
 use Rattle.scasp_top.proofs.trial_command.trial_of.Goals as goal
 
 pub returns-in-Ok : goal.returns-in-Ok

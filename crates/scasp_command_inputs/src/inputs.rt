@@ -1,0 +1,95 @@
+//! The files of a command.
+ghost use Rattle.std.specs.Prelude.{◌≡◌, ◌≤◌, ℕ, List, Ok, IfOk, IfErr, map};
+ghost use Rattle.scasp_name.specs.Texts.{list_names};
+ghost use Rattle.scasp_reader.specs.Programs.Programs.{program_in, reading_of};
+ghost use Rattle.scasp_answers.specs.Files.View.{entry_of};
+ghost use Rattle.scasp_command_inputs.specs.Halts.{IfLine};
+ghost use Rattle.scasp_command_inputs.specs.Inputs.{answers_in, outside, IsAnswers, IsNoAnswers, IsNoProgram, IsProgram, RefusesAnswers, RefusesProgram};
+
+use crate::halt::{Halt, line};
+use crate::refusals::{answers_refusal, program_refusal};
+use crate::status::Status;
+use scasp_answers::{
+    AnswerErr, AnswerFault, AnswerKind, BYTE_LIMIT as ANSWER_LIMIT, Entries, read_answers,
+};
+use scasp_io::{Files, ReadErr, read_file};
+use scasp_list::Memory;
+use scasp_name::Names;
+use scasp_reader::{BYTE_LIMIT, read_program};
+use scasp_reader_terms::{Count, Fault, Kind, Stop};
+use scasp_syntax::{Nested, Program};
+use std::alloc::Global;
+
+/// The program that the bytes spell, and its table of names; or the line of the first fault.
+pub fn read_text(alloc: Global, bytes: &[u8]) -> Result<(Program, Names), Halt>
+    ensures ok { IfOk result (λ x. program_in list_names bytes.now ≡ Ok (reading_of x)) }
+    ensures err { IfErr result (λ halt. IfLine halt (RefusesProgram bytes.now)) }
+{
+    let Ok(table) = Names::new(alloc) else {
+        return Err(Halt::Memory);
+    };
+    match read_program(alloc, bytes, table) {
+        Ok((program, names)) => match program.serves_walks(alloc) {
+            Ok(()) => Ok((program, names)),
+            Err(Memory) => Err(Halt::Memory),
+        },
+        Err(Stop::At(fault)) => Err(program_refusal(alloc, fault)),
+        Err(Stop::Memory) => Err(Halt::Memory),
+    }
+}
+
+/// The program in a file, and its table of names; or the line that tells why there is none.
+pub fn program_in_file<F: Files>(
+    alloc: Global,
+    file: &str,
+    files: &mut F,
+) -> Result<(Program, Names), Halt>
+    ensures ok { IfOk result (λ x. IsProgram (F.told files.old file.now) x.0 x.1) }
+    ensures err { IfErr result (λ halt. IfLine halt (IsNoProgram (outside (F.told files.old) (F.faults files.old) (F.faults files.new)) file.now)) }
+    ensures stays { (other : List ℕ) → F.told files.new other ≡ F.told files.old other }
+    ensures counts { (other : List ℕ) → F.faults files.old other ≤ F.faults files.new other }
+{
+    match read_file(alloc, files, file, BYTE_LIMIT as u64) {
+        Ok(bytes) => read_text(alloc, bytes.as_slice()),
+        Err(ReadErr::Fault) => Err(line(alloc, b"read program\n", Status::Read)),
+        Err(ReadErr::TooLong) => {
+            let (at, kind) = (BYTE_LIMIT as u64, Kind::Limit(Count::Bytes));
+            Err(program_refusal(alloc, Fault { at, kind }))
+        }
+        Err(ReadErr::Memory) => Err(Halt::Memory),
+    }
+}
+
+/// What the bytes have behind a header, with the names of the program before them; or the line of the first fault.
+fn read_blocks(alloc: Global, bytes: &[u8], mut names: Names) -> Result<Entries, Halt>
+    ensures ok { IfOk result (λ entries. answers_in names bytes.now ≡ Ok (map entry_of entries)) }
+    ensures err { IfErr result (λ halt. IfLine halt (RefusesAnswers names bytes.now)) }
+{
+    match read_answers(alloc, bytes, &mut names) {
+        Ok(entries) => Ok(entries),
+        Err(AnswerErr::At(fault)) => Err(answers_refusal(alloc, fault)),
+        Err(AnswerErr::Memory) => Err(Halt::Memory),
+    }
+}
+
+/// The entries of an answer file, with the names of the program before them; or the line that tells why there are none.
+pub fn answers_in_file<F: Files>(
+    alloc: Global,
+    file: &str,
+    names: Names,
+    files: &mut F,
+) -> Result<Entries, Halt>
+    ensures ok { IfOk result (λ entries. IsAnswers (F.told files.old file.now) names (map entry_of entries)) }
+    ensures err { IfErr result (λ halt. IfLine halt (IsNoAnswers (outside (F.told files.old) (F.faults files.old) (F.faults files.new)) file.now names)) }
+    ensures counts { (other : List ℕ) → F.faults files.old other ≤ F.faults files.new other }
+{
+    match read_file(alloc, files, file, ANSWER_LIMIT as u64) {
+        Ok(bytes) => read_blocks(alloc, bytes.as_slice(), names),
+        Err(ReadErr::Fault) => Err(line(alloc, b"read answers\n", Status::Read)),
+        Err(ReadErr::TooLong) => {
+            let (at, kind) = (ANSWER_LIMIT as u64, AnswerKind::Limit);
+            Err(answers_refusal(alloc, AnswerFault { at, kind }))
+        }
+        Err(ReadErr::Memory) => Err(Halt::Memory),
+    }
+}

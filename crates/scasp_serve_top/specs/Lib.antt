@@ -1,0 +1,5 @@
+pub mod Statuses
+pub mod Inputs
+pub mod Served
+pub mod Outputs
+pub mod Inside
