@@ -1,5 +1,5 @@
 -- One look at the first of the states.
-use Rattle.std.specs.Prelude.{◌≡◌, ◌≢◌, ◌⊎◌, ◌++◌, Bool, true, false, List, [], ◌∷◌, MatchOption, Option, None, Some, Ok, Err, refl}
+use Rattle.std.specs.Prelude.{◌≡◌, ◌⊎◌, ◌++◌, true, false, List, [], ◌∷◌, MatchOption, Option, None, Some, Ok, Err, refl}
 use Rattle.std.specs.List.{list_any}
 use Rattle.std.proofs.Common.{◌∙◌, ap, inl, inr}
 use Rattle.scasp_cert.specs.Certificate.{certificate_of}
@@ -9,16 +9,14 @@ use Rattle.scasp_hint.specs.Satisfying.{sat}
 use Rattle.scasp_search_constraints.specs.declared.assuming.step.SearchErr.{SearchErr}
 use Rattle.scasp_search_constraints.specs.declared.assuming.step.SearchErr.TheVariants as errors
 use Rattle.scasp_search_ends.specs.Ends.Ends.{Ends}
-use Rattle.scasp_search_rules.specs.Successors.Replacing.{close_overflows}
-use Rattle.scasp_search_rules.specs.Successors.Search.{answer_at, asked_by, pays, pays_for, step_at}
+use Rattle.scasp_search_rules.specs.Successors.Search.{answer_at, asked_by, pays_for, step_at}
 use Rattle.scasp_search_rules.specs.declared.states.state.State.{State}
 use Rattle.scasp_search_rules.specs.declared.states.tasks.Task.{Task}
-use Rattle.scasp_search_state.specs.Choices.{Point, states, waiting}
 use Rattle.scasp_search_state.specs.Words.{has_work}
 use Rattle.scasp_search_walk.specs.Slices.{Sees}
 use Rattle.scasp_search_walk.specs.declared.frontier.Look.{Look}
 use Rattle.scasp_search_walk.specs.declared.frontier.Look.TheVariants as look
-use Rattle.scasp_written.proofs.WrittenLemmas.WalkLemmas.{closing, left-answers, of, working}
+use Rattle.scasp_written.proofs.WrittenLemmas.WalkLemmas.{left-answers, of}
 use Rattle.scasp_written.specs.Written.Rests.{problem_in}
 use Rattle.scasp_written.specs.declared.written.goal.Goal.{Goal}
 
