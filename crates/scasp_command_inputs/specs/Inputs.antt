@@ -83,4 +83,3 @@ pub data IsNoProgram (o : Outside) (file text : List ℕ) (status : Status) : Ty
 pub data IsNoAnswers (o : Outside) (file : List ℕ) (names : List (List ℕ)) (text : List ℕ) (status : Status) : Type 0 where
   unread_answers : Failed o file → Says (read_line input.Answers) Read text status → IsNoAnswers o file names text status
   refused_answers : (bytes : List ℕ) → AreBytes (o.told file) bytes → RefusesAnswers names bytes text status → IsNoAnswers o file names text status
-

@@ -16,10 +16,10 @@ ghost use Rattle.scasp_syntax.specs.declared.program.Program.{Program as ThisPro
 use crate::ends::QueryEnd;
 use crate::events::{Next, next_event};
 use crate::printing::{write_answer, write_end};
-use scasp_print_samples::{Table, name_sample};
 use scasp_cert::Cert;
 use scasp_io::{OutputErr, Sink};
 use scasp_list::Memory;
+use scasp_print_samples::{Table, name_sample};
 use scasp_search::Search;
 use scasp_syntax::Program;
 use std::alloc::Global;

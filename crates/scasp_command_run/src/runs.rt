@@ -8,9 +8,9 @@ ghost use Rattle.scasp_command_run.specs.Runs.{IsRun};
 
 use crate::ends::{QueryEnd, RunEnd};
 use crate::queries::run_query;
-use scasp_print_samples::table_of;
 use scasp_io::{OutputErr, Sink, write_all};
 use scasp_name::Names;
+use scasp_print_samples::table_of;
 use scasp_syntax::Program;
 use std::alloc::Global;
 

@@ -65,9 +65,9 @@ module _ (p : Program) (old : Table) (id calls : ℕ) (before after : Search) (t
   found-later tree (Some coming) new advanced finishes g =
       let same : g.before ≡ after = cc (g.there, now) in
       let goes : GoesOn p after (left_in id calls old between) coming g.after =
-        subst (λ (s : Search). GoesOn p s (left_in id calls old between) coming g.after) same g.goes in
+      subst (λ (s : Search). GoesOn p s (left_in id calls old between) coming g.after) same g.goes in
       let goes_left : GoesOn p after (calls - ((rest_of after).calls - (rest_of before).calls)) coming g.after =
-        subst (λ n. GoesOn p after n coming g.after) left-is goes in
+      subst (λ n. GoesOn p after n coming g.after) left-is goes in
       record {
         before = before;
         after = g.after;
@@ -82,5 +82,5 @@ pub found-behind : (p : Program) (old mid : Table) (id calls left : ℕ) (given 
 found-behind p old mid id calls left given found new r (is_passed tree finishes) is h =
     let at_left : Found p mid id (left_in id calls old mid) found new = subst (λ n. Found p mid id n found new) is h in
     let at_mid : Found p (record old { opened = with_search id r.1 old.opened }) id (left_in id calls old (record old { opened = with_search id r.1 old.opened })) found new =
-      subst (λ (t : Table). Found p t id (left_in id calls old t) found new) r.4 at_left in
+    subst (λ (t : Table). Found p t id (left_in id calls old t) found new) r.4 at_left in
     found-later p old id calls r.0 r.1 r.2 tree found new r.3 finishes at_mid

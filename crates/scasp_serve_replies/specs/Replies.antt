@@ -51,7 +51,7 @@ pub data Replies (p : Program) (names : List (List ℕ)) (old : Standing) : Comm
   answers : (id calls : ℕ) (t : Table) (cert : Cert) (table : List (List ℕ)) → (tally_of id old.tallies).overflowed ≡ false
       → SessionGoesOn p old.table id calls (coming.Answer cert) t → NamesSample names table (certificate_of cert)
       → Replies p names old (Next id calls) (answer id ((tally_of id old.tallies).answers + 1) table (certificate_of cert))
-        (record { table = t; tallies = with_tally id (record (tally_of id old.tallies) { answers = (tally_of id old.tallies).answers + 1 }) old.tallies })
+      (record { table = t; tallies = with_tally id (record (tally_of id old.tallies) { answers = (tally_of id old.tallies).answers + 1 }) old.tallies })
   goes_without : (id calls : ℕ) (t : Table) (none : NoAnswer) → (tally_of id old.tallies).overflowed ≡ false
       → SessionGoesOn p old.table id calls (coming.Without none) t
       → Replies p names old (Next id calls) (without id none) (record { table = t; tallies = with_tally id (behind none (tally_of id old.tallies)) old.tallies })

@@ -66,7 +66,10 @@ fn reply_to_open(
     if desk.tallies.len() >= MOST_SESSIONS {
         return Err(Memory);
     }
-    match desk.sessions.open(program, query, budget, desk.table.program) {
+    match desk
+        .sessions
+        .open(program, query, budget, desk.table.program)
+    {
         Ok(id) => {
             desk.tallies.push(NOTHING)?;
             number_line(alloc, "opened", id)
@@ -124,12 +127,7 @@ fn behind(tally: Tally, none: NoAnswer) -> Tally
 }
 
 /// The reply to `next` where the session came to no answer.
-fn reply_without(
-    alloc: Global,
-    desk: &mut Desk,
-    id: u64,
-    none: NoAnswer,
-) -> Result<Vec<u8>, Memory>
+fn reply_without(alloc: Global, desk: &mut Desk, id: u64, none: NoAnswer) -> Result<Vec<u8>, Memory>
     ensures text { IfOk result (λ text. text.items ≡ session_line id (word_of none)) }
     ensures desk { desk.new ≡ record desk.old { tallies = desk.new.tallies } }
     ensures tallies { desk.new.tallies.items ≡ with_tally id (behind none (tally_at id desk.old.tallies.items)) desk.old.tallies.items }

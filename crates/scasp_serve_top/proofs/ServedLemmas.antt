@@ -57,12 +57,15 @@ module _ (p : Program) (names : List (List ℕ)) (commands : List Command) where
     pub served-part : (new : Option (List ℕ)) → TakesPrefix mid new text → Writes (IsServed p names commands) old new (Err Write)
     served-part new prefix = record {
       text = replies_text g.told ++ text;
-      may = (None, record {
-        told = g.told ++ r ∷ [];
-        replies = subst (λ (rs : List Reply). RepliesAll p names at_start commands rs) (append-nil (g.told ++ r ∷ [])) (replies-more [] tt);
-        text_is = text-all;
-        whole = tt;
-      });
+      may = (
+        None,
+        record {
+          told = g.told ++ r ∷ [];
+          replies = subst (λ (rs : List Reply). RepliesAll p names at_start commands rs) (append-nil (g.told ++ r ∷ [])) (replies-more [] tt);
+          text_is = text-all;
+          whole = tt;
+        },
+      );
       part = TakesPrefix-append old mid new (replies_text g.told) text g.taken prefix;
     }
 

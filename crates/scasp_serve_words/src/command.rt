@@ -14,19 +14,11 @@ const MOST_BUDGET: u64 = 1_000_000_000;
 #[derive(Clone, Copy, Debug, PartialEq, Eq)]
 pub enum Command {
     /// A session for the query of this number, within so many calls.
-    Open {
-        query: u64,
-        budget: u64,
-    },
+    Open { query: u64, budget: u64 },
     /// What comes within so many further calls of the session of this number.
-    Next {
-        id: u64,
-        calls: u64,
-    },
+    Next { id: u64, calls: u64 },
     /// The end of the session of this number.
-    Close {
-        id: u64,
-    },
+    Close { id: u64 },
 }
 
 /// The command with these numbers behind `open`.

@@ -8,9 +8,7 @@ use std::alloc::AllocFailed;
 #[derive(Clone, Copy, Debug, PartialEq, Eq)]
 pub enum CommandsErr {
     /// The line that begins at this byte is no command, or lacks its end.
-    Line {
-        at: u64,
-    },
+    Line { at: u64 },
     /// Want of memory.
     Memory,
 }

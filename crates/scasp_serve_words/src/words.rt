@@ -25,7 +25,11 @@ pub(crate) fn behind_word(text: &[u8]) -> &[u8]
     ensures { result.now ≡ spec.behind_word text.now }
 {
     let at = place_of(b' ', text);
-    if at < text.len() { &text[at + 1..] } else { &[] }
+    if at < text.len() {
+        &text[at + 1..]
+    } else {
+        &[]
+    }
 }
 
 /// The number that the word spells, where it is from `least` to `most`.

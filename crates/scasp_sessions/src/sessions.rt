@@ -22,9 +22,13 @@ pub struct Sessions {
 }
 
 impl Model for Sessions {
+    ghost use Rattle.std.specs.Coded.{codes};
     ghost use Rattle.scasp_sessions.specs.Tables.{Table};
+    ghost use Rattle.scasp_syntax.specs.TmCode.{coded_tms};
 
     ghost Value = { Table };
+
+    ghost coded = { Prim.hlevel (codes, coded_tms) };
 
     ghost view = { λ s. record { opened = s.opened.items; next = s.next } };
 }

@@ -29,7 +29,7 @@ loop-rest-preserved c =
     let within : len < length rest = grind (arith, common_steps, c.if-len-rest.false, c.place_of-len.ensures) in
     let some : command_in (take len rest) ≡ Some c.in-Some.command = grind (arith, common_steps, c.in-Some.ensures, c.in-Some.is) in
     let h : ahead commands (read_on c.loop-rest.at rest) ≡ ahead (commands ++ c.in-Some.command ∷ []) (read_on (c.loop-rest.at + (len + 1)) (drop (len + 1) rest)) =
-      reads-on commands c.in-Some.command c.loop-rest.at len rest c.place_of-len.ensures within some in
+    reads-on commands c.in-Some.command c.loop-rest.at len rest c.place_of-len.ensures within some in
     record {
       same = grind (arith, common_steps, h, c.loop-rest.invariant.same, c.in_ok-push.ensures.items);
       within = grind (arith, common_steps, within, c.loop-rest.invariant.within);

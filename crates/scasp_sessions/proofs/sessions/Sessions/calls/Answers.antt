@@ -18,7 +18,7 @@ returns-in-Some c =
     let place = c.in-Some.place in
     let session : Session = c.index-session.result.now in
     let there = placed c.args.id place c.deref.result.now opened c.place_of.result (c.deref.ensures.value ∙ is) c.place_of.ensures c.in-Some.is in
-    let here = c.index-session.ensures.value ∙ ap (λ l. get_or l place session) is in
+    let here = c.index-session.ensures ∙ ap (λ l. get_or l place session) is in
     let count = λ (s : Search). (rest_of s).calls in
     ap Some c.calls.ensures ∙ ap (λ (s : Session). Some (count s.search)) here ∙ sym (ap (option_map count) (there.searches session))
 
