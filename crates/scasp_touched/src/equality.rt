@@ -79,11 +79,7 @@ fn same_items(alloc: Global, first: &Items, second: &Items) -> Result<bool, Memo
 }
 
 /// Whether two heads are equal, or both are missing.
-fn same_head(
-    alloc: Global,
-    first: &Option<Atom>,
-    second: &Option<Atom>,
-) -> Result<bool, Memory>
+fn same_head(alloc: Global, first: &Option<Atom>, second: &Option<Atom>) -> Result<bool, Memory>
     ensures { IfOk result (λ answer. answer ≡ option_eq is_same_atom first.now second.now) }
 {
     match (first, second) {
