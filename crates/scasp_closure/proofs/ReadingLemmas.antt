@@ -48,13 +48,13 @@ StandFor-extended t u [] [] e s = s
 StandFor-extended t u [] (r ∷ rs) e s = s
 StandFor-extended t u (n ∷ ns) [] e s = s
 StandFor-extended t u (n ∷ ns) (r ∷ rs) e s =
-    (e n.head r.head s.0, Stand-extended t u n.body r.body e s.1.0, StandFor-extended t u ns rs e s.1.1)
+    (e n.head r.head s.0, Stand-extended t u n.body r.body e s.1, StandFor-extended t u ns rs e s.2)
 
 pub StandFor-pushed : (t : List Atom) (ns : List NumberedRule) (rs : List DefiniteRule) (n : NumberedRule) (r : DefiniteRule) → StandFor t ns rs → slice_get t n.head ≡ Some r.head → Stand t n.body r.body → StandFor t (ns ++ n ∷ []) (rs ++ r ∷ [])
 StandFor-pushed t [] [] n r s h b = (h, b, tt)
 StandFor-pushed t [] (q ∷ rs) n r s h b = absurd s
 StandFor-pushed t (m ∷ ns) [] n r s h b = absurd s
-StandFor-pushed t (m ∷ ns) (q ∷ rs) n r s h b = (s.0, s.1.0, StandFor-pushed t ns rs n r s.1.1 h b)
+StandFor-pushed t (m ∷ ns) (q ∷ rs) n r s h b = (s.0, s.1, StandFor-pushed t ns rs n r s.2 h b)
 
 -- ---- atoms by number
 
@@ -138,8 +138,8 @@ closed-read table set (n ∷ ns) (r ∷ rs) d s c =
     let p = and_parts (keeps set n.head n.body) (is_closed_under ns set) c in
     and_from (if has_all m r.body then among m r.head else true) (is_closed rs m)
     (if-true (has_all m r.body) (among m r.head)
-     (λ h. from-set set table r.head n.head s.0 (then-true (list_all set n.body) (set n.head) p.0 (body-in table set n.body r.body d s.1.0 h))))
-    (closed-read table set ns rs d s.1.1 p.1)
+     (λ h. from-set set table r.head n.head s.0 (then-true (list_all set n.body) (set n.head) p.0 (body-in table set n.body r.body d s.1 h))))
+    (closed-read table set ns rs d s.2 p.1)
 
 -- whether the atom of a number is in a model
 abbrev test_at : List Atom → List Atom → ℕ → Bool
@@ -163,7 +163,7 @@ closed-tested model table [] [] s = refl
 closed-tested model table [] (r ∷ rs) s = absurd s
 closed-tested model table (n ∷ ns) [] s = absurd s
 closed-tested model table (n ∷ ns) (r ∷ rs) s =
-    λ j. (if body-tested model table n.body r.body s.1.0 j then test-is model table n.head r.head s.0 j else true) && closed-tested model table ns rs s.1.1 j
+    λ j. (if body-tested model table n.body r.body s.1 j then test-is model table n.head r.head s.0 j else true) && closed-tested model table ns rs s.2 j
 
 pub same_truth : (x y : Bool) → (x ≡ true → y ≡ true) → (y ≡ true → x ≡ true) → x ≡ y
 same_truth true y f g = sym (f refl)
