@@ -32,15 +32,15 @@ among-with_atom t a x =
     last true = refl
     last false = refl
 
-among-with_atoms : (t as : List Atom) (x : Atom) → among (with_atoms t as) x ≡ (among t x || among as x)
+among-with_atoms : (t bs : List Atom) (x : Atom) → among (with_atoms t bs) x ≡ (among t x || among bs x)
 among-with_atoms t [] x = sym (last (among t x))
   where
     last : (b : Bool) → (b || false) ≡ b
     last true = refl
     last false = refl
-among-with_atoms t (a ∷ as) x =
-    among-with_atoms (with_atom t a) as x ∙ ap (λ b. b || among as x) (among-with_atom t a x)
-    ∙ assoc (among t x) (same_atom x a) (among as x)
+among-with_atoms t (a ∷ bs) x =
+    among-with_atoms (with_atom t a) bs x ∙ ap (λ b. b || among bs x) (among-with_atom t a x)
+    ∙ assoc (among t x) (same_atom x a) (among bs x)
   where
     assoc : (a b c : Bool) → ((a || b) || c) ≡ (a || (b || c))
     assoc true b c = refl

@@ -1,5 +1,5 @@
 -- Rules over numbers, read by a list that gives each number its atom.
-use Rattle.std.specs.Prelude.{◌≡◌, ℕ, suc, Bool, if◌then◌else◌, List, [], ◌∷◌, slice_get, Some}
+use Rattle.std.specs.Prelude.{◌≡◌, ℕ, suc, ◌+◌, ◌++◌, Bool, if◌then◌else◌, List, [], ◌∷◌, slice_get, Some}
 use Rattle.scasp_model.specs.declared.program.DefiniteRule.{DefiniteRule}
 use Rattle.scasp_syntax.specs.declared.atom.Atom.{Atom}
 use Rattle.scasp_tables.specs.Tables.{with_atom}
@@ -27,6 +27,11 @@ Extends old new = (n : ℕ) (a : Atom) → slice_get old n ≡ Some a → slice_
 abbrev pub atoms_in : (ℕ → Bool) → List Atom → List Atom
 atoms_in set [] = []
 atoms_in set (a ∷ atoms) = if set 0 then a ∷ atoms_in (λ n. set (suc n)) atoms else atoms_in (λ n. set (suc n)) atoms
+
+-- the same, one atom after the other: those made so far, and behind them the atoms whose numbers from n on are in the set
+abbrev pub atoms_onto : (ℕ → Bool) → ℕ → List Atom → List Atom → List Atom
+atoms_onto set n made [] = made
+atoms_onto set n made (a ∷ atoms) = atoms_onto set (n + 1) (if set n then made ++ a ∷ [] else made) atoms
 
 -- the list, and behind it each of the atoms that is new, in order
 abbrev pub with_atoms : List Atom → List Atom → List Atom

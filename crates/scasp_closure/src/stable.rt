@@ -1,10 +1,10 @@
 //! Stable models, in time linear in the program.
-ghost use Rattle.std.specs.Prelude.{◌≡◌, ◌↔◌, [], IfOk, IsTrue};
+ghost use Rattle.std.specs.Prelude.{◌≡◌, ◌↔◌, ◌&&◌, not, [], IfOk, IsTrue};
 ghost use Rattle.scasp_closure.specs.Reading.{with_atoms};
 ghost use Rattle.scasp_model.specs.Atoms.{has_all};
 ghost use Rattle.scasp_model.specs.Stable.{Stable, is_true_in, are_true_in, is_violated, has_violation};
 
-use crate::closure::closure;
+use crate::closing::closure;
 use crate::reduct::reduct;
 use scasp_list::Memory;
 use scasp_model::{AtomList, GroundClause, GroundProgram};
@@ -88,5 +88,12 @@ pub fn is_stable(alloc: Global, g: &GroundProgram, m: &AtomList) -> Result<bool,
     let is_closed = has_all(alloc, &table, &model)?;
     let is_founded = has_all(alloc, &reached, m)?;
     let is_violated = has_violation(alloc, &table, g)?;
-    Ok(is_closed && is_founded && !is_violated)
+    Ok(all_hold(is_closed, is_founded, is_violated))
+}
+
+/// Whether the first two hold and the third does not.
+fn all_hold(is_closed: bool, is_founded: bool, is_violated: bool) -> bool
+    ensures { result ≡ (is_closed && is_founded && not is_violated) }
+{
+    is_closed && is_founded && !is_violated
 }

@@ -1,10 +1,12 @@
 -- The ways of giving variables members, by number.
-use Rattle.std.proofs.Common.{◌≡◌, ◌∷◌, ◌++◌, ◌∙◌, ℕ, zero, suc, ◌+◌, ◌-◌, ◌*◌, ◌/◌, ◌%◌, ◌^◌, ◌<◌, ◌≤◌, List, [], length, map, slice_get, Some, ◌⊎◌, inl, inr, refl, sym, ap, subst, arith, length-append, add-one}
+use Rattle.std.proofs.Common.{◌≡◌, ◌∷◌, ◌++◌, ◌∙◌, ℕ, zero, suc, ◌+◌, ◌-◌, ◌*◌, ◌/◌, ◌%◌, ◌^◌, ◌<◌, ◌≤◌, ¬◌, nat_lt, List, [], length, map, slice_get, Some, ◌⊎◌, inl, inr, refl, sym, ap, subst, arith, length-append, add-one}
 use Rattle.std.specs.Prelude.{slice_index_or}
 use Rattle.std.specs.List.{flat_map}
 use Rattle.std.specs.Option.{option_map}
 use Rattle.std.proofs.lemmas.List.{length-map}
-use Rattle.std.proofs.Math.Nat.{div-eq_of_lt, mod-eq_of_lt, mod-lt, add-div_left, add-mod_left, mul-zero, zero-mul, suc-mul, pow-succ'}
+use Rattle.std.proofs.Math.Nat.{div-eq_of_lt, mod-eq_of_lt, mod-lt, add-div_left, add-mod_left, mul-zero, zero-mul, suc-mul, pow-succ', pow-zero}
+use Rattle.std.proofs.lemmas.Bool.{true≢false, cases_Bool}
+use Rattle.std.proofs.lemmas.Bool.Decides.{Decides-ltb}
 use Rattle.std.proofs.lemmas.Option.{slice_get-map}
 use Rattle.scasp_model.specs.Grounding.{choices}
 use Rattle.scasp_syntax.specs.Tm.{Tm, var}
@@ -48,21 +50,26 @@ module _ {A B : Type 0} (f : A → List B) (size : ℕ) (each : (t : A) → leng
   ]
     where
       le_or_gt : (i : ℕ) → (i < size) ⊎ (size ≤ i)
-      le_or_gt i = omega arith
+      le_or_gt i = elim (cases_Bool (nat_lt i size)) [
+        | inl t ↦ inl ((Decides-ltb i size).0 t)
+        | inr f ↦
+            (let no : ¬ (i < size) = λ h. true≢false (sym ((Decides-ltb i size).1 h) ∙ f) in
+            inr (omega (arith, no)))
+      ]
 
 above-zero : (a b i : ℕ) → i < a * b → 0 < b
 above-zero a zero i h = absurd (omega (arith, h, mul-zero a))
 above-zero a (suc b) i h = omega arith
 
 pub choices-length : (d : List Tm) (n : ℕ) → length (choices d n) ≡ length d ^ n
-choices-length d zero = refl
+choices-length d zero = sym (pow-zero (length d))
 choices-length d (suc n) =
     blocks-length (λ t. map (λ ts. t ∷ ts) (choices d n)) (length d ^ n) (λ t. length-map (choices d n) (λ ts. t ∷ ts) ∙ choices-length d n) d
     ∙ sym (pow-succ' (length d) n)
 
 pub chosen-at : (d : List Tm) (n i : ℕ) → i < length d ^ n → slice_get (choices d n) i ≡ Some (chosen d n i)
 chosen-at d zero zero h = refl
-chosen-at d zero (suc i) h = absurd (omega (arith, h))
+chosen-at d zero (suc i) h = absurd (omega (arith, h, pow-zero (length d)))
 chosen-at d (suc n) i h =
     let size : ℕ = length d ^ n in
     let below : i < length d * size = subst (λ z. i < z) (pow-succ' (length d) n) h in

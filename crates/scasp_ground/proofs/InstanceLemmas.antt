@@ -21,14 +21,14 @@ is_past c ts = not (is_some (all_tested (giving ts) (body_tests c)))
 
 kept-append : (c : Clause) (xs ys : List (List Tm)) → kept_of c (xs ++ ys) ≡ kept_of c xs ++ kept_of c ys
 kept-append c [] ys = refl
-kept-append c (x ∷ xs) ys = by (list_all (is_test_true (giving x)) c.body) refl
+kept-append c (x ∷ xs) ys = by (list_all (is_test_true (giving x)) c.body) refl (kept-append c xs ys)
   where
-    by : (b : Bool) → list_all (is_test_true (giving x)) c.body ≡ b → kept_of c ((x ∷ xs) ++ ys) ≡ kept_of c (x ∷ xs) ++ kept_of c ys
-    by true e = rw e (ap (λ z. instance_of c (giving x) ∷ z) (kept-append c xs ys))
-    by false e = rw e (kept-append c xs ys)
+    by : (b : Bool) → list_all (is_test_true (giving x)) c.body ≡ b → kept_of c (xs ++ ys) ≡ kept_of c xs ++ kept_of c ys → kept_of c ((x ∷ xs) ++ ys) ≡ kept_of c (x ∷ xs) ++ kept_of c ys
+    by true e f = rw e (ap (λ z. instance_of c (giving x) ∷ z) f)
+    by false e f = rw e f
 
 take-get : {A : Type 0} (xs : List A) (i : ℕ) (x : A) → slice_get xs i ≡ Some x → take (i + 1) xs ≡ take i xs ++ x ∷ []
-take-get xs i x e = ap (λ n. take n xs) (add-one i) ∙ go xs i e
+take-get {A = A} xs i x e = ap (λ n. take n xs) (add-one i) ∙ go xs i e
   where
     go : (ys : List A) (j : ℕ) → slice_get ys j ≡ Some x → take (suc j) ys ≡ take j ys ++ x ∷ []
     go [] j e = cc

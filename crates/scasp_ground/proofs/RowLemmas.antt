@@ -62,9 +62,9 @@ pub row-tested : (v : Sub) (r : Linear) (sum : Number) → Some sum ≡ bounded_
 row-tested v r sum e =
     let den = denominator-exists (point v) r.coeffs in
     let m : ℕ → ℤ = den.0 in
-    let d : ℤ = den.1.0 in
-    let above : pos 0 <ℤ d = den.1.1.0 in
-    let have = den.1.1.1 in
+    let d : ℤ = den.1 in
+    let above : pos 0 <ℤ d = den.2 in
+    let have = den.3 in
     let b = bind-some (whole r.constant) (summed v r.coeffs) sum e in
     let n : ℤ = r.constant *ℤ d +ℤ weighted m r.coeffs in
     let turned : n ≡ weighted m r.coeffs +ℤ r.constant *ℤ d = omega (arith, ints) in

@@ -45,12 +45,12 @@ rest_tested v cs b = if b then all_tested v cs else Some false
 
 all-hold : (v : Sub) (cs : List Con) (b : Bool) → all_tested v cs ≡ Some b → b ≡ list_all (holds v) cs
 all-hold v [] b e = sym (some_is true b e)
-all-hold v (c ∷ cs) b e = by (tested v c) refl e
+all-hold v (c ∷ cs) b e = by (tested v c) refl e (λ k. all-hold v cs b k)
   where
-    by : (o : Option Bool) → tested v c ≡ o → (o >>= rest_tested v cs) ≡ Some b → b ≡ list_all (holds v) (c ∷ cs)
-    by None h e = cc
-    by (Some true) h e = all-hold v cs b e ∙ ap (λ z. z && list_all (holds v) cs) (tested-holds v c true h)
-    by (Some false) h e = sym (some_is false b e) ∙ ap (λ z. z && list_all (holds v) cs) (tested-holds v c false h)
+    by : (o : Option Bool) → tested v c ≡ o → (o >>= rest_tested v cs) ≡ Some b → (all_tested v cs ≡ Some b → b ≡ list_all (holds v) cs) → b ≡ list_all (holds v) (c ∷ cs)
+    by None h e f = cc
+    by (Some true) h e f = f e ∙ ap (λ z. z && list_all (holds v) cs) (tested-holds v c true h)
+    by (Some false) h e f = sym (some_is false b e) ∙ ap (λ z. z && list_all (holds v) cs) (tested-holds v c false h)
 
 -- ---- flat bodies
 
@@ -101,14 +101,16 @@ flat-tests v seen (item.Linear l ∷ body) n =
         ∙ list_all-append (holds v) (flat_map test_of new) (con.Row l.row ∷ flat_map test_of later)
         ∙ ap (λ b. b && (row && list_all (holds v) (flat_map test_of later)))
           (numbers-hold v (unseen seen l.vars) ∙ unseen-enough (λ x. is_number (v x)) seen l.vars n) in
-    parts ∙ by are refl
+    parts ∙ by are refl (λ k. flat-tests v (seen ++ l.vars) body k)
   where
     by : (b : Bool) → list_all (λ x. is_number (v x)) l.vars ≡ b
+        → (((x : ℕ) → list_any (nat_eq x) (seen ++ l.vars) ≡ true → is_number (v x) ≡ true)
+          → list_all (holds v) (flat_map test_of (flat_after (seen ++ l.vars) body)) ≡ list_all (is_test_true v) body)
         → (b && (row_holds v l.row && list_all (holds v) (flat_map test_of (flat_after (seen ++ l.vars) body))))
           ≡ ((list_all (λ x. is_number (v x)) l.vars && row_holds v l.row) && list_all (is_test_true v) body)
-    by false e = ap (λ z. (z && row_holds v l.row) && list_all (is_test_true v) body) (sym e)
-    by true e =
-        ap (λ z. row_holds v l.row && z) (flat-tests v (seen ++ l.vars) body later)
+    by false e f = ap (λ z. (z && row_holds v l.row) && list_all (is_test_true v) body) (sym e)
+    by true e f =
+        ap (λ z. row_holds v l.row && z) (f later)
         ∙ ap (λ z. (z && row_holds v l.row) && list_all (is_test_true v) body) (sym e)
       where
         later : (x : ℕ) → list_any (nat_eq x) (seen ++ l.vars) ≡ true → is_number (v x) ≡ true

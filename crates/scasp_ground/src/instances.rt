@@ -8,7 +8,7 @@ ghost use Rattle.scasp_syntax.specs.Instances.{head_under};
 ghost use Rattle.scasp_syntax.specs.Tm.{items};
 ghost use Rattle.scasp_syntax.specs.Values.{giving};
 
-use crate::choice::choice;
+use crate::ways::choice;
 use crate::count::power;
 use crate::error::GroundErr;
 use crate::tested::{body_tests, passes};

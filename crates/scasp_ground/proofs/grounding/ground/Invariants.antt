@@ -3,7 +3,7 @@ use Rattle.std.specs.List.{list_any, flat_map}
 use Rattle.scasp_model.specs.Grounding.{instances}
 use Rattle.scasp_syntax.specs.Tm.{items}
 use Rattle.scasp_ground.specs.Bounded.{clause_overflows}
-use Rattle.scasp_ground.proofs.ground.ground.Given as goal
+use Rattle.scasp_ground.proofs.grounding.ground.Given as goal
 
 abbrev pub invariant-loop-clause : goal.invariant-loop-clause
 invariant-loop-clause l = record {

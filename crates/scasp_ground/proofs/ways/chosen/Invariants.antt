@@ -1,7 +1,7 @@
 use Rattle.std.proofs.Common.{◌≡◌, ◌<◌, ◌-◌, ◌^◌, ◌++◌, length}
 use Rattle.scasp_syntax.specs.Tm.{items}
 use Rattle.scasp_ground.specs.Inside.Chosen.{chosen}
-use Rattle.scasp_ground.proofs.choice.chosen.Given as goal
+use Rattle.scasp_ground.proofs.ways.chosen.Given as goal
 
 abbrev pub invariant-loop-variable : goal.invariant-loop-variable
 invariant-loop-variable l = record {

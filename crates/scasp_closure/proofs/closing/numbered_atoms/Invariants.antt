@@ -1,6 +1,6 @@
 use Rattle.std.proofs.Common.{take}
 use Rattle.scasp_closure.specs.Reading.{Stand, Extends}
-use Rattle.scasp_closure.proofs.closure.numbered_atoms.Given as goal
+use Rattle.scasp_closure.proofs.closing.numbered_atoms.Given as goal
 
 abbrev pub invariant-loop-atom : goal.invariant-loop-atom
 invariant-loop-atom l = record {
