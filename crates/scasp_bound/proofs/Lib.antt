@@ -3,3 +3,4 @@ pub mod BoundLemmas
 pub mod OutLemmas
 pub mod PlaceLemmas
 pub mod ReadLemmas
+pub mod WalkLemmas

@@ -1,3 +1,4 @@
 -- What private functions alone speak of.
 pub mod Gaps
 pub mod Places
+pub mod Reading

@@ -1,6 +1,6 @@
 //! Bindings in order, which can be taken out and undone, and found by variable.
 ghost use Rattle.std.specs.Prelude.{◌≡◌, [], ◌∷◌, ◌++◌, option_copied, IfOk, OnOk, OnErr};
-ghost use Rattle.scasp_syntax.specs.Values.{under};
+ghost use Rattle.scasp_syntax.specs.Values.{all_under, under};
 ghost use Rattle.scasp_syntax.specs.View.{tm_of};
 ghost use Rattle.scasp_unify.specs.Solving.{sub_of};
 ghost use Rattle.scasp_trail.specs.Past.{earlier, latest};
@@ -8,9 +8,9 @@ ghost use Rattle.scasp_bound.specs.Bounds.{among, bound_in, unbound, without};
 ghost use Rattle.scasp_bound.specs.Inside.Gaps.{without_unless};
 
 use crate::places::{Place, binding_at, first_of, forget, is_among, note, take_out_of};
-use crate::reading::resolve;
+use crate::reading::{Head, head_of, resolve_all};
 use scasp_list::Memory;
-use scasp_syntax::Term;
+use scasp_syntax::{Term, Terms};
 use scasp_trail::Trailed;
 use scasp_unify::Binding;
 use std::alloc::Global;
@@ -129,7 +129,22 @@ impl Bound {
     {
         let items = self.list.as_slice();
         let places = self.places.as_slice();
-        resolve(alloc, items, places, self.is_whole, 0, term)
+        match head_of(items, places, self.is_whole, 0, term) {
+            Head::All(read) => Ok(read),
+            Head::Name(name, args, from) => {
+                let read = resolve_all(alloc, items, places, self.is_whole, from, args)?;
+                Ok(Term::App(name, read))
+            }
+        }
+    }
+
+    /// The terms as the bindings read them, as `read` does.
+    pub fn read_terms(&self, alloc: Global, terms: &Terms) -> Result<Terms, Memory>
+        ensures { IfOk result (λ made. made ≡ all_under (sub_of self.now.now) terms.now) }
+    {
+        let items = self.list.as_slice();
+        let places = self.places.as_slice();
+        resolve_all(alloc, items, places, self.is_whole, 0, terms.as_slice())
     }
 
     /// Marks the bindings as they are now; after an error of a change there is no mark to be had until the next `leave`.

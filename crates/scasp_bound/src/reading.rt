@@ -1,67 +1,123 @@
 //! Terms as bindings read them, by an index of the bindings.
-ghost use Rattle.std.specs.Prelude.{◌≡◌, drop, IfOk};
+ghost use Rattle.std.specs.Prelude.{◌≡◌, IfOk};
 ghost use Rattle.scasp_syntax.specs.Values.{all_under, under};
-ghost use Rattle.scasp_syntax.specs.View.{tm_of};
-ghost use Rattle.scasp_unify.specs.Solving.{sub_of};
-ghost use Rattle.scasp_bound.specs.Inside.Gaps.{present};
+ghost use Rattle.scasp_syntax.specs.View.{tm_of, tms_of};
 ghost use Rattle.scasp_bound.specs.Inside.Places.{IsRight};
+ghost use Rattle.scasp_bound.specs.Inside.Reading.{behind, head_read};
 
 use crate::places::{Place, binding_at, first_after};
 use scasp_list::Memory;
+use scasp_name::NameId;
 use scasp_syntax::{Term, Terms};
 use scasp_unify::Binding;
 use std::alloc::Global;
+use std::mem;
 
-/// The term with its variables replaced by what the bindings from a place on say, of which each may speak of variables
-/// that later ones bind.
-#[cycle(resolve)]
+/// How a term begins that is read.
+#[derive(Drop)]
+pub(crate) enum Head<'a> {
+    /// It reads as this term.
+    All(Term),
+    /// It has this name, and these arguments, which the bindings from a place on read.
+    Name(NameId, &'a [Term], usize),
+}
+
+/// A list that is being made and waits for the arguments of the term `name`: what is done before it, and what is left behind
+/// it, which the bindings from a place on read.
+#[derive(Drop)]
+struct Outer<'a> {
+    done: Terms,
+    name: NameId,
+    left: &'a [Term],
+    from: usize,
+}
+
+/// How the term begins that the bindings from a place on read, of which each may speak of variables that later ones bind.
 #[tactic(auto, using(crate::proofs::ReadLemmas::read_none, crate::proofs::ReadLemmas::read_next, crate::proofs::ReadLemmas::read_gap))]
-pub(crate) fn resolve(
-    alloc: Global,
-    bindings: &[Option<Binding>],
+pub(crate) fn head_of<'a>(
+    bindings: &'a [Option<Binding>],
     places: &[Option<Place>],
     is_whole: bool,
     from: usize,
-    term: &Term,
-) -> Result<Term, Memory>
+    term: &'a Term,
+) -> Head<'a>
     requires { IsRight is_whole bindings.now places.now }
-    ensures { IfOk result (λ made. tm_of made ≡ under (sub_of (present (drop from bindings.now))) (tm_of term.now)) }
+    ensures { head_read bindings.now result ≡ under (behind from bindings.now) (tm_of term.now) }
 {
-    match term {
-        Term::Var(x) => {
-            let Some(at) = first_after(bindings, places, is_whole, from, *x) else {
-                return Ok(Term::Var(*x));
-            };
-            match binding_at(bindings, at) {
-                Some(binding) => {
-                    resolve(alloc, bindings, places, is_whole, at + 1, &binding.term)
-                }
-                None => Ok(Term::Var(*x)),
+    let mut reached = term;
+    let mut next = from;
+    'bindings: loop {
+        match reached {
+            Term::Var(x) => {
+                let Some(at) = first_after(bindings, places, is_whole, next, *x) else {
+                    return Head::All(Term::Var(*x));
+                };
+                let Some(binding) = binding_at(bindings, at) else {
+                    return Head::All(Term::Var(*x));
+                };
+                reached = &binding.term;
+                next = at + 1;
             }
-        }
-        Term::Num(value) => Ok(Term::Num(*value)),
-        Term::App(name, args) => {
-            let made = resolve_terms(alloc, bindings, places, is_whole, from, args)?;
-            Ok(Term::App(*name, made))
+            Term::Num(value) => return Head::All(Term::Num(*value)),
+            Term::App(name, args) => return Head::Name(*name, args.as_slice(), next),
         }
     }
 }
 
-#[cycle(resolve)]
-fn resolve_terms(
+/// The terms as the bindings from a place on read them. It takes memory for the lists that wait for inner ones, and no
+/// machine stack.
+pub(crate) fn resolve_all(
     alloc: Global,
     bindings: &[Option<Binding>],
     places: &[Option<Place>],
     is_whole: bool,
     from: usize,
-    terms: &Terms,
+    terms: &[Term],
 ) -> Result<Terms, Memory>
     requires { IsRight is_whole bindings.now places.now }
-    ensures { IfOk result (λ made. made ≡ all_under (sub_of (present (drop from bindings.now))) terms.now) }
+    ensures { IfOk result (λ made. made ≡ all_under (behind from bindings.now) (tms_of terms.now)) }
 {
+    let mut outer = Vec::new(alloc);
     let mut made = Terms::new(alloc);
-    for term in terms.as_slice() {
-        made.push(resolve(alloc, bindings, places, is_whole, from, term)?)?;
+    let mut rest = terms;
+    let mut next = from;
+    'lists: loop {
+        match rest.split_first() {
+            Some((term, left)) => match head_of(bindings, places, is_whole, next, term) {
+                Head::All(read) => {
+                    made.push(read)?;
+                    rest = left;
+                }
+                Head::Name(name, args, behind) => {
+                    let done = mem::replace(&mut made, Terms::new(alloc));
+                    let from = next;
+                    outer.push(Outer {
+                        done,
+                        name,
+                        left,
+                        from,
+                    })?;
+                    rest = args;
+                    next = behind;
+                }
+            },
+            None => {
+                let Some(
+                    Outer {
+                        done,
+                        name,
+                        left,
+                        from,
+                    },
+                ) = outer.pop()
+                else {
+                    return Ok(made);
+                };
+                let args = mem::replace(&mut made, done);
+                made.push(Term::App(name, args))?;
+                rest = left;
+                next = from;
+            }
+        }
     }
-    Ok(made)
 }

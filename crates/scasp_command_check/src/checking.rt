@@ -65,7 +65,7 @@ fn recheck_block<K: Sink>(
     ensures counts { K.faults out.old ≤ K.faults out.new }
 {
     let worth = find_worth(alloc, program, &block.cert)?;
-    let line = block_line(alloc, block, worth)?;
+    let line = block_line(alloc, block.answer, &block.cert, worth)?;
     let tally = tally.with_block(worth)?;
     write_all(out, line.as_slice())?;
     Ok(tally)

@@ -8,4 +8,5 @@ mod worth;
 
 pub use checking::{Rechecked, recheck};
 pub use laws::{accepted_means, right_means};
+pub use lines::block_line;
 pub use worth::{Worth, find_worth, see_worth};

@@ -4,7 +4,6 @@ ghost use Rattle.scasp_cert.specs.Certificate.{certificate_of};
 ghost use Rattle.scasp_command_check.specs.Texts as spec;
 
 use crate::worth::Worth;
-use scasp_answers::Block;
 use scasp_cert::{Cert, flat};
 use scasp_checker::Reason;
 use scasp_list::Memory;
@@ -69,17 +68,26 @@ fn put_worth(line: &mut Vec<u8>, worth: Worth, cert: &Cert) -> Result<(), Memory
     }
 }
 
-/// The line of a block that is worth so much.
+/// The line of the answer of this number, whose certificate is worth so much.
+///
+/// # Errors
+///
+/// Want of memory.
 #[tactic(auto, unfolding(crate::specs::Texts::line_by))]
-pub fn block_line(alloc: Global, block: &Block, worth: Worth) -> Result<Vec<u8>, Memory>
-    ensures { IfOk result (λ line. line.items ≡ spec.line_by worth block.now.answer (certificate_of block.now.cert)) }
+pub fn block_line(
+    alloc: Global,
+    answer: u64,
+    cert: &Cert,
+    worth: Worth,
+) -> Result<Vec<u8>, Memory>
+    ensures { IfOk result (λ line. line.items ≡ spec.line_by worth answer (certificate_of cert.now)) }
 {
     let mut line = Vec::new(alloc);
-    put_number(&mut line, block.cert.query)?;
+    put_number(&mut line, cert.query)?;
     put(&mut line, ".")?;
-    put_number(&mut line, block.answer)?;
+    put_number(&mut line, answer)?;
     put(&mut line, " ")?;
-    put_worth(&mut line, worth, &block.cert)?;
+    put_worth(&mut line, worth, cert)?;
     put(&mut line, "\n")?;
     Ok(line)
 }

@@ -1,9 +1,11 @@
 -- What a search has still to give, and what it gives in slices of calls.
-use Rattle.std.specs.Prelude.{ℕ, List, Option, reverse}
+use Rattle.std.specs.Prelude.{ℕ, List, Option}
 use Rattle.scasp_cert.specs.Certificate.{certificate_of}
 use Rattle.scasp_cert.specs.declared.certificate.Cert.{Cert}
 use Rattle.scasp_search.specs.declared.search.Search.{Search}
 use Rattle.scasp_search_constraints.specs.declared.assuming.step.SearchErr.{SearchErr}
+use Rattle.scasp_search_copies.specs.Saved.{now_of, points_of}
+use Rattle.scasp_search_state.specs.Choices.{states}
 use Rattle.scasp_search_walk.specs.Slices.{Comes, Gives, Keeps}
 use Rattle.scasp_search_walk.specs.declared.events.Advance.{Advance}
 use Rattle.scasp_written.specs.Written.Rests.{Rest, machine, problem_in}
@@ -14,7 +16,7 @@ rest_of s = record {
   queried = s.walk.front.goal.queried;
   budget = s.walk.budget;
   calls = s.walk.calls;
-  states = reverse s.walk.front.waiting.items;
+  states = states s.walk.front.goal.program s.walk.front.is_ahead (now_of s.walk.front.at) (points_of s.walk.front.at);
 }
 
 -- why the search has stopped, if it has

@@ -1,7 +1,6 @@
 //! The suspended search: it answers in slices of calls, and waits in between.
 #![tactic(auto)]
 
-mod copies;
 mod events;
 mod search;
 mod slices;

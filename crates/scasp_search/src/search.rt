@@ -1,8 +1,9 @@
 //! The search as an object.
-use crate::copies::Copies;
 use crate::events::Advance;
 use scasp_list::Memory;
 use scasp_search_constraints::SearchErr;
+use scasp_search_copies::Copied;
+use scasp_search_suspended::Suspended;
 use scasp_search_walk::{Walk, advance_by};
 use scasp_syntax::Program;
 use scasp_written::{goal_of, start_of};
@@ -11,7 +12,7 @@ use std::alloc::Global;
 /// The search for answers to a query, between two slices.
 #[derive(Drop)]
 pub struct Search {
-    pub(crate) walk: Walk<Copies>,
+    pub(crate) walk: Walk<Suspended<Copied>>,
 }
 
 impl Search {
@@ -44,14 +45,13 @@ impl Search {
         };
         let goal = goal_of(alloc, program, query, asked.names.len() as u64, fresh)?;
         let state = start_of(alloc, asked, &goal.checks)?;
-        let mut waiting = Vec::new(alloc);
-        waiting.push(state)?;
         Ok(Search {
             walk: Walk {
-                front: Copies {
+                front: Suspended {
                     alloc,
                     goal,
-                    waiting,
+                    at: Copied::new(alloc, state),
+                    is_ahead: true,
                 },
                 budget,
                 calls: 0,

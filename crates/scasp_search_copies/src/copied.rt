@@ -1,6 +1,6 @@
 //! A state that is changed in place, and copies of those that wait.
-ghost use Rattle.std.specs.Prelude.{◌≡◌, [], map, reverse};
-ghost use Rattle.scasp_search_copies.specs.Saved.{point_of};
+ghost use Rattle.std.specs.Prelude.{◌≡◌, []};
+ghost use Rattle.scasp_search_copies.specs.Saved.{now_of, points_of};
 
 use crate::ahead::{has_work, innermost};
 use crate::closing::closed;
@@ -62,8 +62,8 @@ fn nothing(alloc: Global) -> State {
 impl Copied {
     /// This state alone, behind which none waits.
     pub fn new(alloc: Global, state: State) -> Copied
-        ensures now { result.state ≡ state }
-        ensures points { result.saved.items ≡ [] }
+        ensures now { now_of result ≡ state }
+        ensures points { points_of result ≡ [] }
     {
         Copied {
             state,
@@ -86,9 +86,9 @@ impl Copied {
 }
 
 impl Situation for Copied {
-    ghost now = { λ c. c.state };
+    ghost now = { now_of };
 
-    ghost points = { λ c. map point_of (reverse c.saved.items) };
+    ghost points = { points_of };
 
     // ---- variables
 

@@ -1,6 +1,6 @@
 -- One session among any calls.
-use Rattle.std.specs.Prelude.{◌≡◌, ℕ, ◌+◌, ◌<◌, ◌==◌, Bool, true, false, if◌then◌else◌, List, [], ◌∷◌, ◌++◌, Option, None, Some, Ok, Err, ⊤, refl}
-use Rattle.std.proofs.Common.{ap, arith, eqb-true, subst, sym, ◌∙◌}
+use Rattle.std.specs.Prelude.{◌≡◌, ℕ, ◌+◌, ◌<◌, ◌==◌, Bool, true, false, if◌then◌else◌, List, [], ◌∷◌, ◌++◌, None, Some, Ok, Err, refl}
+use Rattle.std.proofs.Common.{arith, eqb-true, subst, sym, ◌∙◌}
 use Rattle.scasp_cert.specs.declared.certificate.Cert.{Cert}
 use Rattle.scasp_search.specs.declared.search.Search.{Search}
 use Rattle.scasp_search_walk.specs.declared.events.Advance.{Advance}
@@ -8,7 +8,6 @@ use Rattle.scasp_sessions.proofs.TableLemmas.{AllBelow, below-append, below-more
 use Rattle.scasp_sessions.specs.Alone.{ComesAlone, Exchange, IsAdvancedBy, Replies, RepliesAll, advancing, closing, comes_of, opening, slices_of}
 use Rattle.scasp_sessions.specs.Calls.{IsAdvanced}
 use Rattle.scasp_sessions.specs.Tables.{Table, no_sessions, search_of, with_search}
-use Rattle.scasp_sessions.specs.declared.errors.OpenErr.{OpenErr}
 use Rattle.scasp_sessions.specs.declared.errors.OpenErr.TheVariants as refusal
 use Rattle.scasp_sessions.specs.declared.session.Session.{Session}
 use Rattle.scasp_syntax.specs.declared.program.Program.{Program}

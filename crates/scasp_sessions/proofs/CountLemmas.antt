@@ -1,8 +1,8 @@
 -- Numbers are given in order.
 use Rattle.std.specs.Prelude.{◌≡◌, ℕ, ◌+◌, List, [], ◌∷◌, length, Ok, Err, refl}
 use Rattle.std.specs.List.{range_with_len}
-use Rattle.std.proofs.Common.{ap, subst, sym, ◌∙◌}
-use Rattle.scasp_sessions.specs.Alone.{Exchange, Replies, RepliesAll, advancing, closing, opening}
+use Rattle.std.proofs.Common.{ap, subst}
+use Rattle.scasp_sessions.specs.Alone.{Exchange, RepliesAll, advancing, closing, opening}
 use Rattle.scasp_sessions.specs.Numbers.{numbers_in}
 use Rattle.scasp_sessions.specs.Tables.{Table, no_sessions}
 use Rattle.scasp_sessions.specs.declared.errors.OpenErr.TheVariants as refusal

@@ -1,11 +1,11 @@
 -- What comes of slices of a search by itself are the events of its run.
-use Rattle.std.specs.Prelude.{◌≡◌, ℕ, ◌+◌, ◌<◌, ◌≤◌, List, [], ◌∷◌, Option, None, Some, refl}
-use Rattle.std.proofs.Common.{arith, subst, sym, ◌∙◌}
+use Rattle.std.specs.Prelude.{◌≡◌, ℕ, ◌+◌, ◌<◌, ◌≤◌, List, [], ◌∷◌, None}
+use Rattle.std.proofs.Common.{arith, subst}
 use Rattle.scasp_cert.specs.Certificate.{certificate_of}
 use Rattle.scasp_cert.specs.declared.certificate.Cert.{Cert}
 use Rattle.scasp_search.specs.Rests.{Advances, AdvancesAll, rest_of, stopped}
 use Rattle.scasp_search.specs.declared.search.Search.{Search}
-use Rattle.scasp_search_rules.specs.Successors.Machine.{Machine, Found, Finds, answered, ended, spent}
+use Rattle.scasp_search_rules.specs.Successors.Machine.{Machine, answered, ended, spent}
 use Rattle.scasp_search_walk.proofs.LaterLemmas.{allows-later, found-later, tells-later}
 use Rattle.scasp_search_walk.proofs.ReachedLemmas.{reached-both, reached-none}
 use Rattle.scasp_search_walk.specs.Slices.{Comes, NeedsMore}
@@ -13,7 +13,6 @@ use Rattle.scasp_search_walk.specs.Walks.{Reached}
 use Rattle.scasp_search_walk.specs.declared.events.Advance.{Advance}
 use Rattle.scasp_search_walk.specs.declared.events.Advance.TheVariants as advance
 use Rattle.scasp_sessions.specs.Alone.{IsAdvancedBy}
-use Rattle.scasp_sessions.specs.Calls.{IsAdvanced}
 use Rattle.scasp_written.specs.Written.Rests.{IsSameRun, Rest, machine}
 
 -- what needs more than a slice behind pauses needs more than they have together

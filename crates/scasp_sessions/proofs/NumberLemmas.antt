@@ -1,17 +1,16 @@
 -- Numbers and refusals follow from the calls.
-use Rattle.std.specs.Prelude.{◌≡◌, ℕ, ◌+◌, ◌<◌, ◌≤◌, ◌==◌, ◌||◌, nat_lt, Bool, true, false, if◌then◌else◌, List, [], ◌∷◌, ◌++◌, length, map, Option, None, Some, IsSome, IsSomeAnd, Ok, Err, refl}
-use Rattle.std.proofs.Common.{ap, arith, subst, sym, ◌∙◌}
+use Rattle.std.specs.Prelude.{◌≡◌, ℕ, ◌<◌, ◌≤◌, ◌||◌, nat_lt, Bool, true, false, if◌then◌else◌, List, [], ◌∷◌, length, map, Option, None, Some, IsSome, IsSomeAnd, Ok, Err, refl}
+use Rattle.std.proofs.Common.{ap, arith, sym}
 use Rattle.std.proofs.lemmas.List.{length-map, map-append}
 use Rattle.std.proofs.lemmas.Bool.Decides.{nat_tests}
 use Rattle.scasp_search.specs.declared.search.Search.{Search}
 use Rattle.scasp_sessions.specs.Alone.{Exchange, Replies, RepliesAll, advancing, closing, opening}
-use Rattle.scasp_sessions.specs.Numbers.{Asked, Numbers, Said, asked_in, due_to, due_to_all, due_to_opening, is_taken, no_numbers, said_in, without_number}
+use Rattle.scasp_sessions.specs.Numbers.{Numbers, Said, asked_in, due_to, due_to_all, is_taken, no_numbers, said_in, without_number}
 use Rattle.scasp_sessions.specs.Tables.{Table, has_number, no_sessions, search_of, with_search, without}
 use Rattle.scasp_sessions.specs.declared.errors.OpenErr.TheVariants as refusal
 use Rattle.scasp_sessions.specs.declared.session.Session.{Session}
 use Rattle.scasp_syntax.specs.Programs.{numbered}
 use Rattle.scasp_syntax.specs.declared.clause.Query.{Query}
-use Rattle.scasp_syntax.specs.declared.program.Program.{Program}
 
 abbrev number_of : Session → ℕ
 number_of s = s.number

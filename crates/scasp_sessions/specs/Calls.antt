@@ -1,5 +1,5 @@
 -- What one call does.
-use Rattle.std.specs.Prelude.{◌≡◌, ℕ, ◌+◌, ◌<◌, ◌≤◌, List, [], ◌∷◌, ◌++◌, length, Option, None, Some, IsSome, IsSomeAnd, Result, Ok, Err}
+use Rattle.std.specs.Prelude.{◌≡◌, ℕ, ◌+◌, ◌<◌, ◌≤◌, [], ◌∷◌, ◌++◌, length, None, Some, IsSome, IsSomeAnd, Result, Ok, Err}
 use Rattle.scasp_cert.specs.declared.certificate.Cert.{Cert}
 use Rattle.scasp_search.specs.Rests.{Advances, rest_of, stopped}
 use Rattle.scasp_search.specs.declared.search.Search.{Search}
@@ -11,7 +11,6 @@ use Rattle.scasp_sessions.specs.Tables.{Table, search_of, with_search, without}
 use Rattle.scasp_sessions.specs.declared.errors.NoSession.{NoSession}
 use Rattle.scasp_sessions.specs.declared.errors.OpenErr.{OpenErr}
 use Rattle.scasp_sessions.specs.declared.errors.OpenErr.TheVariants as refusal
-use Rattle.scasp_sessions.specs.declared.session.Session.{Session}
 use Rattle.scasp_syntax.specs.Programs.{numbered}
 use Rattle.scasp_syntax.specs.declared.program.Program.{Program}
 use Rattle.scasp_written.specs.Written.Rests.{IsSameRun, Opens}

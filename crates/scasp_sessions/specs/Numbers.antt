@@ -1,7 +1,6 @@
 -- Numbers and refusals, which follow from the calls, and from which of them want of memory refuses.
-use Rattle.std.specs.Prelude.{◌≡◌, ℕ, ◌+◌, ◌==◌, nat_lt, if◌then◌else◌, Bool, true, false, ◌||◌, List, [], ◌∷◌, ◌++◌, length, Option, None, Some, Ok, Err, map}
-use Rattle.scasp_sessions.specs.Alone.{Exchange, RepliesAll, advancing, closing, opening}
-use Rattle.scasp_sessions.specs.Tables.{Table, no_sessions}
+use Rattle.std.specs.Prelude.{ℕ, ◌+◌, ◌==◌, nat_lt, if◌then◌else◌, Bool, true, false, ◌||◌, List, [], ◌∷◌, ◌++◌, length, Option, None, Some, Ok, Err}
+use Rattle.scasp_sessions.specs.Alone.{Exchange, advancing, closing, opening}
 use Rattle.scasp_sessions.specs.declared.errors.OpenErr.TheVariants as refusal
 use Rattle.scasp_syntax.specs.Programs.{numbered}
 use Rattle.scasp_syntax.specs.declared.clause.Query.{Query}

@@ -1,0 +1,5 @@
+pub mod Blocks
+pub mod Lines
+pub mod Texts
+pub mod Views
+pub mod Worths

@@ -1,0 +1,24 @@
+-- Literals that are open.
+use Rattle.std.specs.Prelude.{◌≡◌, ℕ, Bool, true, false, not, if◌then◌else◌, Option, None, Some, List, [], ◌∷◌, filter, reverse, slice_get, take}
+use Rattle.scasp_loops.specs.Held.{literal_of}
+use Rattle.scasp_loops.specs.Inside.Zipped.{literals_from}
+use Rattle.scasp_loops.specs.declared.entry.Entry.{Entry}
+use Rattle.scasp_loops.specs.declared.entry.Marks.{Marks}
+use Rattle.scasp_search_rules.specs.declared.states.state.Literal.{Literal}
+
+abbrev pub open_among : List Literal → List Literal
+open_among ls = filter (λ a. not a.is_done) (reverse ls)
+
+-- those of the first literals, so many, that are open, the innermost first
+abbrev pub open_in : ℕ → List Entry → List Marks → List Literal
+open_in n es ms = open_among (take n (literals_from 0 es ms))
+
+-- the innermost of them is that of this place
+pub record OpensAt (es : List Entry) (ms : List Marks) (n at : ℕ) : Type 0 where
+  pub opens : (e : Entry) → (m : Marks) → slice_get es at ≡ Some e → slice_get ms at ≡ Some m → open_in n es ms ≡ literal_of at e m ∷ open_in at es ms
+
+-- the first of these literals, where a mark moves on and it is positive
+abbrev pub moved_if : Bool → List Literal → Option ℕ
+moved_if false bs = None
+moved_if true [] = None
+moved_if true (b ∷ bs) = if b.lit.positive then Some b.number else None

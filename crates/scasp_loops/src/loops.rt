@@ -1,0 +1,200 @@
+//! Literals with their marks and cases.
+ghost use Rattle.std.specs.Prelude.{◌≡◌, ◌<◌, ◌≤◌, [], ◌∷◌, ◌++◌, length, map, slice_get, Some, IfOk, OnOk, OnErr};
+ghost use Rattle.scasp_loops.specs.Inside.Zipped.{StandsAt, literals_from};
+ghost use Rattle.scasp_loops.specs.Held.{entered, left, literal_of, looped_out, reading};
+ghost use Rattle.scasp_search_rules.specs.Successors.Cases.{kept_literal};
+ghost use Rattle.scasp_trail.specs.Past.{earlier, latest};
+
+use crate::ending::end_each;
+use crate::entry::{Entered, Entry, Marks};
+use crate::innermost::{end_last, entry_at, loop_out, marks_at};
+use scasp_bound::Bound;
+use scasp_list::Memory;
+use scasp_search_rules::{CaseList, Literal, Literals};
+use scasp_syntax::{DeepCopy, Lit};
+use scasp_trail::Trailed;
+use std::alloc::Global;
+use std::marker::Model;
+
+/// Literals that were gone into, in order. The number of each is its place.
+#[derive(Drop)]
+pub struct Loops {
+    entries: Trailed<Entry>,
+    marks: Trailed<Marks>,
+}
+
+impl Model for Loops {
+    ghost use Rattle.scasp_syntax.specs.TmCode.{coded_tms};
+    ghost use Rattle.std.specs.Coded.{codes};
+    ghost use Rattle.scasp_search_rules.specs.declared.states.state.Literal.{Literal};
+    ghost use Rattle.scasp_trail.specs.Past.{Past};
+    ghost use Rattle.scasp_loops.specs.Inside.Zipped.{Fit, past_literals};
+
+    ghost Value = { Past Literal };
+
+    ghost coded = { Prim.hlevel (codes, coded_tms) };
+
+    ghost view = { λ l. past_literals l.entries l.marks };
+
+    ghost invariant = { λ l. Fit l.entries l.marks };
+}
+
+impl Loops {
+    /// No literals and no mark; no memory is taken.
+    pub fn new(alloc: Global) -> Loops
+        ensures { result ≡ record { now = []; before = [] } }
+    {
+        Loops {
+            entries: Trailed::new(alloc),
+            marks: Trailed::new(alloc),
+        }
+    }
+
+    /// How many literals there are.
+    #[tactic(auto, using(crate::proofs::ZipLemmas::literals_length))]
+    pub fn len(&self) -> usize
+        ensures { result ≡ length self.now.now }
+    {
+        self.marks.len()
+    }
+
+    /// The literal of this number.
+    #[tactic(auto, using(crate::proofs::ZipLemmas::literals_length, crate::proofs::ZipLemmas::literal_there))]
+    pub fn get(&self, number: usize) -> Entered<'_>
+        requires { number < length self.now.now }
+        ensures { slice_get self.now.now number ≡ Some (literal_of number result.entry.now result.marks) }
+    {
+        Entered {
+            entry: entry_at(self.entries.as_slice(), number),
+            marks: marks_at(self.marks.as_slice(), number),
+        }
+    }
+
+    /// Copies of all literals.
+    pub fn literals(&self, alloc: Global) -> Result<Literals, Memory>
+        ensures { IfOk result (λ made. made ≡ self.now.now) }
+    {
+        copies(alloc, self.entries.as_slice(), self.marks.as_slice())
+    }
+
+    /// One more literal, inside these cases.
+    #[tactic(auto, using(crate::proofs::ZipLemmas::one_more, crate::proofs::ZipLemmas::none_more, crate::proofs::ZipLemmas::literals_length))]
+    pub fn open(&mut self, lit: Lit, cases: CaseList) -> Result<(), Memory>
+        ensures now { OnOk result (self.new.now ≡ self.old.now ++ entered (length self.old.now) lit cases ∷ []) }
+        ensures before { self.new.before ≡ self.old.before }
+        ensures unchanged { OnErr result (self.new ≡ self.old) }
+    {
+        let marks = Marks {
+            is_done: false,
+            loops: false,
+            is_general: false,
+        };
+        put_entry(&mut self.entries, self.marks.len(), Entry { lit, cases })?;
+        self.marks.push(marks)?;
+        Ok(())
+    }
+
+    /// A positive loop leads out of the innermost literal that is open.
+    pub fn loops_out(&mut self) -> Result<(), Memory>
+        ensures now { OnOk result (self.new.now ≡ looped_out self.old.now) }
+        ensures before { self.new.before ≡ self.old.before }
+    {
+        loop_out(self.entries.as_slice(), &mut self.marks)
+    }
+
+    /// The innermost literal that is open is done.
+    pub fn leave_literal(&mut self) -> Result<(), Memory>
+        ensures now { OnOk result (self.new.now ≡ left self.old.now) }
+        ensures before { self.new.before ≡ self.old.before }
+    {
+        end_last(self.entries.as_slice(), &mut self.marks)
+    }
+
+    /// A case with these universal variables ends: each literal stands as the bindings read it now.
+    pub fn end_case(
+        &mut self,
+        alloc: Global,
+        bound: &Bound,
+        universals: &[u64],
+    ) -> Result<(), Memory>
+        ensures now { OnOk result (self.new.now ≡ map (kept_literal (reading bound.now.now) universals.now) self.old.now) }
+        ensures before { self.new.before ≡ self.old.before }
+    {
+        end_each(alloc, &mut self.entries, &mut self.marks, bound, universals)
+    }
+
+    /// Marks the literals as they are now.
+    pub fn mark(&mut self) -> Result<(), Memory>
+        ensures now { self.new.now ≡ self.old.now }
+        ensures before { OnOk result (self.new.before ≡ self.old.now ∷ self.old.before) }
+        ensures unchanged { OnErr result (self.new ≡ self.old) }
+    {
+        self.entries.mark()?;
+        if self.marks.mark().is_err() {
+            self.entries.leave();
+            return Err(Memory);
+        }
+        Ok(())
+    }
+
+    /// Makes the literals again what they were at the latest mark, which is taken away; without a mark they stay as they are.
+    /// No memory is taken.
+    #[tactic(auto, using(crate::proofs::ZipLemmas::now_left, crate::proofs::ZipLemmas::before_left, crate::proofs::ZipLemmas::fit_now, crate::proofs::ZipLemmas::fit_before))]
+    pub fn leave(&mut self)
+        ensures now { self.new.now ≡ latest self.old.now self.old.before }
+        ensures before { self.new.before ≡ earlier self.old.before }
+    {
+        self.entries.leave();
+        self.marks.leave();
+    }
+}
+
+/// Puts the entry at the place, which is one of the list or the next one.
+#[tactic(auto, using(crate::proofs::ZipLemmas::stands_set, crate::proofs::ZipLemmas::stands_pushed))]
+fn put_entry(entries: &mut Trailed<Entry>, at: usize, entry: Entry) -> Result<(), Memory>
+    requires { at ≤ length entries.old.now }
+    ensures now { OnOk result (StandsAt at entry entries.old.now entries.new.now) }
+    ensures before { entries.new.before ≡ entries.old.before }
+    ensures unchanged { OnErr result (entries.new ≡ entries.old) }
+{
+    if at < entries.len() {
+        entries.set(at, entry)
+    } else {
+        entries.push(entry)
+    }
+}
+
+/// A copy of the literal of this number.
+fn literal_copy(
+    alloc: Global,
+    number: usize,
+    entry: &Entry,
+    marks: Marks,
+) -> Result<Literal, Memory>
+    ensures { IfOk result (λ made. made ≡ literal_of number entry.now marks) }
+{
+    Ok(Literal {
+        number: number as u64,
+        lit: entry.lit.copy(alloc)?,
+        cases: entry.cases.copy(alloc)?,
+        is_done: marks.is_done,
+        loops: marks.loops,
+        is_general: marks.is_general,
+    })
+}
+
+/// Copies of the literals.
+#[tactic(auto, using(crate::proofs::ZipLemmas::copied_more, crate::proofs::ZipLemmas::all_copied))]
+fn copies(alloc: Global, entries: &[Entry], marks: &[Marks]) -> Result<Literals, Memory>
+    requires { length marks.now ≤ length entries.now }
+    ensures { IfOk result (λ made. made ≡ literals_from 0 entries.now marks.now) }
+{
+    let mut made = Literals::new(alloc);
+    let mut at = 0;
+    'literals: while at < marks.len() {
+        let literal = literal_copy(alloc, at, entry_at(entries, at), marks_at(marks, at))?;
+        made.push(literal)?;
+        at += 1;
+    }
+    Ok(made)
+}

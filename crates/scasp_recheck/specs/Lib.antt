@@ -1,0 +1,4 @@
+pub mod Checks
+pub mod Meaning
+pub mod Tallies
+pub mod Views
