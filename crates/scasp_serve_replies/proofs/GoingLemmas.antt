@@ -10,8 +10,12 @@ use Rattle.scasp_search.specs.declared.search.Search.{Search}
 use Rattle.scasp_search_walk.specs.declared.events.Advance.{Advance}
 use Rattle.scasp_search_walk.specs.declared.events.Advance.TheVariants as advance
 use Rattle.scasp_serve_replies.specs.Comings.{ComesOf, GoesOn, SessionGoesOn, comes, passes}
-use Rattle.scasp_serve_replies.specs.Inside.{Found, IsPassed, is_passed}
+use Rattle.scasp_serve_replies.specs.Inside.{Found, IsPassed, StepOf, TreeComes, is_passed}
 use Rattle.scasp_serve_replies.specs.declared.coming.Coming.{Coming}
+use Rattle.scasp_serve_replies.specs.declared.coming.Coming.TheVariants.{Answer, Without}
+use Rattle.scasp_serve_replies.specs.declared.coming.NoAnswer.TheVariants.{Paused, Ended, Spent, Overflow}
+use Rattle.scasp_serve_replies.specs.declared.coming.Step.{Step}
+use Rattle.scasp_serve_replies.specs.declared.coming.Step.TheVariants.{Comes, Passes}
 use Rattle.scasp_sessions.specs.Calls.{Advancing, IsAdvanced}
 use Rattle.scasp_sessions.specs.Tables.{Table, calls_in, has_number, search_of, with_search}
 use Rattle.scasp_sessions.specs.declared.session.Session.{Session}
@@ -36,6 +40,18 @@ with-twice id a b (s ∷ ss) = by (has_number id s) refl (with-twice id a b ss)
         → with_search id b (if t then record s { search = a } ∷ ss else s ∷ with_search id a ss) ≡ (if t then record s { search = b } ∷ ss else s ∷ with_search id b ss)
     by true e next = rw e refl
     by false e next = rw e (ap (λ (l : List Session). s ∷ l) next)
+
+-- what a tree comes to, comes of what the search gives
+tree-step : (p : Program) (tree : Cert) (step : Step) → TreeComes p (certificate_of tree) step → StepOf p (advance.Answer tree) step
+tree-step p tree (Comes (Answer cert)) h = h
+tree-step p tree (Comes (Without Paused)) h = h
+tree-step p tree (Comes (Without Ended)) h = h
+tree-step p tree (Comes (Without Spent)) h = h
+tree-step p tree (Comes (Without Overflow)) h = h
+tree-step p tree Passes h = is_passed tree h
+
+pub step-of-tree : (p : Program) (given : Advance Cert) (tree : Cert) (step : Step) → given ≡ advance.Answer tree → TreeComes p (certificate_of tree) step → StepOf p given step
+step-of-tree p given tree step is h = subst (λ (g : Advance Cert). StepOf p g step) (sym is) (tree-step p tree step h)
 
 -- what the search gives comes to this at once
 pub found-here : (p : Program) (old new : Table) (id calls : ℕ) (given : Advance Cert) (coming : Coming) → Advancing old id calls (Ok given) new → ComesOf p given coming
