@@ -89,7 +89,12 @@ pub fn is_stable(alloc: Global, g: &GroundProgram, m: &AtomList) -> Result<bool,
 }
 
 /// The same, by the table of the list's atoms.
-fn is_stable_by(alloc: Global, g: &GroundProgram, m: &AtomList, table: &AtomTable) -> Result<bool, Memory>
+fn is_stable_by(
+    alloc: Global,
+    g: &GroundProgram,
+    m: &AtomList,
+    table: &AtomTable,
+) -> Result<bool, Memory>
     requires { table.now ≡ with_atoms [] m.now }
     ensures { IfOk result (λ answer. IsTrue answer ↔ Stable g.now m.now) }
 {
@@ -107,7 +112,14 @@ fn reduced_model(alloc: Global, g: &GroundProgram, table: &AtomTable) -> Result<
 }
 
 /// Whether the model has the atoms of the list, and no denial's body is true there, by the tables of both.
-fn is_reached(alloc: Global, g: &GroundProgram, m: &AtomList, table: &AtomTable, model: &AtomList, reached: &AtomTable) -> Result<bool, Memory>
+fn is_reached(
+    alloc: Global,
+    g: &GroundProgram,
+    m: &AtomList,
+    table: &AtomTable,
+    model: &AtomList,
+    reached: &AtomTable,
+) -> Result<bool, Memory>
     ensures { IfOk result (λ answer. answer ≡ (has_all table.now model.now && has_all reached.now m.now && not (has_violation table.now g.now))) }
 {
     let is_closed = has_all(alloc, table, model)?;

@@ -14,5 +14,5 @@ returns c =
     (λ (answer : Bool). answer ≡ (has_all table model && has_all reached c.args.m.now && not (has_violation table c.args.g.now)))
     (λ (answer : Bool). (answer ≡ true) ↔ Stable c.args.g.now c.args.m.now) c.is_reached.ensures
     (λ answer e.
-      stable-tested c.args.g.now c.args.m.now table model reached (has_all table model) (has_all reached c.args.m.now) (has_violation table c.args.g.now) answer
-      c.requires c.in_ok-model.ensures c.in_ok-reached.ensures refl refl refl e)
+    stable-tested c.args.g.now c.args.m.now table model reached (has_all table model) (has_all reached c.args.m.now) (has_violation table c.args.g.now) answer
+    c.requires c.in_ok-model.ensures c.in_ok-reached.ensures refl refl refl e)
