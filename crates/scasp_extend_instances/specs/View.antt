@@ -3,21 +3,19 @@ use Rattle.std.specs.Prelude.{◌≡◌, ℕ, List, [], ◌∷◌, map, Bool, fa
 use Rattle.scasp_ground.specs.declared.error.GroundErr.{GroundErr}
 use Rattle.scasp_ground.specs.declared.error.GroundErr.TheVariants as errors
 use Rattle.scasp_lines.specs.Ways.{set_to}
-use Rattle.scasp_lines_places.specs.Places.Chains.{chained}
+use Rattle.scasp_lines_places.specs.Places.View.{all_bound}
 use Rattle.scasp_syntax.specs.Tm.{Tm, items}
 use Rattle.scasp_syntax.specs.Values.{Sub}
-use Rattle.scasp_syntax.specs.View.{tm_of}
 use Rattle.scasp_extend_instances.specs.Values.{valued}
-use Rattle.scasp_extend_instances.specs.declared.values.Given.{Given}
 use Rattle.scasp_extend_instances.specs.declared.values.Way.{Way}
 
--- the values with these, the last given in front
-abbrev pub with_all : List Given → Sub → Sub
+-- the values with these, the last that was bound in front
+abbrev pub with_all : List (ℕ × Tm) → Sub → Sub
 with_all [] v = v
-with_all (g ∷ gs) v = set_to (with_all gs v) g.x (tm_of g.value.now)
+with_all (b ∷ bs) v = set_to (with_all bs v) b.0 b.1
 
 abbrev pub way_of : Way → Sub
-way_of w = with_all (chained w.given) (valued (items w.free.now))
+way_of w = with_all (all_bound w.bound) (valued (items w.free.now))
 
 abbrev pub ways_of : List Way → List Sub
 ways_of ws = map way_of ws

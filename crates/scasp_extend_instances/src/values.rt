@@ -10,25 +10,19 @@ ghost use Rattle.scasp_num.specs.Number.{zero_number};
 ghost use Rattle.scasp_syntax.specs.Tm.{items, num};
 ghost use Rattle.scasp_syntax.specs.View.{tm_of};
 
-use scasp_lines_places::{Chain, Entry, Substitution};
+use scasp_lines_places::{Chain, Entry, Substitution, bound_to};
 use scasp_list::Memory;
 use scasp_num::Rat;
 use scasp_syntax::{Term, Terms, copy};
+use scasp_unify::Binding;
 use std::alloc::Global;
 
-/// The value of a variable.
-#[derive(Drop)]
-pub struct Given<'a> {
-    pub x: u64,
-    pub value: &'a Term,
-}
-
-/// A value for each variable: the free ones have the terms at their places, others what is given to them, the last that is given
-/// first, and else 0. Ways share what was given to them before.
+/// A value for each variable: the free ones have the terms at their places, others what is bound to them, the last that was bound
+/// first, and else 0. Ways share what was bound before.
 #[derive(Drop)]
 pub struct Way<'a> {
     pub(crate) free: &'a Terms,
-    pub(crate) given: Chain<Given<'a>>,
+    pub(crate) bound: Chain<Binding>,
 }
 
 /// The number 0.
@@ -55,7 +49,7 @@ impl<'a> Way<'a> {
     {
         Way {
             free,
-            given: Chain::new(),
+            bound: Chain::new(),
         }
     }
 
@@ -65,32 +59,29 @@ impl<'a> Way<'a> {
     {
         Ok(Way {
             free: self.free,
-            given: self.given.share()?,
+            bound: self.bound.share()?,
         })
     }
 
     /// The values with this one for the variable.
-    pub(crate) fn with(&self, alloc: Global, x: u64, value: &'a Term) -> Result<Way<'a>, Memory>
+    pub(crate) fn with(&self, alloc: Global, x: u64, value: &Term) -> Result<Way<'a>, Memory>
         ensures { IfOk result (λ made. way_of made ≡ set_to (way_of self.now) x (tm_of value.now)) }
     {
+        let term = copy(alloc, value)?;
         Ok(Way {
             free: self.free,
-            given: self.given.with(alloc, Given { x, value })?,
+            bound: self.bound.with(alloc, Binding { x, term })?,
         })
     }
 
-    /// The value of the variable; none where it has 0 since nothing was given to it.
-    pub(crate) fn term(&self, x: u64) -> Option<&'a Term>
+    /// The value of the variable; none where it has 0 since nothing was bound to it.
+    pub(crate) fn term(&self, x: u64) -> Option<&Term>
         ensures { MatchOption result (way_of self.now x ≡ num zero_number) (λ t. tm_of t.now ≡ way_of self.now x) }
     {
-        let mut rest = &self.given;
-        while let Some((given, outer)) = rest.first() {
-            if given.x == x {
-                return Some(given.value);
-            }
-            rest = outer;
+        match bound_to(&self.bound, x) {
+            Some(term) => Some(term),
+            None => free_value(self.free, x),
         }
-        free_value(self.free, x)
     }
 }
 

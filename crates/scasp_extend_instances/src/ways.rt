@@ -22,7 +22,7 @@ use std::alloc::Global;
 /// Puts the values with each of the terms for the variable at the end.
 fn push_ranged<'a>(
     alloc: Global,
-    domain: &'a [Term],
+    domain: &[Term],
     x: u64,
     way: &Way<'a>,
     made: &mut Sequence<Way<'a>>,
@@ -38,7 +38,7 @@ fn push_ranged<'a>(
 /// The values with these terms for the variables from `first` on.
 fn with_parts<'a>(
     alloc: Global,
-    parts: &'a [Term],
+    parts: &[Term],
     first: u64,
     way: &Way<'a>,
 ) -> Result<Way<'a>, Memory>
@@ -93,7 +93,7 @@ fn shaped<'a>(
 /// Puts the values that the entry makes of these at the end.
 fn push_step<'a>(
     alloc: Global,
-    domain: &'a [Term],
+    domain: &[Term],
     entry: &Entry,
     way: &Way<'a>,
     made: &mut Sequence<Way<'a>>,
@@ -129,7 +129,7 @@ fn push_step<'a>(
 /// The values that the entry makes of all of these.
 fn step_all<'a>(
     alloc: Global,
-    domain: &'a [Term],
+    domain: &[Term],
     entry: &Entry,
     ways: &Sequence<Way<'a>>,
 ) -> Result<Sequence<Way<'a>>, GroundErr>
@@ -168,7 +168,7 @@ fn entries_in(alloc: Global, opened: &Chain<Entry>) -> Result<Vec<&Entry>, Memor
 /// where a row on the way is past the range of the numbers at one of them; never TooLarge. It takes memory for all of them.
 pub fn ways_of<'a>(
     alloc: Global,
-    domain: &'a Terms,
+    domain: &Terms,
     opened: &Chain<Entry>,
     free: &'a Terms,
 ) -> Result<Sequence<Way<'a>>, GroundErr>

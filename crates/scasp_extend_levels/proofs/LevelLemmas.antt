@@ -1,7 +1,8 @@
 -- Levels one after the other: those that no head has add nothing.
 use Rattle.std.proofs.Common.{◌≡◌, ◌∙◌, ◌∷◌, ◌++◌, ℕ, zero, suc, ◌+◌, ◌-◌, ◌<◌, ◌≤◌, Bool, true, false, ◌&&◌, ◌||◌, not, nat_eq, nat_lt, cond, List, [], Option, None, Some, refl, ap, sym, subst, inl, inr, arith, add-zero, add-suc, add-one, append-nil, length}
 use Rattle.std.specs.Prelude.{IsSome}
-use Rattle.std.specs.BTreeMap.{BTreeMap, btree_map_len, get}
+use Rattle.std.specs.BTreeMap.{BTreeMap, btree_map_len, get, is_at}
+use Rattle.std.specs.Map.{lookup}
 use Rattle.std.specs.List.{filter, flat_map, list_any}
 use Rattle.std.specs.Ordering.{is_eq, is_gt, nat_cmp}
 use Rattle.std.specs.declared.alloc.Global.{Global}
@@ -171,16 +172,12 @@ pub empty-get : (m : BTreeMap ℕ (Vec GroundClause Global)) (o : Option (ℕ ×
     → (k : ℕ) → get nat_cmp m k ≡ None
 empty-get m o h none k = by m.entries refl
   where
-    at : List (ℕ × Vec GroundClause Global) → Option (Vec GroundClause Global)
-    at es = let n : BTreeMap ℕ (Vec GroundClause Global) = record { entries = es } in get nat_cmp n k
-
     no : (p : Option (ℕ × Vec GroundClause Global)) → p ≡ None → IsSome p → ⊥
     no None e i = false≢true i
     no (Some x) e i = cc
 
     by : (es : List (ℕ × Vec GroundClause Global)) → m.entries ≡ es → get nat_cmp m k ≡ None
-    unfolding at
-    by [] e = ap at e
+    by [] e = ap (lookup (is_at (nat_cmp k))) e
     by (x ∷ es) e =
         let long : length m.entries ≡ length (x ∷ es) = ap length e in
         let some : 0 < btree_map_len m = omega (arith, long) in

@@ -137,8 +137,7 @@ fn plus_model(
     let mut plus = AtomTable::new(alloc);
     for _step in 0..rules.len() {
         let next = next_plus(alloc, entries, rules, &plus)?;
-        if has_all(alloc, &plus, next.as_slice())?
-            && has_all(alloc, &next, plus.as_slice())? {
+        if have_same_atoms(alloc, &plus, &next)? {
             return Ok(plus);
         }
         plus = next;

@@ -1,6 +1,5 @@
 -- The levelled model of what an accepted certificate leaves, above what it says.
-use Rattle.std.proofs.Common.{◌≡◌, ◌∙◌, ℕ, Bool, true, false, ◌||◌, not, nat_eq, List, ◌++◌, Some, ap, sym, inl, inr}
-use Rattle.std.specs.List.{Contains, list_any}
+use Rattle.std.proofs.Common.{◌≡◌, ◌∙◌, ℕ, Bool, true, false, ◌||◌, not, List, ◌++◌, Some, ap, sym}
 use Rattle.std.proofs.lemmas.Bool.{true≢false, eqb-true, false_from_ne_true, not_from_false, or_from, or_left, or_parts}
 use Rattle.std.proofs.lemmas.Map.Views.{Contains-from_any}
 use Rattle.scasp_cert.specs.Certificate.{Certificate}
@@ -57,8 +56,8 @@ module _ (b : Bool) (p : Program) (c : Certificate) (m : Premises b p c) (closed
 
   -- nothing is left of the clauses that are checked
   none-left : NoneLeft p (covered c) m.domain t f
-  none-left number clause is named =
-      covered-gone b p c m number (Contains-from_any (λ x y e. eqb-true x y e) number (covered c) is) clause named
+  none-left =
+      λ number clause is named. covered-gone b p c m number (Contains-from_any (λ x y e. eqb-true x y e) number (covered c) is) clause named
 
   supports : Supports (ground_program m.domain p) t f
   supports = supported b p c m closed

@@ -7,7 +7,7 @@ pub returns-in_ok-has_all-2 : goal.returns-in_ok-has_all-2
 returns-in_ok-has_all-2 c =
     SameAtoms-tested c.args.first.now c.args.second.now c.in_ok-has_all.field-0 c.in_ok-has_all-2.field-0
     (c.in_ok-has_all.ensures ∙ ap (has_all c.args.second.now) c.as_slice.ensures.value) c.if-branch.true
-    (c.in_ok-has_all-2.ensures ∙ ap (has_all c.args.first.now) c.as_slice-2.ensures.value)
+    (c.in_ok-has_all-2.ensures ∙ ap (has_all c.args.first.now) c.as_slice-then-branch.ensures.value)
 
 pub returns-else-branch : goal.returns-else-branch
 returns-else-branch c =
