@@ -1,29 +1,17 @@
 -- Atoms that are found, and sets that grow.
-use Rattle.std.proofs.Common.{◌≡◌, ◌∙◌, ◌∷◌, ◌++◌, ℕ, ◌+◌, Bool, true, false, ◌||◌, cond, List, [], Option, None, Some, refl, ap, sym, is_some, append-nil}
-use Rattle.std.specs.List.{list_any, position_from}
+use Rattle.std.proofs.Common.{◌≡◌, ◌∙◌, ◌∷◌, ◌++◌, Bool, true, false, ◌||◌, List, [], refl, ap, sym, append-nil}
 use Rattle.std.proofs.lemmas.Bool.{cond-true, cond-false}
-use Rattle.std.proofs.lemmas.Iterator.Adapters.{position_from-zero}
 use Rattle.scasp_syntax.specs.Same.{same_atom}
 use Rattle.scasp_syntax.specs.declared.atom.Atom.{Atom}
 use Rattle.scasp_syntax.proofs.SameLemmas.{atom_decided}
 use Rattle.scasp_model.specs.Atoms.{among, SameAtoms}
 use Rattle.scasp_model.proofs.AtomLemmas.{among-append}
-use Rattle.scasp_extend_levels.specs.Sets.{place_of, with_atom, with_atoms}
+use Rattle.scasp_tables.specs.Tables.{with_atom}
+use Rattle.scasp_extend_levels.specs.Sets.{with_atoms}
 
 or-false : (b : Bool) → (b || false) ≡ b
 or-false true = refl
 or-false false = refl
-
-found-from : (n : ℕ) (xs : List Atom) (a : Atom) → is_some (position_from (same_atom a) n xs) ≡ among xs a
-found-from n [] a = refl
-found-from n (x ∷ xs) a = by (same_atom a x) refl (found-from (n + 1) xs a)
-  where
-    by : (b : Bool) → same_atom a x ≡ b → is_some (position_from (same_atom a) (n + 1) xs) ≡ among xs a → is_some (position_from (same_atom a) n (x ∷ xs)) ≡ among (x ∷ xs) a
-    by true e h = rw e refl
-    by false e h = rw e h
-
-pub found_among : (o : Option ℕ) (xs : List Atom) (a : Atom) → o ≡ place_of xs a → is_some o ≡ among xs a
-found_among o xs a e = ap is_some (e ∙ position_from-zero (same_atom a) xs) ∙ found-from 0 xs a
 
 with_atom-among : (xs : List Atom) (x a : Atom) → among (with_atom xs x) a ≡ (among xs a || among (x ∷ []) a)
 with_atom-among xs x a = by (among xs x) refl

@@ -8,21 +8,21 @@ ghost use Rattle.scasp_model.specs.Levelled.{is_lower, levelled_model, read_lowe
 ghost use Rattle.scasp_model.specs.Stable.{is_true_in};
 ghost use Rattle.scasp_sound.specs.MapLevels.{level_of, plus_of};
 
-use crate::atoms::AtomTable;
-use crate::sets::{add_all, contains};
+use crate::sets::add_all;
 use crate::buckets::by_level;
 use crate::entries::{Entries, entries_of, level_in};
 use crate::signs::signed_model;
 use scasp_model::{GroundClause, GroundProgram};
 use scasp_name::Memory;
 use scasp_syntax::{Lit, Lits, PredMaps};
+use scasp_tables::AtomTable;
 use std::alloc::Global;
 
 /// Whether the literal is true where exactly the atoms of the set are.
 fn is_true_in(alloc: Global, set: &AtomTable, literal: &Lit) -> Result<bool, Memory>
     ensures { IfOk result (λ answer. answer ≡ is_true_in set.now literal.now) }
 {
-    let is_there = contains(alloc, set, &literal.atom)?;
+    let is_there = set.contains(alloc, &literal.atom)?;
     Ok(is_there == literal.positive)
 }
 

@@ -1,13 +1,11 @@
 //! The levelled model of ground rules, level by level, and within a level by the two signs.
 #![tactic(auto)]
 
-mod atoms;
 mod buckets;
 mod entries;
 mod levels;
 mod sets;
 mod signs;
 
-pub use atoms::AtomTable;
 pub use levels::levelled;
-pub use sets::contains;
+pub use sets::add_all;

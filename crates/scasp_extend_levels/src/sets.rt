@@ -1,27 +1,19 @@
 //! Sets of atoms.
 ghost use Rattle.std.specs.Prelude.{◌≡◌, ◌↔◌, IfOk, IsTrue, OnOk};
-ghost use Rattle.scasp_model.specs.Atoms.{SameAtoms, among, has_all};
+ghost use Rattle.scasp_model.specs.Atoms.{SameAtoms, has_all};
 ghost use Rattle.scasp_extend_levels.specs.Sets.{with_atoms};
 
-use crate::atoms::AtomTable;
 use scasp_name::Memory;
 use scasp_syntax::Atom;
+use scasp_tables::AtomTable;
 use std::alloc::Global;
-
-/// Whether the atom is in the set.
-#[tactic(auto, using(crate::proofs::SetLemmas::found_among))]
-pub fn contains(alloc: Global, set: &AtomTable, atom: &Atom) -> Result<bool, Memory>
-    ensures { IfOk result (λ answer. answer ≡ among set.now atom.now) }
-{
-    Ok(set.find(alloc, atom)?.is_some())
-}
 
 /// Whether the set has each of the atoms.
 fn has_all(alloc: Global, set: &AtomTable, wanted: &[Atom]) -> Result<bool, Memory>
     ensures { IfOk result (λ answer. answer ≡ has_all set.now wanted.now) }
 {
     for atom in wanted {
-        if !contains(alloc, set, atom)? {
+        if !set.contains(alloc, atom)? {
             return Ok(false);
         }
     }
@@ -40,7 +32,7 @@ pub(crate) fn have_same_atoms(
 }
 
 /// Puts the atoms into the set.
-pub(crate) fn add_all(alloc: Global, set: &mut AtomTable, atoms: &[Atom]) -> Result<(), Memory>
+pub fn add_all(alloc: Global, set: &mut AtomTable, atoms: &[Atom]) -> Result<(), Memory>
     ensures { OnOk result (set.new ≡ with_atoms set.old atoms.now) }
 {
     for atom in atoms {

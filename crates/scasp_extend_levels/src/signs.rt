@@ -8,12 +8,13 @@ ghost use Rattle.scasp_model.specs.Programs.{is_blocked, positive_atoms, rules_f
 ghost use Rattle.scasp_model.specs.Reduct.{reduct};
 ghost use Rattle.scasp_syntax.specs.Same.{same_bool};
 
-use crate::atoms::AtomTable;
-use crate::sets::{add_all, contains, have_same_atoms};
+use crate::sets::{add_all, have_same_atoms};
 use crate::entries::{Entries, plus_in};
+use scasp_closure::closure;
 use scasp_model::{AtomList, DefiniteRule, DefiniteRules, GroundClause};
 use scasp_name::Memory;
 use scasp_syntax::{DeepCopy, Lits, Sequence};
+use scasp_tables::AtomTable;
 use std::alloc::Global;
 
 /// Whether the body has `not` before an atom of the set.
@@ -21,7 +22,7 @@ fn is_blocked(alloc: Global, set: &AtomTable, body: &Lits) -> Result<bool, Memor
     ensures { IfOk result (λ answer. answer ≡ is_blocked set.now body.now) }
 {
     for literal in body.as_slice() {
-        if !literal.positive && contains(alloc, set, &literal.atom)? {
+        if !literal.positive && set.contains(alloc, &literal.atom)? {
             return Ok(true);
         }
     }
@@ -79,14 +80,6 @@ fn signed_reduct(
         push_reduced(alloc, entries, plus, set, rule, &mut made)?;
     }
     Ok(made)
-}
-
-fn closure(alloc: Global, rules: &DefiniteRules) -> Result<AtomList, Memory>
-    ensures { IfOk result (λ made. SameAtoms made (least_model rules.now)) }
-{
-    let _ = rules.len();
-    let _ = AtomList::new(alloc);
-    Err(Memory)
 }
 
 /// The atoms of the least model of the rules.

@@ -7,5 +7,5 @@ use Rattle.scasp_extend_levels.proofs.signs.closed.Goals as goal
 
 pub returns : goal.returns
 returns c =
-    put-same _ _ _ _ (least_model c.args.rules.now) (least_model c.args.rules.now) c.in_ok-add_all.ensures c.as_slice.ensures c.in_ok-atoms.ensures
+    put-same _ _ _ _ (least_model c.args.rules.now) (least_model c.args.rules.now) c.in_ok-add_all.ensures c.as_slice.ensures c.in_ok-atoms.ensures.atoms
     (λ a. ap (λ (xs : List Atom). among (xs ++ least_model c.args.rules.now) a) c.new-set.ensures)
