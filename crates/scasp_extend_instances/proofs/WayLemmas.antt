@@ -1,19 +1,19 @@
 -- Values that are found and values that are given.
-use Rattle.std.proofs.Common.{◌≡◌, ◌∙◌, ◌∷◌, ◌++◌, ℕ, zero, suc, ◌+◌, ◌<◌, Bool, true, false, ◌||◌, nat_eq, List, [], Option, None, Some, length, get_or, drop, map, slice_get, refl, ap, sym, subst, arith, add-one}
+use Rattle.std.proofs.Common.{◌≡◌, ◌∙◌, ◌∷◌, ℕ, zero, suc, ◌+◌, ◌<◌, Bool, true, false, ◌||◌, nat_eq, List, [], Option, None, Some, length, get_or, drop, map, slice_get, refl, ap, sym, subst, arith}
 use Rattle.std.specs.Borrow.{Bor}
-use Rattle.std.specs.List.{flat_map, list_any}
+use Rattle.std.specs.List.{list_any}
 use Rattle.std.specs.Option.{option_copied, option_map}
-use Rattle.std.specs.Prelude.{MatchOption, Result, Err}
+use Rattle.std.specs.Prelude.{MatchOption, Err}
+use Rattle.std.proofs.Math.Seq.{drop-cons}
 use Rattle.std.proofs.lemmas.Bool.{cond-false, cond-true, or_left, or_right}
 use Rattle.scasp_ground.specs.declared.error.GroundErr.{GroundErr}
 use Rattle.scasp_ground.specs.declared.error.GroundErr.TheVariants as errors
 use Rattle.scasp_lines.specs.Opened.{Opened}
 use Rattle.scasp_lines.specs.Openings.{bound_to}
-use Rattle.scasp_lines.specs.Ways.{set_all, set_to}
 use Rattle.scasp_num.specs.Number.{zero_number}
 use Rattle.scasp_syntax.specs.Tm.{Tm, num}
 use Rattle.scasp_syntax.specs.Values.{Sub}
-use Rattle.scasp_syntax.specs.View.{tm_of, tms_of}
+use Rattle.scasp_syntax.specs.View.{tm_of}
 use Rattle.scasp_syntax.specs.declared.term.Term.{Term}
 use Rattle.scasp_extend_instances.specs.Values.{valued}
 use Rattle.scasp_extend_instances.specs.View.{Makes, with_all}
@@ -39,30 +39,21 @@ match-same o a b e h = let P : Tm → Type 0 = λ z. MatchOption o (z ≡ num ze
 -- a value that is found among those that were bound
 pub bound-at : (bs : List (ℕ × Tm)) (v : Sub) (x : ℕ) (t : Tm) → bound_to bs x ≡ Some t → with_all bs v x ≡ t
 bound-at [] v x t e = cc
-bound-at (b ∷ bs) v x t e = by (nat_eq x b.0) refl
+bound-at (b ∷ bs) v x t e = by (nat_eq x b.0) refl (bound-at bs v x t)
   where
-    by : (p : Bool) → nat_eq x b.0 ≡ p → with_all (b ∷ bs) v x ≡ t
-    by true s = cond-true (nat_eq x b.0) b.1 (with_all bs v x) s ∙ some-is b.1 t (sym (cond-true (nat_eq x b.0) (Some b.1) (bound_to bs x) s) ∙ e)
-    by false s =
-        cond-false (nat_eq x b.0) b.1 (with_all bs v x) s ∙ bound-at bs v x t (sym (cond-false (nat_eq x b.0) (Some b.1) (bound_to bs x) s) ∙ e)
+    by : (p : Bool) → nat_eq x b.0 ≡ p → (bound_to bs x ≡ Some t → with_all bs v x ≡ t) → with_all (b ∷ bs) v x ≡ t
+    by true s r = cond-true (nat_eq x b.0) b.1 (with_all bs v x) s ∙ some-is b.1 t (sym (cond-true (nat_eq x b.0) (Some b.1) (bound_to bs x) s) ∙ e)
+    by false s r =
+        cond-false (nat_eq x b.0) b.1 (with_all bs v x) s ∙ r (sym (cond-false (nat_eq x b.0) (Some b.1) (bound_to bs x) s) ∙ e)
 
 pub bound-none : (bs : List (ℕ × Tm)) (v : Sub) (x : ℕ) → bound_to bs x ≡ None → with_all bs v x ≡ v x
 bound-none [] v x e = refl
-bound-none (b ∷ bs) v x e = by (nat_eq x b.0) refl
+bound-none (b ∷ bs) v x e = by (nat_eq x b.0) refl (bound-none bs v x)
   where
-    by : (p : Bool) → nat_eq x b.0 ≡ p → with_all (b ∷ bs) v x ≡ v x
-    by true s = let no : Some b.1 ≡ None = sym (cond-true (nat_eq x b.0) (Some b.1) (bound_to bs x) s) ∙ e in cc
-    by false s =
-        cond-false (nat_eq x b.0) b.1 (with_all bs v x) s ∙ bound-none bs v x (sym (cond-false (nat_eq x b.0) (Some b.1) (bound_to bs x) s) ∙ e)
-
--- one part more in front of those that were given
-pub with-part : (way made next : Sub) (parts : List Term) (part : Term) (k i : ℕ) → drop i parts ≡ part ∷ drop (i + 1) parts
-    → made ≡ set_all way (k + (i + 1)) (tms_of (drop (i + 1) parts)) → next ≡ set_to made (k + i) (tm_of part)
-    → next ≡ set_all way (k + i) (tms_of (drop i parts))
-with-part way made next parts part k i e h g =
-    let step : k + (i + 1) ≡ suc (k + i) = omega arith in
-    g ∙ ap (λ (v : Sub). set_to v (k + i) (tm_of part)) (h ∙ ap (λ n. set_all way n (tms_of (drop (i + 1) parts))) step)
-    ∙ ap (λ ts. set_all way (k + i) (tms_of ts)) (sym e)
+    by : (p : Bool) → nat_eq x b.0 ≡ p → (bound_to bs x ≡ None → with_all bs v x ≡ v x) → with_all (b ∷ bs) v x ≡ v x
+    by true s r = let no : Some b.1 ≡ None = sym (cond-true (nat_eq x b.0) (Some b.1) (bound_to bs x) s) ∙ e in cc
+    by false s r =
+        cond-false (nat_eq x b.0) b.1 (with_all bs v x) s ∙ r (sym (cond-false (nat_eq x b.0) (Some b.1) (bound_to bs x) s) ∙ e)
 
 -- an overflow stays one where more is asked
 pub makes-later : {A B : Type 0} (e : GroundErr) (b c : Bool) (P : A → Type 0) (Q : B → Type 0) → (b ≡ true → c ≡ true)
@@ -72,7 +63,19 @@ makes-later errors.Overflow b c P Q f h = f h
 makes-later errors.Memory b c P Q f h = h
 
 -- and where more opens behind it
-pub overflows-behind : (d : List Tm) (v : Sub) (more os : List Opened) → overflows d os v ≡ true → overflows d (more ++ os) v ≡ true
-overflows-behind d v [] os h = h
-overflows-behind d v (o ∷ more) os h =
-    or_left (overflows d (more ++ os) v) (list_any (entry_overflows o) (ways_within d (more ++ os) v)) (overflows-behind d v more os h)
+overflows-behind : {E : Type 0} (f : E → Opened) (d : List Tm) (v : Sub) (i : ℕ) (es : List E) → overflows d (map f (drop i es)) v ≡ true → overflows d (map f es) v ≡ true
+overflows-behind f d v zero es h = h
+overflows-behind f d v (suc i) [] h = h
+overflows-behind f d v (suc i) (e ∷ es) h =
+    or_left (overflows d (map f es) v) (list_any (entry_overflows (f e)) (ways_within d (map f es) v)) (overflows-behind f d v i es h)
+
+-- an entry that overflows at an instance of those behind it
+pub overflows-at : {E : Type 0} (f : E → Opened) (d : List Tm) (v : Sub) (es : List E) (i j : ℕ) (x : E) (ws : List Sub) → i + 1 ≡ j → i < length es → x ≡ get_or es i x
+    → ws ≡ ways_within d (map f (drop j es)) v → list_any (entry_overflows (f x)) ws ≡ true → overflows d (map f es) v ≡ true
+overflows-at f d v es i j x ws next below at w h =
+    let step : suc i ≡ j = omega arith in
+    let split : drop i es ≡ x ∷ drop j es = drop-cons es i x below ∙ ap (λ y. y ∷ drop (suc i) es) (sym at) ∙ ap (λ k. x ∷ drop k es) step in
+    overflows-behind f d v i es
+    (ap (λ ys. overflows d (map f ys) v) split
+    ∙ or_right (overflows d (map f (drop j es)) v) (list_any (entry_overflows (f x)) (ways_within d (map f (drop j es)) v))
+    (ap (list_any (entry_overflows (f x))) (sym w) ∙ h))

@@ -8,9 +8,9 @@ ghost use Rattle.scasp_model.specs.Levelled.{is_lower, levelled_model, read_lowe
 ghost use Rattle.scasp_model.specs.Stable.{is_true_in};
 ghost use Rattle.scasp_sound.specs.MapLevels.{level_of, plus_of};
 
-use crate::sets::add_all;
 use crate::buckets::by_level;
 use crate::entries::{Entries, entries_of, level_in};
+use crate::sets::add_all;
 use crate::signs::signed_model;
 use scasp_model::{GroundClause, GroundProgram};
 use scasp_name::Memory;
@@ -120,11 +120,7 @@ fn add_level(
 
 /// The levelled model of the rules, by the levels and signs of a map. It goes once through the rules of each level that a head
 /// has, and there as often as the atoms with `+` change.
-pub fn levelled(
-    alloc: Global,
-    map: &PredMaps,
-    rules: GroundProgram,
-) -> Result<AtomTable, Memory>
+pub fn levelled(alloc: Global, map: &PredMaps, rules: GroundProgram) -> Result<AtomTable, Memory>
     ensures { IfOk result (λ made. SameAtoms made (levelled_model (level_of map.now) (plus_of map.now) rules)) }
 {
     let entries = entries_of(alloc, map)?;

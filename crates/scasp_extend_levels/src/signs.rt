@@ -8,8 +8,8 @@ ghost use Rattle.scasp_model.specs.Programs.{is_blocked, positive_atoms, rules_f
 ghost use Rattle.scasp_model.specs.Reduct.{reduct};
 ghost use Rattle.scasp_syntax.specs.Same.{same_bool};
 
-use crate::sets::{add_all, have_same_atoms};
 use crate::entries::{Entries, plus_in};
+use crate::sets::{add_all, have_same_atoms};
 use scasp_closure::closure;
 use scasp_model::{AtomList, DefiniteRule, DefiniteRules, GroundClause};
 use scasp_name::Memory;
@@ -120,11 +120,7 @@ fn next_plus(
 }
 
 /// The atoms with `+`, step by step from nothing, until a step gives the same again.
-fn plus_model(
-    alloc: Global,
-    entries: &Entries,
-    rules: &[GroundClause],
-) -> Result<AtomTable, Memory>
+fn plus_model(alloc: Global, entries: &Entries, rules: &[GroundClause]) -> Result<AtomTable, Memory>
     ensures { IfOk result (λ made. SameAtoms made (plus_model (plus_in entries.now) rules.now)) }
 {
     let mut plus = AtomTable::new(alloc);
