@@ -10,10 +10,10 @@ use Rattle.scasp_command_inputs.specs.Texts.{off_grammar, past_limit, refusal_li
 use Rattle.scasp_command_inputs.specs.declared.halt.Halt.{Halt}
 use Rattle.scasp_command_inputs.specs.declared.refusals.Input.TheVariants as input
 use Rattle.scasp_command_inputs.specs.declared.status.Status.{Status}
-use Rattle.scasp_command_inputs.specs.declared.status.Status.TheVariants.{Limit, Text}
+use Rattle.scasp_command_inputs.specs.declared.status.Status.TheVariants.{Limit, Text, Usage}
 use Rattle.scasp_io.specs.Counts.{Rose}
 use Rattle.scasp_serve_top.specs.Inputs.{AreCommands, HasNoCommands, RefusesLine, refused, too_long, unread}
-use Rattle.scasp_serve_top.specs.Outputs.{Asked, Outputs, no_commands, no_program, nothing, serves}
+use Rattle.scasp_serve_top.specs.Outputs.{Asked, Outputs, no_commands, no_program, nothing, serves, usage, usage_line}
 use Rattle.scasp_serve_top.specs.Served.{Serves}
 use Rattle.scasp_serve_top.specs.declared.inputs.TheConstants.{BYTE_LIMIT}
 use Rattle.scasp_serve_words.specs.Reading.{commands_in}
@@ -87,3 +87,16 @@ module _ (a : Asked) (told : List ℕ → Option (List ℕ)) (first : List ℕ �
       (λ text s r.
       serves a p names commands refl is (subst (λ (t : Option (List ℕ)). AreCommands t commands) stays are)
       (subst (λ (cs : List Command). Serves p names cs text s) same r))
+
+-- ---- the words
+
+module _ (asked : Option Asked) (o : Outside) (taken taken' : Option (List ℕ)) (faults faults' : ℕ) (status : Status) where
+  -- they name these files
+  pub words-report : (a : Asked) → asked ≡ Some a → Reports (Outputs (Some a) o) taken taken' faults faults' status → Reports (Outputs asked o) taken taken' faults faults' status
+  words-report a is reports =
+      let P : Option Asked → Type 0 = λ x. Reports (Outputs x o) taken taken' faults faults' status in
+      subst P (sym is) reports
+
+  -- they are not two
+  pub usage-report : asked ≡ None → Reports (Says usage_line Usage) taken taken' faults faults' status → Reports (Outputs asked o) taken taken' faults faults' status
+  usage-report is = reports-widen (Says usage_line Usage) (Outputs asked o) taken taken' faults faults' status (λ text s says. usage is says)

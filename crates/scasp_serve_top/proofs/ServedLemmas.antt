@@ -1,5 +1,5 @@
 -- The replies to all commands, one after the other.
-use Rattle.std.proofs.Common.{◌≡◌, ◌∙◌, ℕ, ◌+◌, List, [], ◌∷◌, ◌++◌, drop, length, Option, None, Some, Result, Ok, Err, refl, ap, sym, subst, arith, append_assoc, length-append}
+use Rattle.std.proofs.Common.{◌≡◌, ◌∙◌, ℕ, ◌+◌, ◌≤◌, List, [], ◌∷◌, ◌++◌, drop, length, Option, None, Some, Result, Ok, Err, refl, ap, sym, subst, arith, append_assoc, length-append}
 use Rattle.std.proofs.lemmas.List.{append-nil}
 use Rattle.std.proofs.lemmas.Grind.{flat_map-append}
 use Rattle.scasp_command_inputs.specs.Reports.{Reports, whole, part}
@@ -80,13 +80,25 @@ module _ (p : Program) (names : List (List ℕ)) (commands : List Command) where
     taken = g.taken;
   }
 
-  pub served-all : (count : ℕ) (s : Standing) (old new : Option (List ℕ)) → count ≡ length commands → Going p names commands count s old new
+  -- there are no more replies than commands
+  replies-few : (s : Standing) (cs : List Command) (rs : List Reply) → RepliesAll p names s cs rs → length rs ≤ length cs
+  replies-few s cs [] h = omega arith
+  replies-few s [] (r ∷ rs) h = absurd h
+  replies-few s (c ∷ cs) (r ∷ rs) h =
+      let k = replies-few h.0 cs rs h.2 in
+      omega (arith, k)
+
+  pub served-all : (count : ℕ) (s : Standing) (old new : Option (List ℕ)) → length commands ≤ count → Going p names commands count s old new
       → Writes (IsServed p names commands) old new (Ok tt)
-  served-all count s old new all g = record {
-    text = replies_text g.told;
-    may = record { told = g.told; replies = told-alone count s old new g; text_is = refl; whole = g.counted ∙ all };
-    taken = g.taken;
-  }
+  served-all count s old new all g =
+      let few = replies-few at_start commands g.told (told-alone count s old new g) in
+      let counted = g.counted in
+      let as_many : length g.told ≡ length commands = omega (arith, few, counted, all) in
+      record {
+        text = replies_text g.told;
+        may = record { told = g.told; replies = told-alone count s old new g; text_is = refl; whole = as_many };
+        taken = g.taken;
+      }
 
   -- ---- the status
 

@@ -1,5 +1,5 @@
 //! The whole call.
-ghost use Rattle.std.specs.Prelude.{◌≡◌, ◌⊎◌, Some, map, string_bytes};
+ghost use Rattle.std.specs.Prelude.{◌≡◌, ◌⊎◌, Some, None, IsNone, IfSome, map, string_bytes};
 ghost use Rattle.scasp_command_inputs.specs.Inputs.{outside, without_faults};
 ghost use Rattle.scasp_command_inputs.specs.Reports.{Reports};
 ghost use Rattle.scasp_io.specs.Counts.{Rose};
@@ -36,20 +36,29 @@ fn serve_files<F: Files, K: Sink>(
     }
 }
 
+/// The two files that the words name, if they are two words.
+fn files_in(words: &[String]) -> Option<(&str, &str)>
+    ensures none { IsNone result → asked_of (map string_bytes words.now) ≡ None }
+    ensures some { IfSome result (λ x. asked_of (map string_bytes words.now) ≡ Some (record { program = x.0.now; commands = x.1.now })) }
+{
+    match words {
+        [program, commands] => Some((program.as_str(), commands.as_str())),
+        _ => None,
+    }
+}
+
 /// Serves what the words ask for.
 fn serve_words<F: Files, K: Sink>(
     alloc: Global,
-    words: &Vec<String>,
+    words: &[String],
     files: &mut F,
     out: &mut K,
 ) -> Status
-    ensures { Reports (Outputs (asked_of (map string_bytes words.now.items)) (outside (F.told files.old) (F.faults files.old) (F.faults files.new))) (K.taken out.old) (K.taken out.new) (K.faults out.old) (K.faults out.new) result }
+    ensures { Reports (Outputs (asked_of (map string_bytes words.now)) (outside (F.told files.old) (F.faults files.old) (F.faults files.new))) (K.taken out.old) (K.taken out.new) (K.faults out.old) (K.faults out.new) result }
 {
-    match words.as_slice() {
-        [program, commands] => {
-            serve_files(alloc, program.as_str(), commands.as_str(), files, out)
-        }
-        _ => print(USAGE_LINE, Status::Usage, out),
+    match files_in(words) {
+        Some((program, commands)) => serve_files(alloc, program, commands, files, out),
+        None => print(USAGE_LINE, Status::Usage, out),
     }
 }
 
@@ -70,5 +79,5 @@ pub fn serve<F: Files, K: Sink>(
         → ¬ Rose (K.faults out.old) (K.faults out.new)
         → (result ≡ ServeStatus.Memory) ⊎ TakesWhole (λ text. Outputs (asked_of (map string_bytes words.now.items)) (without_faults (outside (F.told files.old) (F.faults files.old) (F.faults files.new))) text (status_of result)) (K.taken out.old) (K.taken out.new) }
 {
-    serve_status(serve_words(alloc, words, files, out))
+    serve_status(serve_words(alloc, words.as_slice(), files, out))
 }
