@@ -111,12 +111,7 @@ fn next_of(search: &mut Search) -> Result<Event, Stop> {
 }
 
 /// The next event of both searches is this one.
-fn both_met(
-    alloc: Global,
-    names: &Names,
-    searches: &mut Searches,
-    told: Told,
-) -> Result<(), Stop> {
+fn both_met(alloc: Global, names: &Names, searches: &mut Searches, told: Told) -> Result<(), Stop> {
     let event = searches.written.next()?;
     met(alloc, names, &event, searches.written.calls(), told)?;
     let event = next_of(&mut searches.suspended)?;

@@ -4,7 +4,7 @@ ghost use Rattle.std.specs.Prelude.{◌≡◌, map, IfOk};
 use crate::parts::Parts;
 use crate::text::{are_accepted, put_program, put_visited, worth_in};
 use scasp_answers::Entries;
-use scasp_command_check::{Rechecked, block_line};
+use scasp_command_check::block_line;
 use scasp_list::{Memory, Sequence};
 use scasp_recheck::Recheck;
 use scasp_syntax::Program;
@@ -19,13 +19,13 @@ pub struct Blocks {
 }
 
 impl Blocks {
-    ghost use Rattle.std.specs.Prelude.{◌<◌, ◌++◌, List, length, slice_get, OnOk};
-    ghost use Rattle.std.specs.List.{concat};
+    ghost use Rattle.std.specs.Prelude.{◌<◌, ◌++◌, List, Some, length, slice_get, OnOk};
+    ghost use Rattle.std.specs.List.{concat, list_all};
     ghost use Rattle.scasp_answers.specs.Blocks.States.{Entry as ThisEntry};
     ghost use Rattle.scasp_answers.specs.Files.View.{entry_of};
     ghost use Rattle.scasp_syntax.specs.declared.program.Program.{Program as ThisProgram};
     ghost use Rattle.scasp_touched.specs.Touched.{touched_count};
-    ghost use Rattle.scasp_command_check.specs.Texts.{rechecked_of};
+    ghost use Rattle.scasp_command_check.specs.Texts.{passes};
     ghost use Rattle.scasp_command_recheck.specs.Blocks.{block_certs};
     ghost use Rattle.scasp_command_recheck.specs.Texts.{program_text};
     ghost use Rattle.scasp_command_recheck.specs.Lines.{line_at, lines_by};
@@ -56,7 +56,8 @@ impl Blocks {
         ensures blocks { (p : ThisProgram) (entries : List ThisEntry) → AreBlocks self.old p entries → OnOk result (AreBlocks self.new program.now entries) }
         ensures visited { (p : ThisProgram) (entries : List ThisEntry) → AreBlocks self.old p entries → IfOk result (λ visited. visited ≡ touched_count p program.now (block_certs entries)) }
     {
-        self.recheck.update(program)
+        let visited = self.recheck.update(program)?;
+        Ok(visited)
     }
 
     /// The text of the blocks under the program, which is the one of this number.
@@ -89,24 +90,36 @@ impl Blocks {
         requires { place < length (certs_in self.now.recheck) }
         ensures { OnOk result (text.new.items ≡ text.old.items ++ line_at (program_of self.now.recheck) (slice_get self.now.numbers place) (slice_get (certs_in self.now.recheck) place)) }
     {
-        let Some(number) = self.numbers.get(place as usize) else {
-            return Ok(());
-        };
-        let worth = worth_in(*self.recheck.result(place));
-        let line = block_line(alloc, *number, self.recheck.cert(place), worth)?;
+        match self.numbers.get(place as usize) {
+            Some(number) => self.put_block(alloc, place, *number, text),
+            None => Ok(()),
+        }
+    }
+
+    /// Puts the line of a block at the end, whose answer has this number.
+    fn put_block(
+        &self,
+        alloc: Global,
+        place: u64,
+        number: u64,
+        text: &mut Vec<u8>,
+    ) -> Result<(), Memory>
+        requires { place < length (certs_in self.now.recheck) }
+        ensures { OnOk result (text.new.items ≡ text.old.items ++ line_at (program_of self.now.recheck) (Some number) (slice_get (certs_in self.now.recheck) place)) }
+    {
+        let checked = self.recheck.result(place);
+        let certificate = self.recheck.cert(place);
+        let worth = worth_in(*checked);
+        let line = block_line(alloc, number, certificate, worth)?;
         text.extend_from_slice(line.as_slice())?;
         Ok(())
     }
 
     /// Whether all blocks are accepted under the program.
-    pub fn outcome(&self) -> Rechecked
-        ensures { (p : ThisProgram) (entries : List ThisEntry) → AreBlocks self.now p entries → result ≡ rechecked_of p entries }
+    pub fn are_accepted(&self) -> bool
+        ensures { (p : ThisProgram) (entries : List ThisEntry) → AreBlocks self.now p entries → result ≡ list_all (passes p) entries }
     {
-        if are_accepted(self.recheck.results()) {
-            Rechecked::Accepted
-        } else {
-            Rechecked::Refused
-        }
+        are_accepted(self.recheck.results())
     }
 
     /// The number of blocks.

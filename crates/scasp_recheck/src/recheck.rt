@@ -56,8 +56,9 @@ impl Recheck {
     {
         let edit = Edit::between(self.alloc, &self.program, program)?;
         let mut tally = Tally::new(self.alloc);
-        for filed in self.certs.as_slice() {
-            tally.put(self.alloc, &edit, filed)?;
+        let results = self.results.as_slice();
+        for (place, filed) in self.certs.as_slice().iter().enumerate() {
+            tally.put(self.alloc, &edit, filed, results[place])?;
         }
         Ok(tally)
     }

@@ -1,0 +1,5 @@
+pub mod SetLemmas
+mod EntryLemmas
+mod BucketLemmas
+mod SignLemmas
+mod LevelLemmas

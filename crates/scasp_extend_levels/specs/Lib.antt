@@ -1,0 +1,4 @@
+pub mod Sets
+pub mod Entries
+pub mod Buckets
+pub mod Inside

@@ -1,0 +1,174 @@
+-- Covers that are kept, behind each change.
+use Rattle.std.proofs.Common.{◌≡◌, ◌+◌, ◌-◌, ◌<◌, ◌≤◌, ℕ, zero, suc, Bool, true, false, nat_eq, if◌then◌else◌, List, [], ◌∷◌, ◌++◌, length, map, take, slice_get, slice_set, Option, None, Some, arith, refl, ap, sym, ◌∙◌}
+use Rattle.std.proofs.lemmas.Bool.Decides.{Decides-eqb}
+use Rattle.std.proofs.lemmas.List.{nil_from_length, length-append}
+use Rattle.std.specs.Option.{option_map}
+use Rattle.scasp_forall.specs.Covers.{first_of, is_there, last_cover, next_of, on_last, opening_of, universals_of, waits_in}
+use Rattle.scasp_forall.specs.Inside.Kept.{cover_of, covers_from, remainder_of}
+use Rattle.scasp_forall.specs.Inside.Listed.{listed}
+use Rattle.scasp_forall.specs.declared.scope.Rest.{Rest}
+use Rattle.scasp_forall.specs.declared.scope.Scope.{Scope}
+use Rattle.scasp_lines_places.specs.Places.Chains.{chained}
+use Rattle.scasp_search_rules.specs.Successors.Splits.{at_depth}
+use Rattle.scasp_search_rules.specs.declared.states.covers.Cover.{Cover}
+use Rattle.scasp_search_rules.specs.declared.states.covers.Remainder.{Remainder}
+use Rattle.scasp_trail.specs.Past.{earlier, latest}
+
+length-from : (d : ℕ) (ss : List Scope) → length (covers_from d ss) ≡ length ss
+length-from d [] = refl
+length-from d (s ∷ ss) = ap suc (length-from (suc d) ss)
+
+pub covers_length : (ss : List Scope) → length (covers_from 1 ss) ≡ length ss
+covers_length ss = length-from 1 ss
+
+-- ---- one cover more, and one fewer
+
+more_from : (d j : ℕ) (ss : List Scope) (s : Scope) → d + length ss ≡ j → covers_from d (ss ++ s ∷ []) ≡ covers_from d ss ++ cover_of j s ∷ []
+more_from d j [] s q = let p : d ≡ j = omega (arith, q) in ap (λ (k : ℕ). cover_of k s ∷ []) p
+more_from d j (r ∷ ss) s q = ap (λ cs. cover_of d r ∷ cs) (more_from (suc d) j ss s (omega (arith, q)))
+
+pub one_more : (ss : List Scope) (s : Scope) (c : ℕ → Cover) → ((d : ℕ) → cover_of d s ≡ c d) → covers_from 1 (ss ++ s ∷ []) ≡ covers_from 1 ss ++ c (length (covers_from 1 ss) + 1) ∷ []
+one_more ss s c h =
+    let j : ℕ = length (covers_from 1 ss) + 1 in
+    more_from 1 j ss s (omega (arith, covers_length ss)) ∙ ap (λ b. covers_from 1 ss ++ b ∷ []) (h j)
+
+taken_from : (d n : ℕ) (ss : List Scope) → covers_from d (take n ss) ≡ take n (covers_from d ss)
+taken_from d zero ss = refl
+taken_from d (suc n) [] = refl
+taken_from d (suc n) (s ∷ ss) = ap (λ cs. cover_of d s ∷ cs) (taken_from (suc d) n ss)
+
+pub covers_taken : (n : ℕ) (ss : List Scope) → covers_from 1 (take n ss) ≡ take n (covers_from 1 ss)
+covers_taken n ss = taken_from 1 n ss
+
+-- ---- the cover of a depth
+
+unequal : (a b : ℕ) → a < b → nat_eq a b ≡ false
+unequal a b h = by (nat_eq a b) refl
+  where
+    by : (c : Bool) → nat_eq a b ≡ c → c ≡ false
+    by true e = absurd (omega (arith, h, (Decides-eqb a b).0 e))
+    by false e = refl
+
+unequal_below : (a b : ℕ) → b < a → nat_eq a b ≡ false
+unequal_below a b h = by (nat_eq a b) refl
+  where
+    by : (c : Bool) → nat_eq a b ≡ c → c ≡ false
+    by true e = absurd (omega (arith, h, (Decides-eqb a b).0 e))
+    by false e = refl
+
+untouched : (d j : ℕ) (f : Cover → Cover) (ss : List Scope) → j < d → at_depth j f (covers_from d ss) ≡ covers_from d ss
+untouched d j f [] h = refl
+untouched d j f (s ∷ ss) h =
+    let c : Cover = cover_of d s in
+    λ i. (if unequal_below d j h i then f c else c) ∷ untouched (suc d) j f ss (omega (arith, h)) i
+
+beyond_from : (d j : ℕ) (f : Cover → Cover) (ss : List Scope) → d + length ss ≤ j → at_depth j f (covers_from d ss) ≡ covers_from d ss
+beyond_from d j f [] h = refl
+beyond_from d j f (s ∷ ss) h =
+    let c : Cover = cover_of d s in
+    λ i. (if unequal d j (omega (arith, h)) i then f c else c) ∷ beyond_from (suc d) j f ss (omega (arith, h)) i
+
+changed_from : (d j n : ℕ) (f : Cover → Cover) (ss : List Scope) (s t : Scope) → d + n ≡ j → slice_get ss n ≡ Some s → cover_of j t ≡ f (cover_of j s)
+    → covers_from d (slice_set ss n t) ≡ at_depth j f (covers_from d ss)
+changed_from d j n f [] s t q g h = absurd (cc g)
+changed_from d j zero f (r ∷ ss) s t q g h =
+    let p : d ≡ j = omega (arith, q) in
+    let e : r ≡ s = cc g in
+    let c : Cover = cover_of d r in
+    λ i. (ap (λ (k : ℕ). cover_of k t) p ∙ h ∙ (λ k. f (cover_of (sym p k) (sym e k))) ∙ ap (λ (b : Bool). if b then f c else c) (sym ((Decides-eqb d j).1 p))) i
+    ∷ sym (untouched (suc d) j f ss (omega (arith, q))) i
+changed_from d j (suc n) f (r ∷ ss) s t q g h =
+    let c : Cover = cover_of d r in
+    λ i. ap (λ (b : Bool). if b then f c else c) (sym (unequal d j (omega (arith, q)))) i ∷ changed_from (suc d) j n f ss s t (omega (arith, q)) g h i
+
+-- no cover has depth 0
+pub none_outside : (j : ℕ) (f : Cover → Cover) (ss : List Scope) → j < 1 → covers_from 1 ss ≡ at_depth j f (covers_from 1 ss)
+none_outside j f ss h = sym (untouched 1 j f ss h)
+
+-- nor one past the innermost
+pub none_inside : (j : ℕ) (f : Cover → Cover) (ss : List Scope) → 0 < j → length ss ≤ j - 1 → covers_from 1 ss ≡ at_depth j f (covers_from 1 ss)
+none_inside j f ss p h = sym (beyond_from 1 j f ss (omega (arith, p, h)))
+
+pub changed_at : (j : ℕ) (f : Cover → Cover) (ss : List Scope) (s t : Scope) → 0 < j → slice_get ss (j - 1) ≡ Some s → ((d : ℕ) → cover_of d t ≡ f (cover_of d s))
+    → covers_from 1 (slice_set ss (j - 1) t) ≡ at_depth j f (covers_from 1 ss)
+changed_at j f ss s t p g h = changed_from 1 j (j - 1) f ss s t (omega (arith, p)) g (h j)
+
+-- ---- the innermost cover
+
+pub no_last : (ss : List Scope) → length ss ≡ 0 → last_cover (covers_from 1 ss) ≡ None
+no_last [] h = refl
+no_last (s ∷ ss) h = absurd (omega (arith, h))
+
+last_from : (d j : ℕ) (ss : List Scope) (s : Scope) → d + length ss ≡ j → last_cover (covers_from d (ss ++ s ∷ [])) ≡ Some (cover_of j s)
+last_from d j [] s q = let p : d ≡ j = omega (arith, q) in ap (λ (k : ℕ). Some (cover_of k s)) p
+last_from d j (r ∷ []) s q = let p : suc d ≡ j = omega (arith, q) in ap (λ (k : ℕ). Some (cover_of k s)) p
+last_from d j (r ∷ q' ∷ ss) s q = last_from (suc d) j (q' ∷ ss) s (omega (arith, q))
+
+pub last_is : (ss before : List Scope) (s : Scope) → ss ≡ before ++ s ∷ [] → last_cover (covers_from 1 ss) ≡ Some (cover_of (1 + length before) s)
+last_is ss before s e = ap (λ rs. last_cover (covers_from 1 rs)) e ∙ last_from 1 (1 + length before) before s refl
+
+pub no_opening : (ss : List Scope) → length ss ≡ 0 → None ≡ option_map opening_of (last_cover (covers_from 1 ss))
+no_opening ss h = sym (ap (option_map opening_of) (no_last ss h))
+
+pub opening_is : (ss before : List Scope) (s : Scope) → ss ≡ before ++ s ∷ [] → Some s.opening ≡ option_map opening_of (last_cover (covers_from 1 ss))
+opening_is ss before s e = sym (ap (option_map opening_of) (last_is ss before s e))
+
+pub no_universals : (ss : List Scope) → length ss ≡ 0 → [] ≡ universals_of (last_cover (covers_from 1 ss))
+no_universals ss h = sym (ap universals_of (no_last ss h))
+
+pub universals_are : (ss before : List Scope) (s : Scope) → ss ≡ before ++ s ∷ [] → listed s.universals ≡ universals_of (last_cover (covers_from 1 ss))
+universals_are ss before s e = sym (ap universals_of (last_is ss before s e))
+
+pub no_rest : (ss : List Scope) → length ss ≡ 0 → None ≡ next_of (last_cover (covers_from 1 ss))
+no_rest ss h = sym (ap next_of (no_last ss h))
+
+pub rest_none : (ss before : List Scope) (s : Scope) → ss ≡ before ++ s ∷ [] → chained s.waiting ≡ [] → None ≡ next_of (last_cover (covers_from 1 ss))
+rest_none ss before s e w = sym (ap next_of (last_is ss before s e) ∙ ap (λ (rs : List Rest). first_of (map remainder_of rs)) w)
+
+pub rest_is : (ss before : List Scope) (s : Scope) (r : Rest) (rs : List Rest) → ss ≡ before ++ s ∷ [] → chained s.waiting ≡ r ∷ rs → Some (remainder_of r) ≡ next_of (last_cover (covers_from 1 ss))
+rest_is ss before s r rs e w = sym (ap next_of (last_is ss before s e) ∙ ap (λ (qs : List Rest). first_of (map remainder_of qs)) w)
+
+pub is_waiting : (c : Option Cover) (r : Remainder) → Some r ≡ next_of c → true ≡ waits_in c
+is_waiting c r e = ap is_there e
+
+pub none_waiting : (c : Option Cover) → None ≡ next_of c → false ≡ waits_in c
+none_waiting c e = ap is_there e
+
+on_last_from : (d n : ℕ) (f : Cover → Cover) (ss : List Scope) (s t : Scope) → n ≡ length ss → ((k : ℕ) → cover_of k t ≡ f (cover_of k s))
+    → covers_from d (slice_set (ss ++ s ∷ []) n t) ≡ on_last f (covers_from d (ss ++ s ∷ []))
+on_last_from d zero f [] s t q h = ap (λ c. c ∷ []) (h d)
+on_last_from d (suc n) f [] s t q h = absurd (omega (arith, q))
+on_last_from d zero f (r ∷ ss) s t q h = absurd (omega (arith, q))
+on_last_from d (suc n) f (r ∷ []) s t q h =
+    let z : n ≡ 0 = omega (arith, q) in
+    ap (λ (k : ℕ). cover_of d r ∷ covers_from (suc d) (slice_set (s ∷ []) k t)) z ∙ ap (λ c. cover_of d r ∷ c ∷ []) (h (suc d))
+on_last_from d (suc n) f (r ∷ p ∷ ss) s t q h = ap (λ cs. cover_of d r ∷ cs) (on_last_from (suc d) n f (p ∷ ss) s t (omega (arith, q)) h)
+
+pub last_changed : (f : Cover → Cover) (ss before : List Scope) (s t : Scope) (n : ℕ) → ss ≡ before ++ s ∷ [] → n ≡ length ss - 1 → ((k : ℕ) → cover_of k t ≡ f (cover_of k s))
+    → covers_from 1 (slice_set ss n t) ≡ on_last f (covers_from 1 ss)
+last_changed f ss before s t n e q h =
+    let m : n ≡ length before = omega (arith, q, ap length e, length-append before (s ∷ [])) in
+    ap (λ rs. covers_from 1 (slice_set rs n t)) e ∙ on_last_from 1 n f before s t m h ∙ ap (λ rs. on_last f (covers_from 1 rs)) (sym e)
+
+kept_from : (d : ℕ) (f : Cover → Cover) (ss : List Scope) (s : Scope) → ((k : ℕ) → f (cover_of k s) ≡ cover_of k s) → covers_from d (ss ++ s ∷ []) ≡ on_last f (covers_from d (ss ++ s ∷ []))
+kept_from d f [] s h = ap (λ c. c ∷ []) (sym (h d))
+kept_from d f (r ∷ []) s h = ap (λ c. cover_of d r ∷ c ∷ []) (sym (h (suc d)))
+kept_from d f (r ∷ p ∷ ss) s h = ap (λ cs. cover_of d r ∷ cs) (kept_from (suc d) f (p ∷ ss) s h)
+
+-- nothing changes where the last stays
+pub last_kept : (f : Cover → Cover) (ss before : List Scope) (s : Scope) → ss ≡ before ++ s ∷ [] → ((k : ℕ) → f (cover_of k s) ≡ cover_of k s) → covers_from 1 ss ≡ on_last f (covers_from 1 ss)
+last_kept f ss before s e h = ap (covers_from 1) e ∙ kept_from 1 f before s h ∙ ap (λ rs. on_last f (covers_from 1 rs)) (sym e)
+
+pub none_changed : (f : Cover → Cover) (ss : List Scope) → length ss ≡ 0 → covers_from 1 ss ≡ on_last f (covers_from 1 ss)
+none_changed f [] h = refl
+none_changed f (s ∷ ss) h = absurd (omega (arith, h))
+
+-- ---- at the latest mark
+
+pub covers_latest : (ss : List Scope) (sss : List (List Scope)) → covers_from 1 (latest ss sss) ≡ latest (covers_from 1 ss) (map (covers_from 1) sss)
+covers_latest ss [] = refl
+covers_latest ss (rs ∷ sss) = refl
+
+pub covers_earlier : (sss : List (List Scope)) → map (covers_from 1) (earlier sss) ≡ earlier (map (covers_from 1) sss)
+covers_earlier [] = refl
+covers_earlier (rs ∷ sss) = refl

@@ -1,0 +1,4 @@
+-- Lemmas of the proofs.
+pub mod CoverLemmas
+pub mod ListLemmas
+pub mod ScopeLemmas

@@ -1,0 +1,9 @@
+//! Open covers of a state, with their regions and remainders, whose changes can be undone.
+#![tactic(auto)]
+
+mod chains;
+mod scope;
+mod scopes;
+
+pub use scope::{Opening, Rest};
+pub use scopes::Scopes;
