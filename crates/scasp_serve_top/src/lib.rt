@@ -3,8 +3,8 @@
 
 mod inputs;
 mod replies;
-mod serve;
 mod status;
+mod top;
 
-pub use serve::serve;
 pub use status::ServeStatus;
+pub use top::serve;

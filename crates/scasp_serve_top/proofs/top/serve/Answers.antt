@@ -3,7 +3,7 @@ use Rattle.scasp_command_inputs.specs.Inputs.{outside}
 use Rattle.scasp_command_inputs.specs.Reports.{Reports}
 use Rattle.scasp_serve_top.proofs.CauseLemmas.{is-serve-status, serve-completes, serve-read, serve-reports, serve-write}
 use Rattle.scasp_serve_top.specs.Outputs.{Outputs, asked_of}
-use Rattle.scasp_serve_top.proofs.serve.serve.Goals as goal
+use Rattle.scasp_serve_top.proofs.top.serve.Goals as goal
 
 pub serve_status-requires : goal.serve_status-requires
 serve_status-requires g c = is-serve-status _ _ _ _ _ _ _ c.serve_words.ensures

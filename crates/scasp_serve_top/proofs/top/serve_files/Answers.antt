@@ -1,7 +1,7 @@
 use Rattle.std.proofs.Common.{refl}
 use Rattle.scasp_serve_top.proofs.CommandLemmas.{goes-on, stops-at-commands, stops-at-program}
 use Rattle.scasp_serve_top.specs.Outputs.{Asked}
-use Rattle.scasp_serve_top.proofs.serve.serve_files.Goals as goal
+use Rattle.scasp_serve_top.proofs.top.serve_files.Goals as goal
 
 pub returns-in-Err : goal.returns-in-Err
 returns-in-Err g c =

@@ -2,7 +2,7 @@ use Rattle.std.proofs.Common.{Global, ap, map, string_bytes, refl}
 use Rattle.scasp_command_inputs.specs.Inputs.{outside}
 use Rattle.scasp_serve_top.proofs.CommandLemmas.{usage-report, words-report}
 use Rattle.scasp_serve_top.specs.Outputs.{Asked, asked_of}
-use Rattle.scasp_serve_top.proofs.serve.serve_words.Goals as goal
+use Rattle.scasp_serve_top.proofs.top.serve_words.Goals as goal
 
 pub returns-in-Some : goal.returns-in-Some
 returns-in-Some g c =
