@@ -69,7 +69,7 @@ in-set set [] a h = absurd (false≢true h)
 in-set set (b ∷ table) a h =
     let rest : List Atom = atoms_in (λ n. set (suc n)) table in
     let later : among rest a ≡ true → InSet set (b ∷ table) a =
-        λ k. let i = in-set (λ n. set (suc n)) table a k in record { number = suc i.number; at = i.at; inside = i.inside } in
+    λ k. let i = in-set (λ n. set (suc n)) table a k in record { number = suc i.number; at = i.at; inside = i.inside } in
     elim (cases_Bool (set 0)) [
       | inl t ↦
           elim (or_cases (same_atom a b) (among rest a) (ap (λ z. among z a) (sym (cond-true (set 0) (b ∷ rest) rest t)) ∙ h)) [
@@ -138,7 +138,7 @@ closed-read table set (n ∷ ns) (r ∷ rs) d s c =
     let p = and_parts (keeps set n.head n.body) (is_closed_under ns set) c in
     and_from (if has_all m r.body then among m r.head else true) (is_closed rs m)
     (if-true (has_all m r.body) (among m r.head)
-     (λ h. from-set set table r.head n.head s.0 (then-true (list_all set n.body) (set n.head) p.0 (body-in table set n.body r.body d s.1 h))))
+    (λ h. from-set set table r.head n.head s.0 (then-true (list_all set n.body) (set n.head) p.0 (body-in table set n.body r.body d s.1 h))))
     (closed-read table set ns rs d s.2 p.1)
 
 -- whether the atom of a number is in a model
@@ -176,9 +176,9 @@ least-read table ns rs set d s l a =
     let model : List Atom = least_model rs in
     same_truth (among m a) (among model a)
     (λ h.
-      let i = in-set set table a h in
-      let closed = closed-tested model table ns rs s ∙ least_model-closed rs in
-      sym (test-is model table i.number a i.at) ∙ l.within (test_at model table) closed i.number i.inside)
+    let i = in-set set table a h in
+    let closed = closed-tested model table ns rs s ∙ least_model-closed rs in
+    sym (test-is model table i.number a i.at) ∙ l.within (test_at model table) closed i.number i.inside)
     (λ h. among-within m model a (rounds-within rs m (length rs) (closed-read table set ns rs d s l.closed)) h)
 
 pub same-read : (table atoms : List Atom) (ns : List NumberedRule) (rs : List DefiniteRule) (set : ℕ → Bool) → are_distinct table ≡ true → StandFor table ns rs → IsLeast ns set → atoms ≡ atoms_in set table → SameAtoms atoms (least_model rs)
@@ -223,7 +223,7 @@ onto-is set n made (a ∷ atoms) =
 
     by : (b : Bool) → set n ≡ b → atoms_in (λ m. set (m + (n + 1))) atoms ≡ atoms_in (λ m. set (suc m + n)) atoms
         → (if set n then made ++ a ∷ [] else made) ++ atoms_in (λ m. set (m + (n + 1))) atoms
-          ≡ made ++ (if set (0 + n) then a ∷ atoms_in (λ m. set (suc m + n)) atoms else atoms_in (λ m. set (suc m + n)) atoms)
+        ≡ made ++ (if set (0 + n) then a ∷ atoms_in (λ m. set (suc m + n)) atoms else atoms_in (λ m. set (suc m + n)) atoms)
     by true e s =
         ap (λ z. z ++ atoms_in (λ m. set (m + (n + 1))) atoms) (cond-true (set n) (made ++ a ∷ []) made e)
         ∙ append_assoc made (a ∷ []) (atoms_in (λ m. set (m + (n + 1))) atoms)
@@ -257,9 +257,10 @@ pub numbered-more : (t u v : List Atom) (ns new : List ℕ) (atoms : List Atom) 
     → (Extends t v) × Stand v new (take (i + 1) atoms)
 numbered-more t u v ns new atoms i n x h e g s w at p =
     let up : Extends u v = Extends-with_atom u v x w in
-    let stand : Stand v (ns ++ n ∷ []) (take i atoms ++ x ∷ []) = Stand-pushed v ns (take i atoms) n x (Stand-extended u v ns (take i atoms) up s) at in
-    (Extends-trans t u v g up,
-     subst (λ (z : List Atom). Stand v new z) (sym (take-pushed atoms i x h e)) (subst (λ (z : List ℕ). Stand v z (take i atoms ++ x ∷ [])) (sym p) stand))
+    let stand : Stand v (ns ++ n ∷ []) (take i atoms ++ x ∷ []) = Stand-pushed v ns (take i atoms) n x (Stand-extended u v ns (take i atoms) up s) at in (
+      Extends-trans t u v g up,
+      subst (λ (z : List Atom). Stand v new z) (sym (take-pushed atoms i x h e)) (subst (λ (z : List ℕ). Stand v z (take i atoms ++ x ∷ [])) (sym p) stand),
+    )
 
 pub rules-more : (u v : List Atom) (ns new : List NumberedRule) (rules : List DefiniteRule) (i : ℕ) (n : NumberedRule) (x : DefiniteRule)
     → i < length rules → x ≡ get_or rules i x → StandFor u ns (take i rules) → Extends u v → slice_get v n.head ≡ Some x.head → Stand v n.body x.body → new ≡ ns ++ n ∷ []

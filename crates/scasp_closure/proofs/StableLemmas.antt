@@ -20,12 +20,12 @@ among-with_atom : (t : List Atom) (a x : Atom) → among (with_atom t a) x ≡ (
 among-with_atom t a x =
     cond_both (among t a) t (t ++ a ∷ []) (λ z. among z x ≡ (among t x || same_atom x a))
     (λ there.
-      same_truth (among t x) (among t x || same_atom x a) (λ h. or_left (among t x) (same_atom x a) h)
-      (λ h.
-        elim (or_cases (among t x) (same_atom x a) h) [
-          | inl e ↦ e
-          | inr e ↦ ap (among t) ((atom_decided x a).0 e) ∙ there
-        ]))
+    same_truth (among t x) (among t x || same_atom x a) (λ h. or_left (among t x) (same_atom x a) h)
+    (λ h.
+    elim (or_cases (among t x) (same_atom x a) h) [
+      | inl e ↦ e
+      | inr e ↦ ap (among t) ((atom_decided x a).0 e) ∙ there
+    ]))
     (λ new. among-append t (a ∷ []) x ∙ ap (λ b. among t x || b) (last (same_atom x a)))
   where
     last : (b : Bool) → (b || false) ≡ b
@@ -88,15 +88,16 @@ stable-tested g m table model reached closed founded violated answer t l r c f v
     let least : SameAtoms model (least_model (reduct m g)) = λ a. l a ∙ ap (λ z. among (least_model z) a) (reduct-same table m g st) in
     let c' : closed ≡ has_all m model = c ∙ has_all-same table m model st in
     let f' : founded ≡ has_all model m = f ∙ has_all-same reached model m sr in
-    let v' : violated ≡ has_violation m g = v ∙ violation-same table m g st in
-    (λ h.
-      let p = and_parts (closed && founded) (not violated) (sym e ∙ h) in
-      let q = and_parts closed founded p.0 in
-      let same : SameAtoms m model = SameAtoms-from_all m model (sym f' ∙ q.1) (sym c' ∙ q.0) in
-      record { least_of_reduct = λ a. same a ∙ least a; no_violation = ap not (sym v') ∙ p.1 },
-     λ s.
-      let same : SameAtoms m model = λ a. s.least_of_reduct a ∙ sym (least a) in
-      let back : SameAtoms model m = λ a. sym (same a) in
-      e ∙ and_from (closed && founded) (not violated)
-      (and_from closed founded (c' ∙ all-from_SameAtoms model m back) (f' ∙ all-from_SameAtoms m model same))
-      (ap not v' ∙ s.no_violation))
+    let v' : violated ≡ has_violation m g = v ∙ violation-same table m g st in (
+      λ h.
+          let p = and_parts (closed && founded) (not violated) (sym e ∙ h) in
+          let q = and_parts closed founded p.0 in
+          let same : SameAtoms m model = SameAtoms-from_all m model (sym f' ∙ q.1) (sym c' ∙ q.0) in
+          record { least_of_reduct = λ a. same a ∙ least a; no_violation = ap not (sym v') ∙ p.1 },
+      λ s.
+          let same : SameAtoms m model = λ a. s.least_of_reduct a ∙ sym (least a) in
+          let back : SameAtoms model m = λ a. sym (same a) in
+          e ∙ and_from (closed && founded) (not violated)
+          (and_from closed founded (c' ∙ all-from_SameAtoms model m back) (f' ∙ all-from_SameAtoms m model same))
+          (ap not v' ∙ s.no_violation),
+    )

@@ -25,7 +25,11 @@ pub fn closure(alloc: Global, rules: &DefiniteRules) -> Result<AtomList, Memory>
 }
 
 /// The rules over numbers that stand for the rules; their atoms stand in the table.
-fn numbered_rules(alloc: Global, table: &mut AtomTable, rules: &DefiniteRules) -> Result<NumberedRules, Memory>
+fn numbered_rules(
+    alloc: Global,
+    table: &mut AtomTable,
+    rules: &DefiniteRules,
+) -> Result<NumberedRules, Memory>
     ensures { IfOk result (λ numbered. StandFor table.new numbered rules.now) }
 {
     let mut numbered = Sequence::new(alloc);
@@ -36,7 +40,11 @@ fn numbered_rules(alloc: Global, table: &mut AtomTable, rules: &DefiniteRules) -
 }
 
 /// The rule over numbers that stands for the rule; new atoms go last in the table.
-pub fn numbered_rule(alloc: Global, table: &mut AtomTable, rule: &DefiniteRule) -> Result<NumberedRule, Memory>
+pub fn numbered_rule(
+    alloc: Global,
+    table: &mut AtomTable,
+    rule: &DefiniteRule,
+) -> Result<NumberedRule, Memory>
     ensures grown { OnOk result (Extends table.old table.new) }
     ensures head { IfOk result (λ made. slice_get table.new made.head ≡ Some rule.now.head) }
     ensures body { IfOk result (λ made. Stand table.new made.body rule.now.body) }
@@ -47,7 +55,11 @@ pub fn numbered_rule(alloc: Global, table: &mut AtomTable, rule: &DefiniteRule) 
 }
 
 /// The numbers of the atoms; new ones go last in the table.
-fn numbered_atoms(alloc: Global, table: &mut AtomTable, atoms: &[Atom]) -> Result<NumberList, Memory>
+fn numbered_atoms(
+    alloc: Global,
+    table: &mut AtomTable,
+    atoms: &[Atom],
+) -> Result<NumberList, Memory>
     ensures grown { OnOk result (Extends table.old table.new) }
     ensures numbers { IfOk result (λ numbers. Stand table.new numbers atoms.now) }
 {

@@ -35,7 +35,11 @@ fn positive_atoms(alloc: Global, body: &Lits) -> Result<AtomList, Memory>
 }
 
 /// The reduct by the atoms of the table: no rule with `not` before one of them, and no other negated literal.
-pub(crate) fn reduct(alloc: Global, g: &GroundProgram, m: &AtomTable) -> Result<DefiniteRules, Memory>
+pub(crate) fn reduct(
+    alloc: Global,
+    g: &GroundProgram,
+    m: &AtomTable,
+) -> Result<DefiniteRules, Memory>
     ensures { IfOk result (λ rules. rules ≡ reduct m.now g.now) }
 {
     let mut rules = Sequence::new(alloc);

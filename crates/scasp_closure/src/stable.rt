@@ -1,7 +1,9 @@
 //! Stable models, in time linear in the program.
 ghost use Rattle.std.specs.Prelude.{◌≡◌, ◌↔◌, ◌&&◌, not, [], IfOk, IsTrue};
 ghost use Rattle.scasp_closure.specs.Reading.{with_atoms};
-ghost use Rattle.scasp_model.specs.Atoms.{has_all};
+ghost use Rattle.scasp_model.specs.Atoms.{SameAtoms, has_all};
+ghost use Rattle.scasp_model.specs.Least.{least_model};
+ghost use Rattle.scasp_model.specs.Reduct.{reduct};
 ghost use Rattle.scasp_model.specs.Stable.{Stable, is_true_in, are_true_in, is_violated, has_violation};
 
 use crate::closing::closure;
@@ -83,11 +85,46 @@ pub fn is_stable(alloc: Global, g: &GroundProgram, m: &AtomList) -> Result<bool,
     ensures { IfOk result (λ answer. IsTrue answer ↔ Stable g.now m.now) }
 {
     let table = table_of(alloc, m)?;
-    let model = closure(alloc, &reduct(alloc, g, &table)?)?;
+    is_stable_by(alloc, g, m, &table)
+}
+
+/// The same, by the table of the list's atoms.
+fn is_stable_by(
+    alloc: Global,
+    g: &GroundProgram,
+    m: &AtomList,
+    table: &AtomTable,
+) -> Result<bool, Memory>
+    requires { table.now ≡ with_atoms [] m.now }
+    ensures { IfOk result (λ answer. IsTrue answer ↔ Stable g.now m.now) }
+{
+    let model = reduced_model(alloc, g, table)?;
     let reached = table_of(alloc, &model)?;
-    let is_closed = has_all(alloc, &table, &model)?;
-    let is_founded = has_all(alloc, &reached, m)?;
-    let is_violated = has_violation(alloc, &table, g)?;
+    is_reached(alloc, g, m, table, &model, &reached)
+}
+
+/// The least model of the reduct by the atoms of the table.
+fn reduced_model(alloc: Global, g: &GroundProgram, table: &AtomTable) -> Result<AtomList, Memory>
+    ensures { IfOk result (λ model. SameAtoms model (least_model (reduct table.now g.now))) }
+{
+    let rules = reduct(alloc, g, table)?;
+    closure(alloc, &rules)
+}
+
+/// Whether the model has the atoms of the list, and no denial's body is true there, by the tables of both.
+fn is_reached(
+    alloc: Global,
+    g: &GroundProgram,
+    m: &AtomList,
+    table: &AtomTable,
+    model: &AtomList,
+    reached: &AtomTable,
+) -> Result<bool, Memory>
+    ensures { IfOk result (λ answer. answer ≡ (has_all table.now model.now && has_all reached.now m.now && not (has_violation table.now g.now))) }
+{
+    let is_closed = has_all(alloc, table, model)?;
+    let is_founded = has_all(alloc, reached, m)?;
+    let is_violated = has_violation(alloc, table, g)?;
     Ok(all_hold(is_closed, is_founded, is_violated))
 }
 

@@ -1,10 +1,10 @@
 -- The ways of giving variables members, by number.
-use Rattle.std.proofs.Common.{◌≡◌, ◌∷◌, ◌++◌, ◌∙◌, ℕ, zero, suc, ◌+◌, ◌-◌, ◌*◌, ◌/◌, ◌%◌, ◌^◌, ◌<◌, ◌≤◌, ¬◌, nat_lt, List, [], length, map, slice_get, Some, ◌⊎◌, inl, inr, refl, sym, ap, subst, arith, length-append, add-one}
+use Rattle.std.proofs.Common.{◌≡◌, ◌∷◌, ◌++◌, ◌∙◌, ℕ, zero, suc, ◌+◌, ◌-◌, ◌*◌, ◌/◌, ◌%◌, ◌^◌, ◌<◌, ◌≤◌, ¬◌, nat_lt, List, [], length, map, slice_get, Some, ◌⊎◌, inl, inr, refl, sym, ap, subst, arith, length-append, append_assoc, add-one}
 use Rattle.std.specs.Prelude.{slice_index_or}
 use Rattle.std.specs.List.{flat_map}
 use Rattle.std.specs.Option.{option_map}
 use Rattle.std.proofs.lemmas.List.{length-map}
-use Rattle.std.proofs.Math.Nat.{div-eq_of_lt, mod-eq_of_lt, mod-lt, add-div_left, add-mod_left, mul-zero, zero-mul, suc-mul, pow-succ', pow-zero}
+use Rattle.std.proofs.Math.Nat.{div-eq_of_lt, mod-eq_of_lt, mod-lt, add-div_left, add-mod_left, mul-zero, zero-mul, suc-mul, pow-succ', pow-zero, mul_comm, mul-div_cancel_left, one-le-pow}
 use Rattle.std.proofs.lemmas.Bool.{true≢false, cases_Bool}
 use Rattle.std.proofs.lemmas.Bool.Decides.{Decides-ltb}
 use Rattle.std.proofs.lemmas.Option.{slice_get-map}
@@ -78,3 +78,27 @@ chosen-at d (suc n) i h =
     block-at (λ t. map (λ ts. t ∷ ts) (choices d n)) size (λ t. length-map (choices d n) (λ ts. t ∷ ts) ∙ choices-length d n) d i (var 0) some below
     ∙ slice_get-map (λ ts. t ∷ ts) (choices d n) (i % size)
     ∙ ap (option_map (λ ts. t ∷ ts)) (chosen-at d n (i % size) (mod-lt i some))
+
+-- ---- the digits one after the other
+
+pub block-down : (m n v block rest : ℕ) → v < n → block ≡ m ^ (n - v) → rest < block → (block / m ≡ m ^ (n - (v + 1))) × (0 < block / m)
+block-down m n v block rest h b r =
+    let k : ℕ = n - (v + 1) in
+    let up : n - v ≡ suc k = omega (arith, h) in
+    let is : block ≡ m * m ^ k = b ∙ ap (λ z. m ^ z) up ∙ pow-succ' m k in
+    let below : rest < m ^ k * m = subst (λ z. rest < z) (is ∙ mul_comm m (m ^ k)) r in
+    let some : 0 < m = above-zero (m ^ k) m rest below in
+    let down : block / m ≡ m ^ k = ap (λ z. z / m) is ∙ mul-div_cancel_left (m ^ k) some in
+    let one : 1 ≤ m ^ k = one-le-pow k m some in
+    (down, omega (arith, down, one))
+
+pub digit-next : (d : List Tm) (n v block rest : ℕ) (made all : List Tm) → v < n → block ≡ length d ^ (n - v) → rest < block → made ++ chosen d (n - v) rest ≡ all
+    → (made ++ slice_index_or d (rest / (block / length d)) (var 0) ∷ []) ++ chosen d (n - (v + 1)) (rest % (block / length d)) ≡ all
+digit-next d n v block rest made all h b r e =
+    let k : ℕ = n - (v + 1) in
+    let up : n - v ≡ suc k = omega (arith, h) in
+    let down : block / length d ≡ length d ^ k = (block-down (length d) n v block rest h b r).0 in
+    append_assoc made (slice_index_or d (rest / (block / length d)) (var 0) ∷ []) (chosen d k (rest % (block / length d)))
+    ∙ (λ j. made ++ slice_index_or d (rest / down j) (var 0) ∷ chosen d k (rest % down j))
+    ∙ ap (λ z. made ++ chosen d z rest) (sym up)
+    ∙ e

@@ -74,8 +74,8 @@ row-tested v r sum e =
     let by_den = compares-scaled r.op n sum.den sum.reduced.positive in
     same_truth (compares r.op sum.num) (row_holds v r)
     (λ h.
-      let k : Compares r.op (n *ℤ sum.den) = subst (Compares r.op) f (by_d.0 (compares-is r.op sum.num h)) in
-      compares-true r.op (numerator_under (point v) r) (meets.1 (subst (Compares r.op) turned (by_den.1 k))))
+    let k : Compares r.op (n *ℤ sum.den) = subst (Compares r.op) f (by_d.0 (compares-is r.op sum.num h)) in
+    compares-true r.op (numerator_under (point v) r) (meets.1 (subst (Compares r.op) turned (by_den.1 k))))
     (λ h.
-      let k : Compares r.op n = subst (Compares r.op) (sym turned) (meets.0 (compares-is r.op (numerator_under (point v) r) h)) in
-      compares-true r.op sum.num (by_d.1 (subst (Compares r.op) (sym f) (by_den.0 k))))
+    let k : Compares r.op n = subst (Compares r.op) (sym turned) (meets.0 (compares-is r.op (numerator_under (point v) r) h)) in
+    compares-true r.op sum.num (by_d.1 (subst (Compares r.op) (sym f) (by_den.0 k))))

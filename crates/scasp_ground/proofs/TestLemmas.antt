@@ -97,17 +97,17 @@ flat-tests v seen (item.Linear l ∷ body) n =
     let are : Bool = list_all (λ x. is_number (v x)) l.vars in
     let row : Bool = row_holds v l.row in
     let parts : list_all (holds v) (flat_map test_of (new ++ flat.Test (con.Row l.row) ∷ later)) ≡ (are && (row && list_all (holds v) (flat_map test_of later))) =
-        ap (list_all (holds v)) (tests-append new (flat.Test (con.Row l.row) ∷ later))
-        ∙ list_all-append (holds v) (flat_map test_of new) (con.Row l.row ∷ flat_map test_of later)
-        ∙ ap (λ b. b && (row && list_all (holds v) (flat_map test_of later)))
-          (numbers-hold v (unseen seen l.vars) ∙ unseen-enough (λ x. is_number (v x)) seen l.vars n) in
+    ap (list_all (holds v)) (tests-append new (flat.Test (con.Row l.row) ∷ later))
+    ∙ list_all-append (holds v) (flat_map test_of new) (con.Row l.row ∷ flat_map test_of later)
+    ∙ ap (λ b. b && (row && list_all (holds v) (flat_map test_of later)))
+    (numbers-hold v (unseen seen l.vars) ∙ unseen-enough (λ x. is_number (v x)) seen l.vars n) in
     parts ∙ by are refl (λ k. flat-tests v (seen ++ l.vars) body k)
   where
     by : (b : Bool) → list_all (λ x. is_number (v x)) l.vars ≡ b
         → (((x : ℕ) → list_any (nat_eq x) (seen ++ l.vars) ≡ true → is_number (v x) ≡ true)
-          → list_all (holds v) (flat_map test_of (flat_after (seen ++ l.vars) body)) ≡ list_all (is_test_true v) body)
+        → list_all (holds v) (flat_map test_of (flat_after (seen ++ l.vars) body)) ≡ list_all (is_test_true v) body)
         → (b && (row_holds v l.row && list_all (holds v) (flat_map test_of (flat_after (seen ++ l.vars) body))))
-          ≡ ((list_all (λ x. is_number (v x)) l.vars && row_holds v l.row) && list_all (is_test_true v) body)
+        ≡ ((list_all (λ x. is_number (v x)) l.vars && row_holds v l.row) && list_all (is_test_true v) body)
     by false e f = ap (λ z. (z && row_holds v l.row) && list_all (is_test_true v) body) (sym e)
     by true e f =
         ap (λ z. row_holds v l.row && z) (f later)

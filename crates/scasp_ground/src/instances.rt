@@ -8,10 +8,10 @@ ghost use Rattle.scasp_syntax.specs.Instances.{head_under};
 ghost use Rattle.scasp_syntax.specs.Tm.{items};
 ghost use Rattle.scasp_syntax.specs.Values.{giving};
 
-use crate::ways::choice;
 use crate::count::power;
 use crate::error::GroundErr;
 use crate::tested::{body_tests, passes};
+use crate::ways::choice;
 use scasp_list::{Memory, Sequence};
 use scasp_model::{GroundClause, GroundProgram};
 use scasp_syntax::{Atom, Clause, Item, Items, Lit, Lits, Terms, instance_atom};
@@ -59,7 +59,12 @@ fn literals_of(alloc: Global, body: &Items, values: &Terms) -> Result<Lits, Memo
 
 /// Puts the instances of the clause at the end, without those of which a test is false. TooLarge where there are more than 1,000,000
 /// before any is dropped.
-pub(crate) fn push_instances(alloc: Global, domain: &Domain, clause: &Clause, made: &mut GroundProgram) -> Result<(), GroundErr>
+pub(crate) fn push_instances(
+    alloc: Global,
+    domain: &Domain,
+    clause: &Clause,
+    made: &mut GroundProgram,
+) -> Result<(), GroundErr>
     ensures ok { OnOk result (made.new ≡ made.old ++ instances (items domain.now) clause.now) }
     ensures limited { Limits result (nat_lt 1000000 (length (items domain.now) ^ clause.now.vars)) (clause_overflows (items domain.now) clause.now) }
 {

@@ -24,7 +24,13 @@ pub fn choice(alloc: Global, domain: &Domain, variables: u64, number: u64) -> Re
 }
 
 /// The values of the way, of which there are `count`: the members at the digits of its number.
-fn chosen(alloc: Global, domain: &Domain, variables: u64, count: u64, number: u64) -> Result<Terms, Memory>
+fn chosen(
+    alloc: Global,
+    domain: &Domain,
+    variables: u64,
+    count: u64,
+    number: u64,
+) -> Result<Terms, Memory>
     requires count { count ≡ length (items domain.now) ^ variables }
     requires below { number < count }
     ensures { IfOk result (λ values. items values ≡ chosen (items domain.now) variables number) }

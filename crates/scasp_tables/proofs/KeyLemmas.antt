@@ -165,9 +165,10 @@ pub grown_atoms : (inside new : List Atom) (keys new_keys : List (List ℕ)) (sl
     → new_keys ≡ keys ++ key ∷ [] → new ≡ inside ++ b ∷ [] → (new_keys ≡ map atom_key new) × (are_distinct new ≡ true)
 grown_atoms inside new keys new_keys slice key a b i s e c absent k n =
     let none : among inside a ≡ false = sym (tested_atom inside inside keys slice key a refl i.0 s e) ∙ absent in
-    let to : new ≡ inside ++ a ∷ [] = n ∙ ap (λ z. inside ++ z ∷ []) c in
-    (k ∙ (λ j. i.0 j ++ e j ∷ []) ∙ sym (map-pushed atom_key inside a) ∙ ap (map atom_key) (sym to),
-     ap are_distinct to ∙ are_distinct-push inside a i.1 none)
+    let to : new ≡ inside ++ a ∷ [] = n ∙ ap (λ z. inside ++ z ∷ []) c in (
+      k ∙ (λ j. i.0 j ++ e j ∷ []) ∙ sym (map-pushed atom_key inside a) ∙ ap (map atom_key) (sym to),
+      ap are_distinct to ∙ are_distinct-push inside a i.1 none,
+    )
 
 -- the list with a new atom, and with one that is there
 pub with_atom-new : (inside atoms new : List Atom) (keys : List (List ℕ)) (slice key : List ℕ) (a b : Atom) → inside ≡ atoms → keys ≡ map atom_key inside → slice ≡ key → key ≡ atom_key a → b ≡ a → has_text keys slice ≡ false → new ≡ inside ++ b ∷ [] → new ≡ with_atom atoms a
@@ -218,6 +219,7 @@ pub grown_domain : (inside new : List Tm) (keys new_keys : List (List ℕ)) (sli
     → (keys ≡ map key_of inside) × (is_domain inside ≡ true) → slice ≡ key → key ≡ key_of t → is_ground t ≡ true → has_text keys slice ≡ false
     → new_keys ≡ keys ++ key ∷ [] → new ≡ inside ++ t ∷ [] → (new_keys ≡ map key_of new) × (is_domain new ≡ true)
 grown_domain inside new keys new_keys slice key t i s e g absent k n =
-    let none : is_member inside t ≡ false = sym (tested_term inside inside keys slice key t refl i.0 s e) ∙ absent in
-    (k ∙ (λ j. i.0 j ++ e j ∷ []) ∙ sym (map-pushed key_of inside t) ∙ ap (map key_of) (sym n),
-     ap is_domain n ∙ is_domain-push inside t i.1 g none)
+    let none : is_member inside t ≡ false = sym (tested_term inside inside keys slice key t refl i.0 s e) ∙ absent in (
+      k ∙ (λ j. i.0 j ++ e j ∷ []) ∙ sym (map-pushed key_of inside t) ∙ ap (map key_of) (sym n),
+      ap is_domain n ∙ is_domain-push inside t i.1 g none,
+    )

@@ -10,8 +10,11 @@ use scasp_syntax::{Atom, Term};
 use std::alloc::Global;
 
 const VARIABLE: u64 = 0;
+
 const NUMBER: u64 = 1;
+
 const NAME: u64 = 2;
+
 const END: u64 = 3;
 
 /// Puts the number at the end, as its part above 2^64 and the rest.

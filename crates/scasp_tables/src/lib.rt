@@ -3,8 +3,8 @@
 
 mod atom_table;
 mod domain;
-mod keys;
 mod key_table;
+mod keys;
 mod pushed;
 
 pub use atom_table::AtomTable;

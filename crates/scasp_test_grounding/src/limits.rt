@@ -30,7 +30,10 @@ fn counts_instances(rt: HostRuntime) -> Result<(), Fail> {
     let most = numbers(alloc, 1_000_000)?;
     assert_eq!(rt; ground(alloc, &one, &most)?.len(), 3);
     let beyond = numbers(alloc, 1_000_001)?;
-    assert_eq!(rt; ground(alloc, &one, &beyond).err(), Some(GroundErr::TooLarge));
+    assert_eq!(rt;
+        ground(alloc, &one, &beyond).err(),
+        Some(GroundErr::TooLarge)
+    );
     Ok(())
 }
 
@@ -38,9 +41,18 @@ fn counts_instances(rt: HostRuntime) -> Result<(), Fail> {
 fn keeps_members_apart(rt: HostRuntime) -> Result<(), Fail> {
     let alloc = rt.alloc();
     let mut domain = numbers(alloc, 2)?;
-    assert_eq!(rt; domain.push(alloc, Term::Num(Rat::new(2, 2)?))?, Pushed::Repeated);
-    assert_eq!(rt; domain.push(alloc, Term::Num(Rat::new(1, 2)?))?, Pushed::Added);
-    assert_eq!(rt; domain.push(alloc, Term::Num(Rat::new(-1, 1)?))?, Pushed::Added);
+    assert_eq!(rt;
+        domain.push(alloc, Term::Num(Rat::new(2, 2)?))?,
+        Pushed::Repeated
+    );
+    assert_eq!(rt;
+        domain.push(alloc, Term::Num(Rat::new(1, 2)?))?,
+        Pushed::Added
+    );
+    assert_eq!(rt;
+        domain.push(alloc, Term::Num(Rat::new(-1, 1)?))?,
+        Pushed::Added
+    );
     assert_eq!(rt; domain.push(alloc, Term::Var(0))?, Pushed::NotGround);
     assert_eq!(rt; domain.len(), 4);
     Ok(())

@@ -103,15 +103,60 @@ struct Tried<'a> {
 }
 
 static TRIED: [Tried; 9] = [
-    Tried { program: "p(X) :- not q(X). q(a).", domain: "d(a). d(b).", atoms: "p(b). q(a).", is_stable: true },
-    Tried { program: "p(X) :- not q(X). q(a).", domain: "d(a). d(b).", atoms: "q(a).", is_stable: false },
-    Tried { program: "p(X) :- not q(X). q(a).", domain: "d(a). d(b).", atoms: "p(b). p(a). q(a).", is_stable: false },
-    Tried { program: "p(X) :- not q(X). q(X) :- not p(X).", domain: "d(a). d(b).", atoms: "p(a). q(b).", is_stable: true },
-    Tried { program: "p(X) :- not q(X). q(X) :- not p(X). :- p(X), not q(X).", domain: "d(a). d(b).", atoms: "p(a). q(b).", is_stable: false },
-    Tried { program: "e(a,b). e(b,c). r(a). r(Y) :- r(X), e(X,Y).", domain: "d(a). d(b). d(c).", atoms: "e(a,b). e(b,c). r(a). r(b). r(c).", is_stable: true },
-    Tried { program: "e(a,b). e(b,c). r(a). r(Y) :- r(X), e(X,Y).", domain: "d(a). d(b). d(c).", atoms: "e(a,b). e(b,c). r(a). r(b).", is_stable: false },
-    Tried { program: "p :- q. q :- p. r.", domain: "", atoms: "p. q. r.", is_stable: false },
-    Tried { program: "p :- q, q. q. r :- p, q, p.", domain: "", atoms: "r. q. p. q.", is_stable: true },
+    Tried {
+        program: "p(X) :- not q(X). q(a).",
+        domain: "d(a). d(b).",
+        atoms: "p(b). q(a).",
+        is_stable: true,
+    },
+    Tried {
+        program: "p(X) :- not q(X). q(a).",
+        domain: "d(a). d(b).",
+        atoms: "q(a).",
+        is_stable: false,
+    },
+    Tried {
+        program: "p(X) :- not q(X). q(a).",
+        domain: "d(a). d(b).",
+        atoms: "p(b). p(a). q(a).",
+        is_stable: false,
+    },
+    Tried {
+        program: "p(X) :- not q(X). q(X) :- not p(X).",
+        domain: "d(a). d(b).",
+        atoms: "p(a). q(b).",
+        is_stable: true,
+    },
+    Tried {
+        program: "p(X) :- not q(X). q(X) :- not p(X). :- p(X), not q(X).",
+        domain: "d(a). d(b).",
+        atoms: "p(a). q(b).",
+        is_stable: false,
+    },
+    Tried {
+        program: "e(a,b). e(b,c). r(a). r(Y) :- r(X), e(X,Y).",
+        domain: "d(a). d(b). d(c).",
+        atoms: "e(a,b). e(b,c). r(a). r(b). r(c).",
+        is_stable: true,
+    },
+    Tried {
+        program: "e(a,b). e(b,c). r(a). r(Y) :- r(X), e(X,Y).",
+        domain: "d(a). d(b). d(c).",
+        atoms: "e(a,b). e(b,c). r(a). r(b).",
+        is_stable: false,
+    },
+    Tried {
+        program: "p :- q. q :- p. r.",
+        domain: "",
+        atoms: "p. q. r.",
+        is_stable: false,
+    },
+    Tried {
+        program: "p :- q, q. q. r :- p, q, p.",
+        domain: "",
+        atoms: "r. q. p. q.",
+        is_stable: true,
+    },
 ];
 
 fn test_tried(rt: &impl Abort, alloc: Global, tried: &Tried) -> Result<(), Fail> {
@@ -124,8 +169,14 @@ fn test_tried(rt: &impl Abort, alloc: Global, tried: &Tried) -> Result<(), Fail>
         assert!(rt; false);
         return Ok(());
     };
-    assert_eq!(rt; scasp_model::is_stable(alloc, &made, &atoms)?, tried.is_stable);
-    assert_eq!(rt; scasp_closure::is_stable(alloc, &made, &atoms)?, tried.is_stable);
+    assert_eq!(rt;
+        scasp_model::is_stable(alloc, &made, &atoms)?,
+        tried.is_stable
+    );
+    assert_eq!(rt;
+        scasp_closure::is_stable(alloc, &made, &atoms)?,
+        tried.is_stable
+    );
     Ok(())
 }
 

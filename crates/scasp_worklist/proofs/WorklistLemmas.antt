@@ -176,20 +176,23 @@ known_now : (bound : ℕ) (rules : List NumberedRule) (h : ℕ) (hand : List Ent
 known_now bound rules h hand s b g = record {
   sound = λ set c.
       let a = g.sound set c in
-      let p = and_parts (set h) (keeps_all set hand) a.2 in
-      (λ n e. elim (has-set s.known h n b e) [
-        | inl same ↦ ap set same ∙ p.0
-        | inr old ↦ a.0 n old
-      ], a.1, p.1);
+      let p = and_parts (set h) (keeps_all set hand) a.2 in (
+        λ n e. elim (has-set s.known h n b e) [
+          | inl same ↦ ap set same ∙ p.0
+          | inr old ↦ a.0 n old
+        ],
+        a.1,
+        p.1,
+      );
   complete = λ set i w d.
       g.complete set (λ n e. i n (has-kept s.known h n b e)) w
       (and_from (set h) (keeps_all set hand) (i h (get_or-set_same s.known h true false b)) d);
   served = λ n e. elim (has-set s.known h n b e) [
     | inl same ↦ inr (ap (λ m. list_any (nat_eq m) (s.queue ++ h ∷ [])) same ∙ last-pushed s.queue h)
     | inr old ↦ elim (g.served n old) [
-        | inl none ↦ inl none
-        | inr queued ↦ inr (in-pushed s.queue h n queued)
-      ]
+      | inl none ↦ inl none
+      | inr queued ↦ inr (in-pushed s.queue h n queued)
+    ]
   ];
   queued = λ n e. elim (from-pushed s.queue h n e) [
     | inl old ↦ has-kept s.known h n b (g.queued n old)
@@ -211,10 +214,10 @@ good-reached bound rules h hand s g =
     cond_both (nat_lt h (length s.known) && not (has s.known h)) _ s (λ z. Good bound rules hand z)
     (λ t. known_now bound rules h hand s ((Decides-ltb h (length s.known)).0 inside) g)
     (λ f.
-      elim (cases_Bool (has s.known h)) [
-        | inl k ↦ known_before bound rules h hand s k g
-        | inr n ↦ absurd (true≢false (sym (and_from (nat_lt h (length s.known)) (not (has s.known h)) inside (ap not n)) ∙ f))
-      ])
+    elim (cases_Bool (has s.known h)) [
+      | inl k ↦ known_before bound rules h hand s k g
+      | inr n ↦ absurd (true≢false (sym (and_from (nat_lt h (length s.known)) (not (has s.known h)) inside (ap not n)) ∙ f))
+    ])
 
 -- it waits for the first number that is left of its body
 good-awaited : (bound : ℕ) (rules : List NumberedRule) (h n : ℕ) (rest : List ℕ) (hand : List Entry) (s : State) → has s.known n ≡ false → Good bound rules ((h, n ∷ rest) ∷ hand) s → Good bound rules hand (awaited s n (h, rest))
@@ -229,40 +232,41 @@ good-awaited bound rules h n rest hand s u g =
     let there : waiting_at (slice_set s.waiting n more) n ≡ more = get_or-set_same s.waiting n more [] at in
     let after : State = record { known = s.known; queue = s.queue; waiting = slice_set s.waiting n more } in
     let good : Good bound rules hand after =
-        record {
-          sound = λ set c.
-              let a = g.sound set c in
-              let p = and_parts (keeps set h (n ∷ rest)) (keeps_all set hand) a.2 in
-              (a.0,
-               keeps_by-set set set s.waiting n more a.1
-               (λ t. list_all-append (λ (x : Entry). keeps set x.0 x.1) (waiting_at s.waiting n) (e ∷ [])
-                     ∙ and_from (keeps_all set (waiting_at s.waiting n)) _ (keeps_by-at set set s.waiting n a.1 t)
-                       (and_from (keeps set h rest) true (shorter set h n rest t p.0) refl)),
-               p.1);
-          complete = λ set i w d.
-              let now : set n ≡ true → (keeps_all set (waiting_at s.waiting n) ≡ true) × (keeps set h rest ≡ true) =
-                  λ t.
-                    let k : keeps_all set more ≡ true = ap (keeps_all set) (sym there) ∙ keeps_by-at set set (slice_set s.waiting n more) n w t in
-                    let q = and_parts (keeps_all set (waiting_at s.waiting n)) (keeps set h rest && true) (sym (list_all-append (λ (x : Entry). keeps set x.0 x.1) (waiting_at s.waiting n) (e ∷ [])) ∙ k) in
-                    (q.0, (and_parts (keeps set h rest) true q.1).0) in
-              g.complete set i (keeps_by-unset set set s.waiting n more w (λ t. (now t).0))
-              (and_from (keeps set h (n ∷ rest)) (keeps_all set hand) (longer set h n rest (λ t. (now t).1)) d);
-          served = λ m k.
-              elim (g.served m k) [
-                | inl none ↦
-                    inl (get_or-set_other s.waiting n m more [] (λ same. true≢false (sym k ∙ ap (has s.known) same ∙ u)) ∙ none)
-                | inr queued ↦ inr queued
-              ];
-          queued = g.queued;
-          known_length = g.known_length;
-          waiting_length = length-set s.waiting n more ∙ g.waiting_length;
-          waiting_below =
-              all_below-set bound s.waiting n more g.waiting_below
-              (list_all-append (is_below bound) (waiting_at s.waiting n) (e ∷ [])
-               ∙ and_from (list_all (is_below bound) (waiting_at s.waiting n)) _ (all_below-at bound s.waiting n g.waiting_below)
-                 (and_from (is_below bound e) true (and_from (nat_lt h bound) _ hb.0 nb.1) refl));
-          hand_below = bs.1;
-        } in
+    record {
+      sound = λ set c.
+          let a = g.sound set c in
+          let p = and_parts (keeps set h (n ∷ rest)) (keeps_all set hand) a.2 in (
+            a.0,
+            keeps_by-set set set s.waiting n more a.1
+                (λ t. list_all-append (λ (x : Entry). keeps set x.0 x.1) (waiting_at s.waiting n) (e ∷ [])
+                ∙ and_from (keeps_all set (waiting_at s.waiting n)) _ (keeps_by-at set set s.waiting n a.1 t)
+                (and_from (keeps set h rest) true (shorter set h n rest t p.0) refl)),
+            p.1,
+          );
+      complete = λ set i w d.
+          let now : set n ≡ true → (keeps_all set (waiting_at s.waiting n) ≡ true) × (keeps set h rest ≡ true) =
+          λ t.
+          let k : keeps_all set more ≡ true = ap (keeps_all set) (sym there) ∙ keeps_by-at set set (slice_set s.waiting n more) n w t in
+          let q = and_parts (keeps_all set (waiting_at s.waiting n)) (keeps set h rest && true) (sym (list_all-append (λ (x : Entry). keeps set x.0 x.1) (waiting_at s.waiting n) (e ∷ [])) ∙ k) in
+          (q.0, (and_parts (keeps set h rest) true q.1).0) in
+          g.complete set i (keeps_by-unset set set s.waiting n more w (λ t. (now t).0))
+          (and_from (keeps set h (n ∷ rest)) (keeps_all set hand) (longer set h n rest (λ t. (now t).1)) d);
+      served = λ m k.
+          elim (g.served m k) [
+            | inl none ↦
+                inl (get_or-set_other s.waiting n m more [] (λ same. true≢false (sym k ∙ ap (has s.known) same ∙ u)) ∙ none)
+            | inr queued ↦ inr queued
+          ];
+      queued = g.queued;
+      known_length = g.known_length;
+      waiting_length = length-set s.waiting n more ∙ g.waiting_length;
+      waiting_below =
+          all_below-set bound s.waiting n more g.waiting_below
+          (list_all-append (is_below bound) (waiting_at s.waiting n) (e ∷ [])
+          ∙ and_from (list_all (is_below bound) (waiting_at s.waiting n)) _ (all_below-at bound s.waiting n g.waiting_below)
+          (and_from (is_below bound e) true (and_from (nat_lt h bound) _ hb.0 nb.1) refl));
+      hand_below = bs.1;
+    } in
     cond_both (nat_lt n (length s.waiting)) after s (λ z. Good bound rules hand z) (λ t. good) (λ f. absurd (true≢false (sym inside ∙ f)))
   where
     shorter : (set : ℕ → Bool) (h n : ℕ) (rest : List ℕ) → set n ≡ true → keeps set h (n ∷ rest) ≡ true → keeps set h rest ≡ true
@@ -380,10 +384,11 @@ keeps_rules set (r ∷ rules) = ap (λ b. keeps set r.head r.body && b) (keeps_r
 
 good-begun : (bound : ℕ) (rules : List NumberedRule) → list_all (is_below bound) (map rule_entry rules) ≡ true → Good bound rules (map rule_entry rules) (begun bound)
 good-begun bound rules b = record {
-  sound = λ set c.
-      (λ n e. absurd (true≢false (sym e ∙ none-known bound n)),
-       keeps_by-none set set (replicate bound []) (λ n e. none-wait bound n),
-       keeps_rules set rules ∙ c);
+  sound = λ set c. (
+    λ n e. absurd (true≢false (sym e ∙ none-known bound n)),
+    keeps_by-none set set (replicate bound []) (λ n e. none-wait bound n),
+    keeps_rules set rules ∙ c,
+  );
   complete = λ set i w d. sym (keeps_rules set rules) ∙ d;
   served = λ n e. absurd (true≢false (sym e ∙ none-known bound n));
   queued = λ n e. absurd (false≢true e);
@@ -402,11 +407,11 @@ least-at_end bound rules s g q = record {
   closed =
       g.complete (has s.known) (λ n e. e)
       (keeps_by-none (has s.known) (has s.known) s.waiting
-       (λ n e.
-         elim (g.served n e) [
-           | inl none ↦ none
-           | inr queued ↦ absurd (true≢false (sym queued ∙ ap (list_any (nat_eq n)) q))
-         ]))
+      (λ n e.
+      elim (g.served n e) [
+        | inl none ↦ none
+        | inr queued ↦ absurd (true≢false (sym queued ∙ ap (list_any (nat_eq n)) q))
+      ]))
       refl;
   within = λ other c n e. (g.sound other c).0 n e;
 }
@@ -427,9 +432,9 @@ left-reached : (s : State) (h : ℕ) → left (reached s h) ≡ left s
 left-reached s h =
     cond_both (nat_lt h (length s.known) && not (has s.known h)) _ s (λ z. left z ≡ left s)
     (λ t.
-      let p = and_parts (nat_lt h (length s.known)) (not (has s.known h)) t in
-      let u = unknown-set s.known h ((Decides-ltb h (length s.known)).0 p.0) (not-true (has s.known h) p.1) in
-      omega (arith, u, length-append s.queue (h ∷ [])))
+    let p = and_parts (nat_lt h (length s.known)) (not (has s.known h)) t in
+    let u = unknown-set s.known h ((Decides-ltb h (length s.known)).0 p.0) (not-true (has s.known h) p.1) in
+    omega (arith, u, length-append s.queue (h ∷ [])))
     (λ f. refl)
 
 left-awaited : (s : State) (n : ℕ) (e : Entry) → left (awaited s n e) ≡ left s
@@ -473,8 +478,8 @@ highest_in-within m b (r ∷ rules) h =
     let i = highest_in-above k rules in
     and_from (is_below (b + 1) (rule_entry r)) (list_all (is_below (b + 1)) (map rule_entry rules))
     (and_from (nat_lt r.head (b + 1)) (list_all (λ x. nat_lt x (b + 1)) r.body)
-     ((Decides-ltb r.head (b + 1)).1 (omega (arith, a, i, h)))
-     (highest-within (max m r.head) b r.body (omega (arith, i, h))))
+    ((Decides-ltb r.head (b + 1)).1 (omega (arith, a, i, h)))
+    (highest-within (max m r.head) b r.body (omega (arith, i, h))))
     (highest_in-within k b rules h)
 
 pub all-below_highest : (rules : List NumberedRule) (b n : ℕ) → b ≡ highest_in 0 rules → n ≡ b + 1 → list_all (is_below n) (map rule_entry rules) ≡ true
@@ -514,7 +519,7 @@ pub woken-begins : (s : Closing) (after : List (List Waiting)) (n : ℕ) (rules 
 woken-begins s after n rules items new g e a i =
     let w : List (List Entry) = map (map entry_of) s.waiting.items in
     let p : map (map entry_of) after ≡ slice_set w n [] =
-        ap (map (map entry_of)) a ∙ map-set (map entry_of) s.waiting.items n new ∙ ap (λ z. slice_set w n (map entry_of z)) e in
+    ap (map (map entry_of)) a ∙ map-set (map entry_of) s.waiting.items n new ∙ ap (λ z. slice_set w n (map entry_of z)) e in
     let q : map entry_of items ≡ waiting_at w n = ap (map entry_of) i ∙ sym (map-at (map entry_of) s.waiting.items n rules [] g) in
     λ j. all_placed (record { known = s.known.items; queue = s.queue.items; waiting = p j }) (q j)
 
@@ -525,13 +530,13 @@ pub waits : (s : Closing) (first second : List (List Waiting)) (n : ℕ) (rules 
 waits s first second n rules more new r b g f m e =
     let w : List (List Entry) = map (map entry_of) s.waiting.items in
     let inside : nat_lt n (length w) ≡ true =
-        ap (nat_lt n) (length-map s.waiting.items (map entry_of)) ∙ (Decides-ltb n (length s.waiting.items)).1 b in
+    ap (nat_lt n) (length-map s.waiting.items (map entry_of)) ∙ (Decides-ltb n (length s.waiting.items)).1 b in
     let to : second ≡ slice_set s.waiting.items n more = e ∙ ap (λ z. slice_set z n more) f ∙ set-set s.waiting.items n new more in
     let old : map entry_of rules ≡ waiting_at w n = sym (map-at (map entry_of) s.waiting.items n rules [] g) in
     let grown : map entry_of more ≡ waiting_at w n ++ entry_of r ∷ [] =
-        ap (map entry_of) m ∙ map-pushed entry_of rules r ∙ ap (λ z. z ++ entry_of r ∷ []) old in
+    ap (map entry_of) m ∙ map-pushed entry_of rules r ∙ ap (λ z. z ++ entry_of r ∷ []) old in
     let p : map (map entry_of) second ≡ slice_set w n (waiting_at w n ++ entry_of r ∷ []) =
-        ap (map (map entry_of)) to ∙ map-set (map entry_of) s.waiting.items n more ∙ ap (slice_set w n) grown in
+    ap (map (map entry_of)) to ∙ map-set (map entry_of) s.waiting.items n more ∙ ap (slice_set w n) grown in
     let after : State = record { known = s.known.items; queue = s.queue.items; waiting = slice_set w n (waiting_at w n ++ entry_of r ∷ []) } in
     (λ j. record { known = s.known.items; queue = s.queue.items; waiting = p j })
     ∙ sym (cond-true (nat_lt n (length w)) after (state_of s) inside)
@@ -542,7 +547,7 @@ pub good-next : (bound : ℕ) (rules : List NumberedRule) (s : Closing) (queue :
 good-next bound rules s queue n next q e g =
     let w : List (List Entry) = map (map entry_of) s.waiting.items in
     let popped : Good bound rules [] (record { known = s.known.items; queue = queue ++ n ∷ []; waiting = w }) =
-        subst (λ (z : List ℕ). Good bound rules [] (record { known = s.known.items; queue = z; waiting = w })) q g in
+    subst (λ (z : List ℕ). Good bound rules [] (record { known = s.known.items; queue = z; waiting = w })) q g in
     subst (λ (z : State). Good bound rules [] z) (sym e) (good-woken bound rules n s.known.items queue w popped)
 
 pub left-next : (s : Closing) (queue : List ℕ) (n : ℕ) (next : State)
