@@ -1,8 +1,7 @@
 -- Rules by the levels of their heads, with one rule more.
-use Rattle.std.proofs.Common.{◌≡◌, ◌∙◌, ◌∷◌, ◌++◌, ℕ, nat_eq, Bool, true, false, cond, List, [], Option, None, Some, refl, ap, sym, append_assoc, append-nil, arith}
+use Rattle.std.proofs.Common.{◌≡◌, ◌∙◌, ◌∷◌, ◌++◌, ℕ, nat_eq, Bool, true, false, cond, List, [], Option, None, Some, refl, ap, sym, append-nil, arith}
 use Rattle.std.specs.Ordering.{is_eq, nat_cmp}
 use Rattle.std.specs.Option.{option_map}
-use Rattle.std.proofs.lemmas.Bool.{cond-true, cond-false}
 use Rattle.std.proofs.lemmas.Bool.Decides.{nat_tests}
 use Rattle.std.proofs.lemmas.List.Elements.{filter-append}
 use Rattle.scasp_syntax.specs.declared.atom.Atom.{Atom}

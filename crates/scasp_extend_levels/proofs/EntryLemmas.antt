@@ -1,5 +1,5 @@
 -- A table of predicates with one entry more.
-use Rattle.std.proofs.Common.{◌≡◌, ◌∙◌, Bool, true, false, cond, Option, Some, refl, ap, sym}
+use Rattle.std.proofs.Common.{◌≡◌, ◌∙◌, Bool, true, false, cond, Option, Some, refl, ap}
 use Rattle.scasp_graph.proofs.PlaceLemmas.{eq-is}
 use Rattle.scasp_graph.proofs.PredLemmas.{same_pred-sym}
 use Rattle.scasp_syntax.specs.Same.{same_pred}

@@ -1,5 +1,5 @@
 -- Reducts by sets with the same atoms, and steps that end.
-use Rattle.std.proofs.Common.{◌≡◌, ◌∙◌, ◌∷◌, ◌++◌, ℕ, zero, suc, ◌+◌, ◌-◌, ◌<◌, ◌≤◌, Bool, true, ◌&&◌, ◌||◌, not, cond, List, [], length, refl, ap, sym, arith, add-zero, add-suc, add-one}
+use Rattle.std.proofs.Common.{◌≡◌, ◌∙◌, ◌∷◌, ◌++◌, ℕ, zero, suc, ◌+◌, ◌-◌, ◌<◌, Bool, ◌&&◌, ◌||◌, not, cond, List, [], length, refl, ap, sym, arith, add-zero, add-suc, add-one}
 use Rattle.std.proofs.lemmas.Grind.{flat_map-append}
 use Rattle.scasp_syntax.specs.declared.atom.Atom.{Atom}
 use Rattle.scasp_syntax.specs.declared.atom.Lit.{Lit}
@@ -8,7 +8,6 @@ use Rattle.scasp_model.specs.Least.{least_model}
 use Rattle.scasp_model.specs.Levelled.{minus_by, next_plus, plus_steps, plus_model, signed_model}
 use Rattle.scasp_model.specs.Programs.{is_blocked, rules_for}
 use Rattle.scasp_model.specs.Reduct.{reduced, reduct, rule_of}
-use Rattle.scasp_model.specs.declared.program.DefiniteRule.{DefiniteRule}
 use Rattle.scasp_model.specs.declared.program.GroundClause.{GroundClause}
 use Rattle.scasp_extend_levels.specs.Sets.{with_atoms}
 use Rattle.scasp_extend_levels.proofs.BucketLemmas.{rules_for-cons}

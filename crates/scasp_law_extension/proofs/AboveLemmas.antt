@@ -12,7 +12,7 @@ use Rattle.scasp_law_promise.proofs.CheckLemmas.{covered-gone}
 use Rattle.scasp_law_promise.proofs.GoodLemmas.{supported}
 use Rattle.scasp_law_promise.proofs.OwnRowLemmas.{rows-normal}
 use Rattle.scasp_lines.specs.Said.{false_atoms, is_closed_over, true_atoms}
-use Rattle.scasp_model.specs.Atoms.{among, has_all, SameAtoms}
+use Rattle.scasp_model.specs.Atoms.{among, SameAtoms}
 use Rattle.scasp_model.specs.Grounding.{ground_program}
 use Rattle.scasp_model.specs.Levelled.{levelled_model}
 use Rattle.scasp_model.specs.Residual.{is_known, residual}

@@ -1,5 +1,5 @@
 -- Each atom of a levelled model is the head of a rule.
-use Rattle.std.proofs.Common.{◌≡◌, ◌∙◌, ◌++◌, ℕ, zero, suc, Bool, true, not, nat_eq, List, Some, length, ap, sym, inl, inr}
+use Rattle.std.proofs.Common.{◌≡◌, ◌∙◌, ℕ, zero, suc, Bool, true, not, nat_eq, List, Some, length, ap, sym, inl, inr}
 use Rattle.std.specs.List.{Contains}
 use Rattle.std.proofs.lemmas.Bool.{false≢true, or_cases}
 use Rattle.scasp_model.specs.Atoms.{among}

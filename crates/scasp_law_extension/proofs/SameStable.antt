@@ -1,5 +1,5 @@
 -- Stable models with the same atoms.
-use Rattle.std.proofs.Common.{◌≡◌, ◌∙◌, ◌++◌, Bool, ◌&&◌, ◌||◌, not, cond, List, [], ◌∷◌, refl, ap, sym}
+use Rattle.std.proofs.Common.{◌≡◌, ◌∙◌, ◌++◌, ◌&&◌, ◌||◌, not, cond, List, [], ◌∷◌, refl, ap, sym}
 use Rattle.scasp_model.specs.Atoms.{among, SameAtoms}
 use Rattle.scasp_model.specs.Least.{least_model}
 use Rattle.scasp_model.specs.Programs.{is_blocked, is_headless}

@@ -1,4 +1,4 @@
-use Rattle.std.proofs.Common.{◌∙◌, ap, sym}
+use Rattle.std.proofs.Common.{◌∙◌, ap}
 use Rattle.scasp_extend_levels.specs.Buckets.{rules_in}
 use Rattle.scasp_extend_levels.proofs.BucketLemmas.{is_eq-nat}
 use Rattle.scasp_extend_levels.proofs.buckets.take_at.Goals as goal
