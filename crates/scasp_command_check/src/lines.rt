@@ -74,12 +74,7 @@ fn put_worth(line: &mut Vec<u8>, worth: Worth, cert: &Cert) -> Result<(), Memory
 ///
 /// Want of memory.
 #[tactic(auto, unfolding(crate::specs::Texts::line_by))]
-pub fn block_line(
-    alloc: Global,
-    answer: u64,
-    cert: &Cert,
-    worth: Worth,
-) -> Result<Vec<u8>, Memory>
+pub fn block_line(alloc: Global, answer: u64, cert: &Cert, worth: Worth) -> Result<Vec<u8>, Memory>
     ensures { IfOk result (λ line. line.items ≡ spec.line_by worth answer (certificate_of cert.now)) }
 {
     let mut line = Vec::new(alloc);

@@ -50,7 +50,7 @@ results-more q rs more fs i f r below is h e g =
 pub result-at : (q : Program) (fs : List Filed) (i : ℕ) (f : Filed) (d : Checked) → i < length fs → f ≡ get_or fs i f
     → get_or (map (checked_of q) (map filed_cert fs)) i d ≡ checked_of q (filed_cert f)
 result-at q fs i f d below is =
-    let under : i < length (map filed_cert fs) = omega (arith, below, length-map filed_cert fs) in
+    let under : i < length (map filed_cert fs) = omega (arith, below, length-map fs filed_cert) in
     get_or-map (checked_of q) (map filed_cert fs) i (filed_cert f) d under ∙ ap (checked_of q) (get_or-map filed_cert fs i f (filed_cert f) below)
     ∙ ap (λ z. checked_of q (filed_cert z)) (sym is)
 

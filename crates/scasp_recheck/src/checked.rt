@@ -4,8 +4,8 @@ ghost use Rattle.scasp_cert.specs.Certificate.{certificate_of};
 ghost use Rattle.scasp_recheck.specs.Checks.{checked_of, verdict_on};
 ghost use Rattle.scasp_recheck.specs.Tallies.{kept_by};
 ghost use Rattle.scasp_recheck.specs.Views.{filed_cert};
-use crate::certs::Filed;
 
+use crate::certs::Filed;
 use scasp_cert::Cert;
 use scasp_checker::{CheckErr, Refusal, Verdict, check};
 use scasp_graph::map_holds;

@@ -41,7 +41,8 @@ impl Tally {
     {
         if edit.touches(&filed.cert, &filed.named) {
             self.touched = self.touched.checked_add(1).ok_or(Memory)?;
-            self.results.push(check_anew(alloc, edit.new, &filed.cert)?)?;
+            self.results
+                .push(check_anew(alloc, edit.new, &filed.cert)?)?;
             return Ok(());
         }
         self.results.push(kept(edit.new, filed, before))?;
