@@ -1,5 +1,5 @@
 -- Tasks of pieces, the last piece first.
-use Rattle.std.proofs.Common.{◌≡◌, ◌+◌, ◌-◌, ◌<◌, ◌≤◌, ℕ, zero, suc, Bool, true, false, Bor, List, [], ◌∷◌, ◌++◌, length, map, drop, take, slice_get, slice_set, Option, None, Some, MatchOption, arith, refl, ap, sym, subst, append_assoc, ◌∙◌}
+use Rattle.std.proofs.Common.{◌≡◌, ◌+◌, ◌-◌, ◌<◌, ◌≤◌, ℕ, zero, suc, Bool, true, false, Bor, List, [], ◌∷◌, ◌++◌, length, map, drop, take, slice_get, slice_set, Option, None, Some, MatchOption, arith, refl, ap, sym, append_assoc, ◌∙◌}
 use Rattle.std.specs.Option.{option_copied}
 use Rattle.std.proofs.lemmas.List.{append-nil, nil_from_length, length-append, take-append-le, take_all}
 use Rattle.scasp_frames.specs.Inside.Pieces.{rest_tasks, shows, tasks_in, tasks_of}
@@ -7,9 +7,12 @@ use Rattle.scasp_frames.specs.Work.{Takes, has_task}
 use Rattle.scasp_frames.specs.declared.frame.Frame.{Frame}
 use Rattle.scasp_frames.specs.declared.frame.Frame.TheVariants as frame
 use Rattle.scasp_search_rules.specs.Successors.Items.{item_raised}
+use Rattle.scasp_search_rules.specs.Successors.Search.{is_call, pays_for}
+use Rattle.scasp_search_rules.specs.declared.states.state.State.{State}
 use Rattle.scasp_search_rules.specs.declared.states.tasks.Task.{Task}
 use Rattle.scasp_search_rules.specs.declared.states.tasks.Task.TheVariants as task
 use Rattle.scasp_syntax.specs.declared.clause.FlatItem.{FlatItem}
+use Rattle.scasp_syntax.specs.declared.clause.FlatItem.TheVariants as flat
 use Rattle.scasp_trail.specs.Past.{earlier, latest}
 
 -- ---- items from a place on
@@ -140,6 +143,18 @@ pub passed_by : (old : List Task) (fs gs before : List Frame) (f : Frame) → ta
 passed_by old fs gs before f i q e g =
     let s : fs ≡ before ++ f ∷ [] = sym q ∙ e in
     ap tasks_in (before_last fs before f s) ∙ ap (λ ts. ts ++ tasks_in before) g ∙ sym (split_off fs before f s) ∙ i
+
+-- ---- costs
+
+raised_call : (first : ℕ) (i : FlatItem) → is_call (item_raised first i) ≡ is_call i
+raised_call first (flat.Call l) = refl
+raised_call first (flat.Test c) = refl
+
+pub body_pays : (first : ℕ) (i : FlatItem) (is js : List FlatItem) (pays : Bool) → is ≡ i ∷ js → pays ≡ is_call i → (s : State) → (more : List Task) → pays_for s (shows first is ++ more) ≡ pays
+body_pays first i is js pays e h s more = ap (λ ks. pays_for s (shows first ks ++ more)) e ∙ raised_call first i ∙ sym h
+
+pub no_body : (first : ℕ) (is : List FlatItem) → is ≡ [] → shows first is ≡ []
+no_body first is e = ap (shows first) e
 
 -- ---- at the latest mark
 

@@ -1,6 +1,9 @@
 //! Pieces of the work.
-ghost use Rattle.std.specs.Prelude.{◌≡◌, ◌+◌, ◌<◌, ◌∷◌, ◌++◌, [], drop, take, IfOk, MatchOption, OnOk, ⊤};
+ghost use Rattle.std.specs.Prelude.{◌≡◌, ◌+◌, ◌<◌, List, ◌∷◌, ◌++◌, [], drop, take, IfOk, MatchOption, OnOk, ⊤};
 ghost use Rattle.scasp_frames.specs.Work.{has_task};
+ghost use Rattle.scasp_search_rules.specs.Successors.Search.{costs, is_call, pays_for, waits};
+ghost use Rattle.scasp_search_rules.specs.declared.states.state.State.{State};
+ghost use Rattle.scasp_search_rules.specs.declared.states.tasks.Task.{Task as ThisTask};
 ghost use Rattle.scasp_frames.specs.Inside.Pieces.{begun_tasks, rest_tasks, shows, tasks_of};
 
 use crate::raising::item_raised;
@@ -162,5 +165,66 @@ fn is_left(items: &[FlatItem], first: u64, from: usize, end: usize) -> bool
     match item_at(items, from, end) {
         Some(_) => true,
         None => false,
+    }
+}
+
+// ---- costs
+
+/// Whether the item is a call.
+fn is_call(item: &FlatItem) -> bool
+    ensures { result ≡ is_call item.now }
+{
+    match item {
+        FlatItem::Call(_) => true,
+        FlatItem::Test(_) => false,
+    }
+}
+
+/// Whether the task costs a call, where a remainder of the innermost cover waits or not.
+fn task_pays(task: &Task, is_waiting: bool) -> bool
+    ensures { (s : State) → waits s.covers ≡ is_waiting → costs s task.now ≡ result }
+{
+    match task {
+        Task::Show(item) => is_call(item),
+        Task::Check { .. } | Task::Begin { .. } => true,
+        Task::Close => is_waiting,
+        Task::Equate(_, _)
+        | Task::Assume(_)
+        | Task::Differ(_, _)
+        | Task::Become { .. }
+        | Task::Avoid { .. }
+        | Task::Shape { .. }
+        | Task::Cover { .. }
+        | Task::Void
+        | Task::Leave => false,
+    }
+}
+
+/// Whether the first item of a flat body from a place on is a call, if something of it is left.
+#[tactic(auto, using(crate::proofs::PieceLemmas::body_pays, crate::proofs::PieceLemmas::no_body))]
+fn body_pays(items: &[FlatItem], first: u64, from: usize, end: usize) -> Option<bool>
+    ensures { MatchOption result (shows first (drop from (take end items.now)) ≡ []) (λ pays. (s : State) → (more : List ThisTask) → pays_for s (shows first (drop from (take end items.now)) ++ more) ≡ pays) }
+{
+    match item_at(items, from, end) {
+        Some(item) => Some(is_call(item)),
+        None => None,
+    }
+}
+
+/// Whether the first task of the piece costs a call, where a remainder of the innermost cover waits or not, if it has a task.
+pub(crate) fn piece_pays(frame: &Frame, is_waiting: bool) -> Option<bool>
+    ensures { MatchOption result (tasks_of frame.now ≡ []) (λ pays. (s : State) → (more : List ThisTask) → waits s.covers ≡ is_waiting → pays_for s (tasks_of frame.now ++ more) ≡ pays) }
+{
+    match frame {
+        Frame::Alone(task) => Some(task_pays(task, is_waiting)),
+        Frame::Body {
+            items,
+            first,
+            from,
+            end,
+        } => {
+            let list: &FlatItems = items.as_ref();
+            body_pays(list.as_slice(), *first, *from, *end)
+        }
     }
 }

@@ -3,9 +3,11 @@ ghost use Rattle.std.specs.Prelude.{◌≡◌, ◌-◌, ◌<◌, [], ◌∷◌, 
 ghost use Rattle.scasp_frames.specs.Work.{Takes, has_task};
 ghost use Rattle.scasp_frames.specs.Inside.Pieces.{rest_tasks, tasks_in};
 ghost use Rattle.scasp_search_rules.specs.Successors.Items.{item_raised};
+ghost use Rattle.scasp_search_rules.specs.Successors.Search.{pays, pays_for, waits};
+ghost use Rattle.scasp_search_rules.specs.declared.states.state.State.{State};
 ghost use Rattle.scasp_trail.specs.Past.{earlier, latest};
 
-use crate::frame::{Begun, Frame, begin, has_task, push_tasks};
+use crate::frame::{Begun, Frame, begin, has_task, piece_pays, push_tasks};
 use scasp_list::Memory;
 use scasp_search_rules::{Task, Tasks};
 use scasp_syntax::FlatItems;
@@ -50,6 +52,13 @@ impl Frames {
         ensures { result ≡ has_task self.now.now }
     {
         has_work(self.frames.as_slice())
+    }
+
+    /// Whether the first task costs a call, in a state where a remainder of the innermost cover waits or not.
+    pub fn pays(&self, is_waiting: bool) -> bool
+        ensures { (s : State) → waits s.covers ≡ is_waiting → s.work ≡ self.now.now → result ≡ pays s }
+    {
+        first_pays(self.frames.as_slice(), is_waiting)
     }
 
     /// Copies of all tasks, the next one first.
@@ -135,6 +144,20 @@ fn has_work(frames: &[Frame]) -> bool
             return true;
         }
         rest = before;
+    }
+    false
+}
+
+/// Whether the first task costs a call, where a remainder of the innermost cover waits or not.
+fn first_pays(frames: &[Frame], is_waiting: bool) -> bool
+    ensures { (s : State) → waits s.covers ≡ is_waiting → result ≡ pays_for s (tasks_in frames.now) }
+{
+    let mut rest = frames;
+    'pieces: while let Some((last, before)) = rest.split_last() {
+        match piece_pays(last, is_waiting) {
+            Some(pays) => return pays,
+            None => rest = before,
+        }
     }
     false
 }

@@ -1,5 +1,5 @@
 -- Literals that were gone into, in the words of the search.
-use Rattle.std.specs.Prelude.{ℕ, false, List, []}
+use Rattle.std.specs.Prelude.{ℕ, false, List}
 use Rattle.scasp_loops.specs.declared.entry.Entry.{Entry}
 use Rattle.scasp_loops.specs.declared.entry.Marks.{Marks}
 use Rattle.scasp_search_rules.specs.Successors.Calls.{ancestors, leave_literal, marked}

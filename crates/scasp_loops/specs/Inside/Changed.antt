@@ -1,5 +1,5 @@
 -- Lists of which one item changes.
-use Rattle.std.specs.Prelude.{ℕ, zero, suc, Bool, true, false, ◌||◌, Option, None, Some, List, [], ◌∷◌}
+use Rattle.std.specs.Prelude.{ℕ, zero, suc, Bool, true, ◌||◌, Option, None, Some, List, [], ◌∷◌}
 use Rattle.scasp_loops.specs.declared.entry.Marks.{Marks}
 
 -- the item of this place changed, if there is one
