@@ -1,7 +1,7 @@
 -- Covers that are kept, behind each change.
 use Rattle.std.proofs.Common.{◌≡◌, ◌+◌, ◌-◌, ◌<◌, ◌≤◌, ℕ, zero, suc, Bool, true, false, nat_eq, if◌then◌else◌, List, [], ◌∷◌, ◌++◌, length, map, take, slice_get, slice_set, Option, None, Some, arith, refl, ap, sym, ◌∙◌}
 use Rattle.std.proofs.lemmas.Bool.Decides.{Decides-eqb}
-use Rattle.std.proofs.lemmas.List.{nil_from_length, length-append}
+use Rattle.std.proofs.lemmas.List.{length-append}
 use Rattle.std.specs.Option.{option_map}
 use Rattle.scasp_forall.specs.Covers.{first_of, is_there, last_cover, next_of, on_last, opening_of, universals_of, waits_in}
 use Rattle.scasp_forall.specs.Inside.Kept.{cover_of, covers_from, remainder_of}

@@ -1,5 +1,5 @@
 -- Chains as lists.
-use Rattle.std.proofs.Common.{◌≡◌, ℕ, Bool, true, false, nat_eq, ◌||◌, if◌then◌else◌, List, [], ◌∷◌, ◌++◌, reverse, map, Option, None, Some, is_some, refl, ap, sym, append_assoc, ◌∙◌}
+use Rattle.std.proofs.Common.{◌≡◌, ℕ, Bool, true, false, nat_eq, ◌||◌, if◌then◌else◌, List, [], ◌∷◌, ◌++◌, reverse, None, Some, is_some, refl, ap, ◌∙◌}
 use Rattle.std.proofs.lemmas.List.{reverse-append}
 use Rattle.scasp_bound.specs.Bounds.{bound_in}
 use Rattle.scasp_search_rules.specs.Successors.Splits.{is_bound_in}

@@ -1,5 +1,5 @@
 -- A cover that is kept, behind a split and at the end of a case.
-use Rattle.std.proofs.Common.{◌≡◌, ℕ, false, List, [], ◌∷◌, ◌++◌, filter, map, reverse, refl, ap, sym, ◌∙◌}
+use Rattle.std.proofs.Common.{◌≡◌, ℕ, false, List, [], ◌∷◌, ◌++◌, filter, map, reverse, ap, sym, ◌∙◌}
 use Rattle.scasp_forall.proofs.ListLemmas.{one_more}
 use Rattle.scasp_forall.specs.Covers.{parted_alone, resumed, resumed_by}
 use Rattle.scasp_forall.specs.Inside.Kept.{cover_of, remainder_of}
@@ -9,7 +9,6 @@ use Rattle.scasp_forall.specs.declared.scope.Scope.{Scope}
 use Rattle.scasp_lines_places.specs.Places.Chains.{chained}
 use Rattle.scasp_lines_places.specs.declared.places.chain.Chain.{Chain}
 use Rattle.scasp_search_rules.specs.Successors.Splits.{is_bound_in, replacement}
-use Rattle.scasp_search_rules.specs.declared.states.covers.Remainder.{Remainder}
 use Rattle.scasp_search_rules.specs.declared.states.outcomes.Parting.{Parting}
 use Rattle.scasp_unify.specs.declared.bindings.Binding.{Binding}
 

@@ -1,4 +1,4 @@
-use Rattle.std.proofs.Common.{◌≡◌, ◌-◌, List, Some, arith, ap, slice_get, sym, ◌∙◌}
+use Rattle.std.proofs.Common.{◌-◌, List, arith, ap, slice_get, sym, ◌∙◌}
 use Rattle.scasp_forall.proofs.CoverLemmas.{changed_at}
 use Rattle.scasp_forall.specs.Covers.{parted_alone}
 use Rattle.scasp_forall.specs.Inside.Kept.{covers_from}
