@@ -1,4 +1,4 @@
-use Rattle.std.proofs.Common.{Global, ap, map, string_bytes, refl}
+use Rattle.std.proofs.Common.{Global, map, refl, string_bytes}
 use Rattle.scasp_command_inputs.specs.Inputs.{outside}
 use Rattle.scasp_serve_top.proofs.CommandLemmas.{usage-report, words-report}
 use Rattle.scasp_serve_top.specs.Outputs.{Asked, asked_of}
