@@ -1,4 +1,4 @@
-use Rattle.std.proofs.Common.{Global, ap, map, string_bytes, refl}
+use Rattle.std.proofs.Common.{Global, map, refl, string_bytes}
 use Rattle.scasp_command_inputs.specs.Inputs.{outside}
 use Rattle.scasp_serve_top.proofs.CommandLemmas.{usage-report, words-report}
 use Rattle.scasp_serve_top.specs.Outputs.{Asked, asked_of}
@@ -13,4 +13,4 @@ returns-in-Some g c =
 pub returns-in-None : goal.returns-in-None
 returns-in-None g c =
     usage-report (asked_of (map (string_bytes {Z = Global}) c.args.words.now)) (outside (g.F.Files.told c.args.files.now) (g.F.Files.faults c.args.files.now) (g.F.Files.faults c.args.files.now))
-    _ _ _ _ _ (c.in-None.ensures.none tt) c.print.ensures
+    _ _ _ _ _ (c.in-None.ensures.none refl) c.print.ensures
