@@ -17,12 +17,19 @@ pub lines-none : (p : Program) (ns : List ℕ) → lines_by p ns [] ≡ []
 lines-none p [] = refl
 lines-none p (n ∷ ns) = refl
 
+line-none : (p : Program) (o : Option ℕ) → line_at p o None ≡ []
+line-none p None = refl
+line-none p (Some n) = refl
+
 lines-from : (p : Program) (ns : List ℕ) (cs : List Certificate) (i : ℕ)
     → concat (lines_by p (drop i ns) (drop i cs)) ≡ line_at p (slice_get ns i) (slice_get cs i) ++ concat (lines_by p (drop (suc i) ns) (drop (suc i) cs))
 lines-from p [] cs i = (λ j. concat (lines_by p (drop-nil {A = ℕ} i j) (drop i cs))) ∙ sym (λ j. concat (lines_by p (drop-nil {A = ℕ} (suc i) j) (drop (suc i) cs)))
 lines-from p (n ∷ ns) [] i =
-    (λ j. concat (lines_by p (drop i (n ∷ ns)) (drop-nil {A = Certificate} i j))) ∙ ap concat (lines-none p (drop i (n ∷ ns)))
-    ∙ sym (ap concat (lines-none p (drop (suc i) (n ∷ ns)))) ∙ sym (λ j. line_at p (slice_get (n ∷ ns) i) None ++ concat (lines_by p (drop (suc i) (n ∷ ns)) (drop-nil {A = Certificate} (suc i) j)))
+    let left : concat (lines_by p (drop i (n ∷ ns)) (drop i [])) ≡ [] =
+    (λ j. concat (lines_by p (drop i (n ∷ ns)) (drop-nil {A = Certificate} i j))) ∙ ap concat (lines-none p (drop i (n ∷ ns))) in
+    let right : concat (lines_by p (drop (suc i) (n ∷ ns)) (drop (suc i) [])) ≡ [] =
+    (λ j. concat (lines_by p (drop (suc i) (n ∷ ns)) (drop-nil {A = Certificate} (suc i) j))) ∙ ap concat (lines-none p (drop (suc i) (n ∷ ns))) in
+    left ∙ sym (λ j. line-none p (slice_get (n ∷ ns) i) j ++ right j)
 lines-from p (n ∷ ns) (c ∷ cs) zero = refl
 lines-from p (n ∷ ns) (c ∷ cs) (suc i) = lines-from p ns cs i
 
