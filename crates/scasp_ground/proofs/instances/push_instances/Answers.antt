@@ -38,9 +38,10 @@ pub returns-clause-limited : goal.returns-clause-limited
 returns-clause-limited c =
     let d = items c.args.domain.now in
     let clause = c.args.clause.now in
-    let is = is-power c.len.result (length d) clause.vars c.in-Some.count c.len.ensures c.in-Some.ensures.some in
-    (power-not-past c.len.result (length d) clause.vars c.in-Some.count c.len.ensures c.in-Some.ensures.some,
-    none-past clause d c.in-Some.count c.loop-number.number is c.loop-number-test.false c.loop-number.invariant.past)
+    let is = is-power c.len.result (length d) clause.vars c.in-Some.count c.len.ensures c.in-Some.ensures.some in (
+      power-not-past c.len.result (length d) clause.vars c.in-Some.count c.len.ensures c.in-Some.ensures.some,
+      none-past clause d c.in-Some.count c.loop-number.number is c.loop-number-test.false c.loop-number.invariant.past,
+    )
 
 pub returns-in-Err-clause-limited : goal.returns-in-Err-clause-limited
 returns-in-Err-clause-limited c =
