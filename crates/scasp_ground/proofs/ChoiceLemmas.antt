@@ -1,10 +1,10 @@
 -- The ways of giving variables members, by number.
-use Rattle.std.proofs.Common.{◌≡◌, ◌∷◌, ◌++◌, ◌∙◌, ℕ, zero, suc, ◌+◌, ◌-◌, ◌*◌, ◌/◌, ◌%◌, ◌^◌, ◌<◌, ◌≤◌, nat_lt, List, [], length, map, slice_get, Some, ◌⊎◌, inl, inr, refl, sym, ap, subst, arith, length-append, append_assoc, add-one}
-use Rattle.std.specs.Prelude.{slice_index_or}
+use Rattle.std.proofs.Common.{◌≡◌, ◌∷◌, ◌++◌, ◌∙◌, ℕ, zero, suc, ◌+◌, ◌-◌, ◌*◌, ◌/◌, ◌%◌, ◌^◌, ◌<◌, ◌≤◌, nat_lt, List, [], length, map, slice_get, Option, None, Some, ◌⊎◌, inl, inr, refl, sym, ap, subst, arith, length-append, append_assoc, add-one}
+use Rattle.std.specs.Prelude.{slice_index_or, Result, Ok, Err, IfOk}
 use Rattle.std.specs.List.{flat_map}
 use Rattle.std.specs.Option.{option_map}
 use Rattle.std.proofs.lemmas.List.{length-map}
-use Rattle.std.proofs.Math.Nat.{div-eq_of_lt, mod-eq_of_lt, mod-lt, add-div_left, add-mod_left, mul-zero, zero-mul, suc-mul, pow-succ', pow-zero, mul_comm, mul-div_cancel_left, one-le-pow}
+use Rattle.std.proofs.Math.Nat.{div-eq_of_lt, mod-eq_of_lt, mod-lt, add-div_left, add-mod_left, mul-zero, zero-mul, suc-mul, pow-succ', pow-zero, mul_comm, mul-div_cancel_left, one-le-pow, div-lt_iff_lt-mul}
 use Rattle.std.proofs.lemmas.Bool.{true≢false, cases_Bool}
 use Rattle.std.proofs.lemmas.Bool.Decides.{Decides-ltb}
 use Rattle.std.proofs.lemmas.Option.{slice_get-map}
@@ -102,3 +102,44 @@ digit-next d n v block rest made all h b r e =
     ∙ (λ j. made ++ slice_index_or d (rest / down j) (var 0) ∷ chosen d k (rest % down j))
     ∙ ap (λ z. made ++ chosen d z rest) (sym up)
     ∙ e
+
+index-got : (d : List Tm) (i : ℕ) (t u : Tm) → slice_get d i ≡ Some t → slice_index_or d i u ≡ t
+index-got [] i t u e = cc
+index-got (x ∷ d) zero t u e = cc
+index-got (x ∷ d) (suc i) t u e = index-got d i t u e
+
+within-got : (d : List Tm) (i : ℕ) → i < length d → slice_get d i ≡ None → ⊥
+within-got [] i h e = omega (arith, h)
+within-got (x ∷ d) zero h e = cc
+within-got (x ∷ d) (suc i) h e = within-got d i (omega (arith, h)) e
+
+-- a digit is the place of a member
+pub digit-within : (d : List Tm) (n v m block rest : ℕ) → v < n → m ≡ length d → block ≡ length d ^ (n - v) → rest < block → slice_get d (rest / (block / m)) ≡ None → ⊥
+digit-within d n v m block rest h l b r e =
+    let k : ℕ = n - (v + 1) in
+    let up : n - v ≡ suc k = omega (arith, h) in
+    let p = block-down (length d) n v block rest h b r in
+    let is : block ≡ length d * (block / length d) = b ∙ ap (λ z. length d ^ z) up ∙ pow-succ' (length d) k ∙ ap (λ z. length d * z) (sym p.0) in
+    let below : rest < length d * (block / length d) = subst (λ z. rest < z) is r in
+    let place : rest / (block / length d) < length d = (div-lt_iff_lt-mul p.1).1 below in
+    within-got d (rest / (block / length d)) place (ap (λ z. slice_get d (rest / (block / z))) (sym l) ∙ e)
+
+pub digit-put : (d : List Tm) (n v m block rest : ℕ) (made new all : List Tm) (t : Tm) → v < n → m ≡ length d → block ≡ length d ^ (n - v) → rest < block
+    → made ++ chosen d (n - v) rest ≡ all → slice_get d (rest / (block / m)) ≡ Some t → new ≡ made ++ t ∷ [] → new ++ chosen d (n - (v + 1)) (rest % (block / m)) ≡ all
+digit-put d n v m block rest made new all t h l b r e g p =
+    let got : slice_index_or d (rest / (block / length d)) (var 0) ≡ t = index-got d (rest / (block / length d)) t (var 0) (ap (λ z. slice_get d (rest / (block / z))) (sym l) ∙ g) in
+    let put : new ≡ made ++ slice_index_or d (rest / (block / length d)) (var 0) ∷ [] = p ∙ ap (λ z. made ++ z ∷ []) (sym got) in
+    ap (λ z. z ++ chosen d (n - (v + 1)) (rest % (block / m))) put
+    ∙ ap (λ z. (made ++ slice_index_or d (rest / (block / length d)) (var 0) ∷ []) ++ chosen d (n - (v + 1)) (rest % (block / z))) l
+    ∙ digit-next d n v block rest made all h b r e
+
+pub block-next : (m l n v block rest : ℕ) → v < n → m ≡ l → block ≡ l ^ (n - v) → rest < block → (block / m ≡ l ^ (n - (v + 1))) × (rest % (block / m) < block / m)
+block-next m l n v block rest h e b r =
+    let p = block-down l n v block rest h b r in
+    let some : 0 < block / m = subst (λ z. 0 < block / z) (sym e) p.1 in
+    (ap (λ z. block / z) e ∙ p.0, mod-lt rest some)
+
+-- what follows of the value, where there is one
+pub told : {A E : Type 0} (r : Result A E) (P Q : A → Type 0) → IfOk r P → ((x : A) → P x → Q x) → IfOk r Q
+told (Ok x) P Q h f = f x h
+told (Err e) P Q h f = h

@@ -13,9 +13,20 @@ pub fn power(members: u64, variables: u64) -> Option<u64>
     ensures none { IfNone result (1000000 < members ^ variables) }
 {
     match members {
-        0 => Some(u64::from(variables == 0)),
+        0 => Some(power_of_none(variables)),
         1 => Some(1),
         _ => power_above(members, variables),
+    }
+}
+
+/// The same of no member: one way where there is no variable.
+fn power_of_none(variables: u64) -> u64
+    ensures power { result ≡ 0 ^ variables }
+    ensures limit { result ≤ 1 }
+{
+    match variables {
+        0 => 1,
+        _ => 0,
     }
 }
 

@@ -74,10 +74,12 @@ pub(crate) fn push_instances(
     let tests = body_tests(alloc, clause)?;
     for number in 0..count {
         let values = choice(alloc, domain, clause.vars, number)?;
-        match passes(alloc, &values, &tests) {
-            Ok(true) => made.push(instance_of(alloc, clause, &values)?)?,
-            Ok(false) => {}
+        let kept = match passes(alloc, &values, &tests) {
+            Ok(kept) => kept,
             Err(error) => return Err(error),
+        };
+        if kept {
+            made.push(instance_of(alloc, clause, &values)?)?;
         }
     }
     Ok(())
