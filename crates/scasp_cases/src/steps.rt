@@ -1,6 +1,6 @@
 //! The steps of cases.
 use crate::programs::{counts, entries, program, trial};
-use crate::searches::{answers, events, slices};
+use crate::searches::{answers, events};
 use crate::stop::{Stop, expect, number_of};
 use crate::sweeps::{cuts, writes};
 use crate::world::{World, name_of};
@@ -190,7 +190,6 @@ pub fn carry_out<F: Files>(
         "trial" => trial(alloc, world, rest, text),
         "events" => events(alloc, world, rest, text),
         "answers" => answers(alloc, world, rest),
-        "slices" => slices(alloc, world, rest, text),
         _ => Err(Stop::NoStep),
     }
 }

@@ -1,7 +1,6 @@
 //! What the steps of a case work on: files in memory, a device, and what came of the last command.
 use crate::stop::Stop;
 use scasp_io::{Bytes, CallList, MemFile, MemFileList, MemFiles, MemSink, Memory};
-use scasp_serve_top::serve;
 use scasp_top::{Status, scasp};
 use std::alloc::{AllocError, Global};
 
@@ -91,27 +90,19 @@ impl World {
         Ok(())
     }
 
-    /// Carries out the command of these words over the device. Behind `serve` they are those of `scasp_serve`.
+    /// Carries out the command of these words over the device.
     pub fn carry_out(
         &mut self,
         alloc: Global,
         words: &[&str],
         device: Device,
     ) -> Result<(), Memory> {
+        let words = words_of(alloc, words)?;
         self.files.failing = one(alloc, device.failing_read)?;
         self.files.calls = 0;
         let failing = one(alloc, device.failing_write)?;
         let mut out = MemSink::new(alloc, ROOM, device.chunk, failing)?;
-        self.status = match words.split_first() {
-            Some((first, behind)) if *first == "serve" => {
-                let words = words_of(alloc, behind)?;
-                serve(alloc, &words, &mut self.files, &mut out).status()
-            }
-            _ => {
-                let words = words_of(alloc, words)?;
-                scasp(alloc, &words, &mut self.files, &mut out)
-            }
-        };
+        self.status = scasp(alloc, &words, &mut self.files, &mut out);
         self.printed = out.taken;
         Ok(())
     }
