@@ -1,7 +1,7 @@
 % When is the light on? An event calculus: what an event initiates holds until an event terminates it.
 
-holds(F, T) :- happens(E, T1), initiates(E, F), T1 #< T, not clipped(T1, F, T).
-clipped(T1, F, T2) :- happens(E, T), terminates(E, F), T1 #< T, T #< T2.
+holds(F, T) :- happens(E, S), initiates(E, F), S #< T, not clipped(S, F, T).
+clipped(S, F, T) :- happens(E, U), terminates(E, F), S #< U, U #< T.
 
 initiates(turn_on, light).
 terminates(turn_off, light).
