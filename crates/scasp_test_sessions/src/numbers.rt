@@ -1,10 +1,8 @@
-//! Numbers, refusals, and slices without a call.
-ghost use Rattle.std.specs.Prelude.{◌≤◌};
+//! Slices without a call.
 
 use crate::texts::{Text, number_or_not, told};
-use scasp_sessions::{OpenErr, Sessions};
+use scasp_sessions::Sessions;
 use std::alloc::Global;
-use std::process::Abort;
 use std::test::Fail;
 
 /// What comes of a slice of a session.
@@ -34,41 +32,5 @@ fn begins_with_a_pause(rt: HostRuntime) -> Result<(), Fail> {
         let last = comes_of(rt.alloc(), &text, &mut sessions, 1, calls)?;
         assert_eq!(rt; last.as_slice(), b"ended".as_slice());
     }
-    Ok(())
-}
-
-/// As many sessions as may be open.
-fn open_all(rt: &impl Abort, text: &Text, sessions: &mut Sessions)
-    requires { sessions.old.next ≤ 1 }
-    ensures { sessions.new.next ≤ 99 }
-{
-    for number in 1..65 {
-        assert_eq!(rt; sessions.open(&text.program, 1, 9, text.fresh), Ok(number));
-    }
-}
-
-#[test]
-fn sixty_four_are_open(rt: HostRuntime) -> Result<(), Fail> {
-    let text = number_or_not(rt.alloc())?;
-    let mut sessions = Sessions::new(rt.alloc());
-    open_all(&rt, &text, &mut sessions);
-    assert_eq!(rt;
-        sessions.open(&text.program, 1, 9, text.fresh),
-        Err(OpenErr::Full)
-    );
-    assert_eq!(rt;
-        sessions.open(&text.program, 0, 9, text.fresh),
-        Err(OpenErr::NoQuery)
-    );
-    assert_eq!(rt;
-        sessions.open(&text.program, 2, 9, text.fresh),
-        Err(OpenErr::NoQuery)
-    );
-    sessions.close(3)?;
-    assert!(rt; sessions.close(3).is_err());
-    assert!(rt; sessions.next(3, 1).is_err());
-    assert_eq!(rt; sessions.open(&text.program, 1, 9, text.fresh), Ok(65));
-    assert!(rt; sessions.next(3, 1).is_err());
-    assert!(rt; sessions.close(66).is_err());
     Ok(())
 }
