@@ -3,7 +3,7 @@ use Rattle.std.specs.Prelude.{◌≡◌, ℕ, Bool, true, false, map, List, [], 
 use Rattle.std.specs.List.{list_any}
 use Rattle.std.proofs.Common.{ap, subst, sym, ◌∙◌}
 use Rattle.scasp_hint.specs.Finding.{overflows_in}
-use Rattle.scasp_search_constraints.proofs.AssumingLemmas.StepLemmas.{followed-none, followed-one, overflows-first, overflows-later}
+use Rattle.scasp_search_assuming.proofs.StepLemmas.{followed-none, followed-one, overflows-first, overflows-later}
 use Rattle.scasp_search_constraints.specs.Assuming.Taken.{Gives}
 use Rattle.scasp_search_constraints.specs.declared.assuming.step.SearchErr.{SearchErr}
 use Rattle.scasp_search_constraints.specs.declared.assuming.step.SearchErr.TheVariants as errors

@@ -1,3 +1,7 @@
+pub mod FrontLemmas
 pub mod GoingLemmas
+pub mod OccursLemmas
 pub mod PairLemmas
 pub mod PartLemmas
+pub mod ShapeLemmas
+pub mod StepLemmas

@@ -40,7 +40,7 @@ pub(crate) fn pairs_read<M: Situation>(
 }
 
 /// The pairs with one more behind them, or what this one comes to where there is none yet.
-#[tactic(auto, using(scasp_search_constraints::proofs::EquateLemmas::FrontLemmas::front_full))]
+#[tactic(auto, using(crate::proofs::FrontLemmas::front_full))]
 fn with_next<M: Situation>(alloc: Global, at: &M, found: Pairs, pair: Pair) -> Result<Pairs, Memory>
     ensures { IfOk result (λ more. more ≡ in_front found (pair ∷ []) (pairs_of (under (meaning (M.now at.now)) (tm_of pair.left)) (under (meaning (M.now at.now)) (tm_of pair.right)))) }
 {
@@ -53,7 +53,7 @@ fn with_next<M: Situation>(alloc: Global, at: &M, found: Pairs, pair: Pair) -> R
 }
 
 /// The pairs from the first on that comes to something, and this as what it comes to.
-#[tactic(auto, using(scasp_search_constraints::proofs::EquateLemmas::FrontLemmas::front_end, scasp_search_constraints::proofs::EquateLemmas::FrontLemmas::front_step))]
+#[tactic(auto, using(crate::proofs::FrontLemmas::front_end, crate::proofs::FrontLemmas::front_step))]
 pub(crate) fn from_first<M: Situation>(alloc: Global, at: &M, pairs: Pairs) -> Result<Pairs, Memory>
     ensures { IfOk result (λ left. left ≡ from_first (meaning (M.now at.now)) pairs) }
 {

@@ -23,7 +23,7 @@ use scasp_syntax::{Term, Terms, VarList};
 use std::alloc::Global;
 
 /// Whether the variable stands in the terms.
-#[tactic(auto, using(scasp_search_constraints::proofs::EquateLemmas::OccursLemmas::among_all_vars))]
+#[tactic(auto, using(crate::proofs::OccursLemmas::among_all_vars))]
 pub(crate) fn occurs_among(alloc: Global, x: u64, terms: &Terms) -> Result<bool, Memory>
     ensures { IfOk result (λ occurs. occurs ≡ occurs_among x terms.now) }
 {

@@ -1,3 +1,2 @@
-pub mod ClosingLemmas
 pub mod LeafLemmas
 pub mod ListLemmas

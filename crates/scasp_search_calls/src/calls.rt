@@ -1,23 +1,15 @@
-//! What comes after a state of the written search in which an item is to be true: tests, and calls of literals.
+//! What a call of a literal is made of: clauses, literals that are repeated, and the end of a literal.
 
 mod bodies;
-mod calls;
 mod earlier;
 mod entering;
 mod marks;
 mod raising;
 mod repeated;
-mod tests;
 
 pub use bodies::{body_of, opposite_item};
-pub use calls::call;
-pub use entering::{covered, head_args, push_shows, rules_of, vars_of_clause};
-pub use marks::leave_literal;
-pub use raising::Raised;
-pub use tests::show_test;
-
-// What a state that is changed in place is made of.
 pub use earlier::{opposite_constraints, seen};
-pub use entering::with_literal;
-pub use marks::{first_number, marked_by};
+pub use entering::{head_args, push_shows, rules_of, vars_of_clause, with_literal};
+pub use marks::{first_number, leave_literal, marked_by};
+pub use raising::Raised;
 pub use repeated::nearest;

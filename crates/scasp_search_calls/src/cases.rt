@@ -1,4 +1,4 @@
-//! What comes after a state of the written search in which a case of a cover begins or ends.
+//! What a case of a cover is made of: its beginning, its items, and what is kept at its end.
 
 mod beginning;
 mod closing;
@@ -7,15 +7,9 @@ mod kept;
 mod leaves;
 mod lists;
 
-pub use beginning::{begin_cases, check_clause};
-pub use closing::close_case;
-pub use kept::push_lines;
-pub use leaves::head_call;
-pub use lists::{split_first, with_first};
-
-// What a state that is changed in place is made of.
 pub use beginning::with_cases;
 pub use closing::taken_up;
 pub use costs::{pays, waits};
-pub use kept::ended_by;
-pub use leaves::failing_at;
+pub use kept::{ended_by, push_lines};
+pub use leaves::{failing_at, head_call};
+pub use lists::{split_first, with_first};

@@ -1,19 +1,14 @@
-//! Tests and calls of literals in states of the search, and cases of a cover that begin and end.
+//! What calls of literals and cases of covers are made of, in states of the search.
 #![tactic(auto)]
 
 mod calls;
 mod cases;
 
 pub use calls::{
-    call, covered, head_args, leave_literal, push_shows, rules_of, show_test, vars_of_clause,
+    body_of, first_number, head_args, leave_literal, marked_by, nearest, opposite_constraints,
+    push_shows, rules_of, seen, vars_of_clause, with_literal,
 };
 pub use cases::{
-    begin_cases, check_clause, close_case, head_call, push_lines, split_first, with_first,
+    ended_by, failing_at, head_call, pays, push_lines, split_first, taken_up, waits, with_cases,
+    with_first,
 };
-
-// What a state that is changed in place is made of.
-pub use calls::{
-    body_of, first_number, marked_by, nearest, opposite_constraints, opposite_item, seen,
-    with_literal,
-};
-pub use cases::{ended_by, failing_at, pays, taken_up, waits, with_cases};

@@ -1,2 +1,1 @@
 pub mod AssumingLemmas
-pub mod EquateLemmas

@@ -1,2 +1,1 @@
 pub mod Assuming
-pub mod Equate

@@ -1,17 +1,14 @@
-//! Assuming constraints in states of the search, and splits of cases.
+//! What becomes of a state where a constraint is assumed, and splits of cases.
 
 mod assumptions;
 mod contexts;
 mod covers;
 mod numbers;
 mod partings;
-mod splits;
 mod step;
 
-pub use assumptions::{asked_list, assume, assume_all, is_general, status};
+pub use assumptions::{asked_list, status};
 pub use contexts::{among, is_constrained};
 pub use covers::split_at;
 pub use numbers::is_number_by;
-pub use partings::parted;
-pub use splits::split;
-pub use step::{SearchErr, States, goes_where, passes};
+pub use step::{SearchErr, passes};

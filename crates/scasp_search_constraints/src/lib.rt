@@ -1,11 +1,10 @@
-//! Constraints that are assumed in states of the search, and terms that are to be equal or apart.
+//! Constraints that are assumed in states of the search: what becomes of the state, the split of a case, and where a variable stands.
 #![tactic(auto)]
 
 mod assuming;
 mod equate;
 
-pub use assuming::{SearchErr, States, among, assume, assume_all, is_general, passes};
-pub use equate::{differ_terms, differ_value, equate_terms, equations, same_shape, same_value};
-
-// What a state that is changed in place is made of.
-pub use assuming::{asked_list, is_constrained, is_number_by, split_at, status};
+pub use assuming::{
+    SearchErr, among, asked_list, is_constrained, is_number_by, passes, split_at, status,
+};
+pub use equate::equations;

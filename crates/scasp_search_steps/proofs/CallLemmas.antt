@@ -2,7 +2,7 @@
 use Rattle.std.specs.Prelude.{◌≡◌, true, [], ◌∷◌, map}
 use Rattle.std.specs.List.{list_any}
 use Rattle.std.proofs.Common.{sym}
-use Rattle.scasp_search_constraints.proofs.AssumingLemmas.StepLemmas.{followed-none, followed-one, overflows-first}
+use Rattle.scasp_search_assuming.proofs.StepLemmas.{followed-none, followed-one, overflows-first}
 use Rattle.scasp_hint.specs.Finding.{overflows_in}
 use Rattle.scasp_hint.specs.Satisfying.{sat}
 use Rattle.scasp_search_rules.specs.declared.states.state.State.{State}

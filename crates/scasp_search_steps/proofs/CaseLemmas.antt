@@ -4,7 +4,6 @@ use Rattle.std.specs.List.{list_any}
 use Rattle.std.proofs.Common.{arith, subst, sym}
 use Rattle.scasp_hint.specs.Finding.{overflows_in}
 use Rattle.scasp_hint.specs.Satisfying.{sat}
-use Rattle.scasp_search_calls.specs.Cases.Inside.Innermost.{cases_inside}
 use Rattle.scasp_search_constraints.specs.declared.assuming.step.SearchErr.{SearchErr}
 use Rattle.scasp_search_rules.specs.declared.states.covers.Cover.{Cover}
 use Rattle.scasp_search_rules.specs.declared.states.covers.Remainder.{Remainder}
@@ -23,6 +22,7 @@ use Rattle.scasp_search_state.specs.Choices.{Forks, Point, leaves_of, left}
 use Rattle.scasp_search_state.specs.Words.{closed, next_case, opened}
 use Rattle.scasp_search_state.specs.declared.choice.Begun.{Begun}
 use Rattle.scasp_search_state.specs.declared.choice.Choice.TheVariants as choice
+use Rattle.scasp_search_steps.specs.Cases.{cases_inside}
 use Rattle.scasp_syntax.specs.declared.program.Program.{Program}
 
 -- ---- the case of the innermost cover

@@ -1,13 +1,13 @@
 //! Cases of covers that begin and end.
 ghost use Rattle.std.specs.Prelude.{◌≡◌, ◌∷◌, [], OnOk};
 ghost use Rattle.scasp_hint.specs.Satisfying.{sat};
-ghost use Rattle.scasp_search_calls.specs.Cases.Inside.Innermost.{cases_inside};
 ghost use Rattle.scasp_search_rules.specs.Successors.Calls.{vars_of_clause};
 ghost use Rattle.scasp_search_rules.specs.Successors.Cases.{begin_cases, check_clause, close_case};
 ghost use Rattle.scasp_search_rules.specs.Successors.Items.{with_line};
 ghost use Rattle.scasp_search_rules.specs.Successors.Regions.{before};
 ghost use Rattle.scasp_search_rules.specs.Successors.Variables.{next_variable, with_new};
 ghost use Rattle.scasp_search_state.specs.Choices.{Forks};
+ghost use Rattle.scasp_search_steps.specs.Cases.{cases_inside};
 
 use crate::leaves::try_leaves;
 use scasp_list::Memory;

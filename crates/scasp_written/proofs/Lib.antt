@@ -1,2 +1,1 @@
-pub mod StepsLemmas
 pub mod WrittenLemmas

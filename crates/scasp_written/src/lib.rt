@@ -4,5 +4,5 @@
 mod steps;
 pub mod written;
 
-pub use steps::{pays, successors};
+pub use steps::{States, successors};
 pub use written::{Event, Goal, Written, answer, goal_of, start_of};

@@ -1,6 +1,50 @@
-//! What comes after each state of the written search, and what it costs.
+//! What comes after each state of the written search.
+ghost use Rattle.std.specs.Prelude.{◌≡◌, [], IfOk, false};
+ghost use Rattle.scasp_hint.specs.Satisfying.{sat};
+ghost use Rattle.scasp_search_constraints.specs.Assuming.Taken.{Gives};
+ghost use Rattle.scasp_search_copies.specs.Saved.{now_of, points_of};
+ghost use Rattle.scasp_search_rules.specs.Successors.Search.{step};
+ghost use Rattle.scasp_search_state.specs.Choices.{states};
 
-mod steps;
+use scasp_list::{Memory, Sequence};
+use scasp_search_constraints::SearchErr;
+use scasp_search_copies::Copied;
+use scasp_search_rules::State;
+use scasp_search_state::Situation;
+use scasp_search_steps::{resume, step};
+use scasp_syntax::Program;
+use std::alloc::Global;
 
-pub use scasp_search_calls::pays;
-pub use steps::successors;
+/// States in the order in which they are tried.
+pub type States = Sequence<State>;
+
+/// Copies of the states that are still to be gone through: the present one, where it is ahead, and those that wait behind it.
+fn all_states(
+    alloc: Global,
+    program: &Program,
+    at: &mut Copied,
+    is_ahead: bool,
+) -> Result<States, Memory>
+    requires { is_ahead ≡ false → points_of at.old ≡ [] }
+    ensures { IfOk result (λ all. all ≡ states program.now is_ahead (now_of at.old) (points_of at.old)) }
+{
+    let mut all = States::new(alloc);
+    let mut is_left = is_ahead;
+    while is_left {
+        all.push(at.state(alloc)?)?;
+        is_left = resume(alloc, program, at)?;
+    }
+    Ok(all)
+}
+
+/// What comes of a state that is no answer, in the order in which it is tried. Overflow only where a list that the step asks
+/// overflows.
+pub fn successors(alloc: Global, program: &Program, state: State) -> Result<States, SearchErr>
+    ensures { Gives result (step program.now sat state).states (step program.now sat state).asked }
+{
+    let mut at = Copied::new(alloc, state);
+    match step(alloc, program, &mut at) {
+        Ok(went) => Ok(all_states(alloc, program, &mut at, went)?),
+        Err(error) => Err(error),
+    }
+}

@@ -1,4 +1,3 @@
 -- Words for contracts of private functions.
 pub mod Alike
-pub mod Assumed
 pub mod Open

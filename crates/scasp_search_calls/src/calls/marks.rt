@@ -1,16 +1,12 @@
 //! Marks of literals that positive loops lead out of, and the end of a literal.
-ghost use Rattle.std.specs.Prelude.{◌≡◌, ◌∷◌, [], IfOk, false};
+ghost use Rattle.std.specs.Prelude.{◌≡◌, ◌∷◌, [], IfOk};
 ghost use Rattle.scasp_search_calls.specs.Calls.Inside.Open.{done_by, marked_by, open_among, positive_number};
-ghost use Rattle.scasp_search_rules.specs.Successors.Calls.{at_number, finished, leave_literal, looped, looping};
-ghost use Rattle.scasp_search_rules.specs.Successors.Items.{with_line};
+ghost use Rattle.scasp_search_rules.specs.Successors.Calls.{at_number, finished, leave_literal, looping};
 ghost use Rattle.scasp_search_state.specs.Words.{first_number};
 
 use crate::calls::repeated::last_open;
 use scasp_list::Memory;
-use scasp_search_constraints::States;
-use scasp_search_rules::{Line, Literal, Literals, Repeated, State};
-use scasp_search_terms::regions::with_line;
-use scasp_syntax::{DeepCopy, Lit};
+use scasp_search_rules::{Literal, Literals, State};
 use std::alloc::Global;
 
 /// The literals, of which that with this number loops.
@@ -100,49 +96,6 @@ fn positive_number(literals: &[Literal]) -> Option<u64>
         None => None,
     }
 }
-
-// ---- loops
-
-/// The state in which the literal is the loop, and one leads out of the literal of the number.
-fn with_loop(
-    alloc: Global,
-    state: State,
-    lit: &Lit,
-    repeated: Repeated,
-    number: Option<u64>,
-) -> Result<States, Memory>
-    ensures { IfOk result (λ made. made ≡ marked_by number (with_line state (Line.Loop lit.now repeated.number)) ∷ []) }
-{
-    let line = Line::Loop {
-        lit: lit.copy(alloc)?,
-        literal: repeated.number,
-    };
-    let mut made = States::new(alloc);
-    made.push(marked_by(alloc, number, with_line(state, line)?)?)?;
-    Ok(made)
-}
-
-/// What comes of a call that repeats a literal above it.
-#[tactic(auto, using(crate::proofs::CallsLemmas::OpenLemmas::marked_first))]
-pub(crate) fn looped(
-    alloc: Global,
-    state: State,
-    lit: &Lit,
-    repeated: Repeated,
-) -> Result<States, Memory>
-    ensures { IfOk result (λ made. made ≡ looped state lit.now repeated) }
-{
-    if !lit.positive {
-        return with_loop(alloc, state, lit, repeated, None);
-    }
-    if !repeated.is_behind_negation {
-        return Ok(States::new(alloc));
-    }
-    let number = first_number(state.literals.as_slice());
-    with_loop(alloc, state, lit, repeated, number)
-}
-
-// ---- the end of a literal
 
 /// The state in which the innermost literal is done. A mark moves on from a positive literal to a positive one around it.
 #[tactic(auto, using(crate::proofs::CallsLemmas::OpenLemmas::left_first))]

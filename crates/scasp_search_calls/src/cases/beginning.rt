@@ -1,24 +1,16 @@
 //! Covers that are put on the stack.
 ghost use Rattle.std.specs.Prelude.{◌≡◌, ◌+◌, [], IfOk, filter, nat_eq, not, slice_set, ◌&&◌, length};
-ghost use Rattle.scasp_search_constraints.specs.Assuming.Taken.{TakesAll};
-ghost use Rattle.scasp_hint.specs.Satisfying.{sat};
 ghost use Rattle.scasp_search_rules.specs.Successors.Calls.{head_args, vars_of_clause};
-ghost use Rattle.scasp_search_rules.specs.Successors.Cases.{begin_cases, check_clause, cover_for, unbound_of, universals_at, with_cover};
-ghost use Rattle.scasp_search_rules.specs.Successors.Items.{with_line};
+ghost use Rattle.scasp_search_rules.specs.Successors.Cases.{cover_for, unbound_of, universals_at, with_cover};
 ghost use Rattle.scasp_search_rules.specs.Successors.Reading.{count_from};
 ghost use Rattle.scasp_search_rules.specs.Successors.Splits.{is_bound_in};
-ghost use Rattle.scasp_search_rules.specs.Successors.Variables.{with_new};
 ghost use Rattle.scasp_syntax.specs.Tm.{items};
 
 use crate::calls::{head_args, vars_of_clause};
-use crate::cases::leaves::cases_inside;
 use crate::cases::lists::with_first;
 use scasp_list::Memory;
-use scasp_search_constraints::{SearchErr, States};
-use scasp_search_rules::{Cover, Kind, Line, Lines, Made, Remainders, State, Variables};
+use scasp_search_rules::{Cover, Kind, Lines, Made, Remainders, State, Variables};
 use scasp_search_state::Begun;
-use scasp_search_terms::regions::with_line;
-use scasp_search_terms::variables::with_new;
 use scasp_syntax::{Cons, Program, VarList};
 use scasp_unify::Binding;
 use std::alloc::Global;
@@ -155,48 +147,4 @@ pub fn with_cases(
     let plain = is_plain(alloc, program, begun.clause, begun.first)?;
     let universals = unbound_of(alloc, &state, begun.first, vars)?;
     with_cover(alloc, state, begun, plain, universals)
-}
-
-/// What comes of the cases of the clause of this number, whose variables are numbered from `first` on.
-pub fn begin_cases(
-    alloc: Global,
-    program: &Program,
-    state: State,
-    clause: u64,
-    first: u64,
-    checks_head: bool,
-) -> Result<States, SearchErr>
-    ensures { TakesAll result (begin_cases program.now sat state clause first checks_head) }
-{
-    let begins = Begun {
-        clause,
-        first,
-        checks_head,
-    };
-    let state = with_cases(alloc, program, state, begins)?;
-    cases_inside(alloc, program, state)
-}
-
-/// The state in which the clause is checked; its variables are new.
-fn checked(alloc: Global, program: &Program, state: State, clause: u64) -> Result<State, Memory>
-    ensures { IfOk result (λ made. made ≡ with_line (with_new state Kind.Matched 0 (vars_of_clause program.now clause)) (Line.Check clause (length state.made))) }
-{
-    let first = state.made.len() as u64;
-    let state = with_new(state, Kind::Matched, 0, vars_of_clause(program, clause))?;
-    with_line(state, Line::Check { clause, first })
-}
-
-/// What comes of the check of the clause of this number.
-pub fn check_clause(
-    alloc: Global,
-    program: &Program,
-    state: State,
-    clause: u64,
-    checks_head: bool,
-) -> Result<States, SearchErr>
-    ensures { TakesAll result (check_clause program.now sat state clause checks_head) }
-{
-    let first = state.made.len() as u64;
-    let state = checked(alloc, program, state, clause)?;
-    begin_cases(alloc, program, state, clause, first, checks_head)
 }

@@ -1,53 +1,16 @@
-//! The end of a case, of its cover, or its last remainder.
-ghost use Rattle.std.specs.Prelude.{◌≡◌, ◌++◌, ◌∷◌, [], ◌+◌, IfOk, MatchOption};
-ghost use Rattle.scasp_search_constraints.specs.Assuming.Taken.{TakesAll};
-ghost use Rattle.scasp_search_calls.specs.Cases.Inside.Innermost.{ended_by, resumed};
-ghost use Rattle.scasp_hint.specs.Satisfying.{sat};
-ghost use Rattle.scasp_search_rules.specs.Successors.Cases.{after_case, close_case, remaining, replaced_now};
+//! A remainder that is taken up at the end of a case.
+ghost use Rattle.std.specs.Prelude.{◌≡◌, ◌++◌, ◌∷◌, [], ◌+◌, IfOk};
+ghost use Rattle.scasp_search_calls.specs.Cases.Inside.Innermost.{resumed};
+ghost use Rattle.scasp_search_rules.specs.Successors.Cases.{remaining, replaced_now};
 
 use crate::cases::kept::ended_by;
-use crate::cases::leaves::cases_inside;
-use crate::cases::lists::{split_first, with_first};
+use crate::cases::lists::with_first;
 use scasp_list::Memory;
-use scasp_search_constraints::{SearchErr, States};
 use scasp_search_rules::{Bindings, Cover, Lines, Remainder, Remainders, State};
 use scasp_search_terms::reading::read_term;
-use scasp_syntax::Program;
 use scasp_unify::Binding;
 use std::alloc::Global;
 use std::mem;
-
-/// The innermost cover, and the state without it.
-fn innermost(state: State) -> Option<(Cover, State)>
-    ensures { MatchOption result (state.covers ≡ []) (λ p. state ≡ record p.1 { covers = p.0 ∷ p.1.covers }) }
-{
-    let State {
-        made,
-        bound,
-        given,
-        covers,
-        cases,
-        literals,
-        lines,
-        work,
-    } = state;
-    let Some((cover, covers)) = split_first(covers) else {
-        return None;
-    };
-    Some((
-        cover,
-        State {
-            made,
-            bound,
-            given,
-            covers,
-            cases,
-            literals,
-            lines,
-            work,
-        },
-    ))
-}
 
 /// The bindings, and behind them the replacement, as it reads in the state.
 fn with_replaced(alloc: Global, state: State, equation: &Option<Binding>) -> Result<State, Memory>
@@ -116,47 +79,4 @@ pub fn taken_up(
     let told = mem::replace(&mut state.lines, Lines::new(alloc));
     let cover = remaining(cover, remainder, waiting, state.cases, told);
     begun_again(alloc, state, cover)
-}
-
-/// The state alone.
-fn one(alloc: Global, state: State) -> Result<States, Memory>
-    ensures { IfOk result (λ made. made ≡ state ∷ []) }
-{
-    let mut made = States::new(alloc);
-    made.push(state)?;
-    Ok(made)
-}
-
-/// What comes of the end of the case of the cover, which is on the stack no more.
-fn after_case(
-    alloc: Global,
-    program: &Program,
-    state: State,
-    cover: Cover,
-) -> Result<States, SearchErr>
-    ensures { TakesAll result (after_case program.now sat (record state { covers = cover ∷ state.covers }) cover state.covers cover.waiting) }
-{
-    let mut cover = cover;
-    let lines = mem::replace(&mut cover.before, Lines::new(alloc));
-    let waiting = mem::replace(&mut cover.waiting, Remainders::new(alloc));
-    match split_first(waiting) {
-        Some((remainder, waiting)) => {
-            let state = taken_up(alloc, state, cover, lines, remainder, waiting)?;
-            cases_inside(alloc, program, state)
-        }
-        None => {
-            let state = ended_by(alloc, state, cover.universals.as_slice(), lines, &[])?;
-            Ok(one(alloc, state)?)
-        }
-    }
-}
-
-/// What comes of the end of the case of the innermost cover: its last remainder, or its end.
-pub fn close_case(alloc: Global, program: &Program, state: State) -> Result<States, SearchErr>
-    ensures { TakesAll result (close_case program.now sat state state.covers) }
-{
-    match innermost(state) {
-        Some((cover, state)) => after_case(alloc, program, state, cover),
-        None => Ok(States::new(alloc)),
-    }
 }

@@ -1,19 +1,17 @@
 //! What becomes of a state where a constraint is assumed.
-ghost use Rattle.std.specs.Prelude.{◌≡◌, [], ◌∷◌, ◌++◌, IfOk, false, not, if◌then◌else◌, option_to_list};
-ghost use Rattle.scasp_search_constraints.specs.Assuming.Taken.{Gives, Takes};
+ghost use Rattle.std.specs.Prelude.{◌≡◌, [], ◌∷◌, ◌++◌, IfOk, false, not, if◌then◌else◌};
+ghost use Rattle.scasp_search_constraints.specs.Assuming.Taken.{Gives};
 ghost use Rattle.scasp_hint.specs.Satisfying.{sat};
-ghost use Rattle.scasp_search_rules.specs.Successors.Assumptions.{against, along, as_read, asked_for, assume, assume_all, performed, status};
+ghost use Rattle.scasp_search_rules.specs.Successors.Assumptions.{against, along, as_read, asked_for, status};
 ghost use Rattle.scasp_search_rules.specs.Successors.Reading.{holds_always};
 ghost use Rattle.scasp_search_rules.specs.Successors.Regions.{asked_with, context};
-ghost use Rattle.scasp_search_rules.specs.Successors.Splits.{split};
 ghost use Rattle.scasp_search_rules.specs.Successors.Variables.{is_empty, universals_of};
 
-use crate::assuming::splits::split;
 use crate::assuming::step::{SearchErr, passes};
 use scasp_list::Memory;
 use scasp_search_rules::{State, Status};
 use scasp_search_terms::forms::{holds_always, negated, read_simple};
-use scasp_search_terms::regions::{context_list, given_list, with_given};
+use scasp_search_terms::regions::{context_list, given_list};
 use scasp_search_terms::variables::universals_of;
 use scasp_syntax::{Con, Cons, DeepCopy};
 use std::alloc::Global;
@@ -47,7 +45,7 @@ fn is_empty(xs: &[u64]) -> bool
 }
 
 /// Whether the constraint has a universal variable, as it reads.
-pub fn is_general(alloc: Global, state: &State, constraint: &Con) -> Result<bool, Memory>
+fn is_general(alloc: Global, state: &State, constraint: &Con) -> Result<bool, Memory>
     ensures { IfOk result (λ general. general ≡ not (is_empty (universals_of state.now constraint.now))) }
 {
     let universals = universals_of(alloc, state, constraint)?;
@@ -122,60 +120,4 @@ pub fn status(alloc: Global, state: &State, constraint: &Con) -> Result<Status, 
     } else {
         judged(alloc, state, constraint)
     }
-}
-
-// ---- the state after it
-
-/// The state whose case is parted by the constraint as it reads.
-fn split_as_read(alloc: Global, state: State, constraint: &Con) -> Result<State, Memory>
-    ensures { IfOk result (λ made. made ≡ split state (as_read state constraint.now)) }
-{
-    let read = read_simple(alloc, constraint, state.bound.as_slice())?;
-    split(alloc, state, &read)
-}
-
-/// The state that a constraint of this status leaves, if it leaves one.
-fn performed(
-    alloc: Global,
-    state: State,
-    constraint: &Con,
-    status: Status,
-) -> Result<Option<State>, Memory>
-    ensures { IfOk result (λ left. option_to_list left ≡ performed state (as_read state constraint.now) status) }
-{
-    match status {
-        Status::Entailed => Ok(Some(state)),
-        Status::Impossible => Ok(None),
-        Status::Added => {
-            let read = read_simple(alloc, constraint, state.bound.as_slice())?;
-            Ok(Some(with_given(state, read)?))
-        }
-        Status::Parts => Ok(Some(split_as_read(alloc, state, constraint)?)),
-    }
-}
-
-/// The state in which the constraint is assumed, if there is one.
-pub fn assume(alloc: Global, state: State, constraint: &Con) -> Result<Option<State>, SearchErr>
-    ensures { Takes result (assume sat state constraint.now) }
-{
-    let status = status(alloc, &state, constraint)?;
-    Ok(performed(alloc, state, constraint, status)?)
-}
-
-/// The state in which the constraints are assumed in order, if there is one.
-pub fn assume_all(
-    alloc: Global,
-    state: State,
-    constraints: &[Con],
-) -> Result<Option<State>, SearchErr>
-    ensures { Takes result (assume_all sat constraints.now state) }
-{
-    let mut state = state;
-    for constraint in constraints {
-        match assume(alloc, state, constraint)? {
-            Some(next) => state = next,
-            None => return Ok(None),
-        }
-    }
-    Ok(Some(state))
 }

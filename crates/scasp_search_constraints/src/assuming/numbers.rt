@@ -1,15 +1,12 @@
-//! The tests that the variables of a row are numbers.
+//! The tests that variables are numbers.
 ghost use Rattle.std.specs.Prelude.{◌≡◌, IfOk, filter, nat_le};
 ghost use Rattle.std.specs.List.{list_any, flat_map};
 ghost use Rattle.scasp_search_rules.specs.declared.states.covers.Cover.{Cover as ThisCover};
-ghost use Rattle.scasp_search_rules.specs.Successors.Splits.{is_number_by, is_number_test, numbered_to};
+ghost use Rattle.scasp_search_rules.specs.Successors.Splits.{is_number_by, is_number_test};
 
-use crate::assuming::covers::split_at;
 use scasp_list::Memory;
 use scasp_search_rules::{Cover, State};
 use scasp_search_terms::reading::read;
-use scasp_search_terms::regions::with_given;
-use scasp_search_terms::variables::{depth_of, is_universal};
 use scasp_syntax::{Con, Term};
 use std::alloc::Global;
 
@@ -71,20 +68,4 @@ pub fn is_number_by(alloc: Global, state: &State, depth: u64, x: u64) -> Result<
         return Ok(true);
     }
     is_number_in(alloc, state, depth, x, state.covers.as_slice())
-}
-
-/// The state in which the test that the variable is a number is made, where it does not stand.
-pub(crate) fn numbered_to(alloc: Global, depth: u64, state: State, x: u64) -> Result<State, Memory>
-    ensures { IfOk result (λ made. made ≡ numbered_to depth state x) }
-{
-    if is_number_by(alloc, &state, depth, x)? {
-        return Ok(state);
-    }
-    let test = Con::Num(Term::Var(x));
-    if is_universal(&state, x) {
-        let owner = depth_of(&state, x);
-        split_at(alloc, state, owner, &test)
-    } else {
-        with_given(state, test)
-    }
 }

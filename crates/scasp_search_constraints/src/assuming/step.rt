@@ -1,13 +1,11 @@
-//! Steps of the search: the lists that are asked, and what ends a step early.
+//! The lists that a step of the search asks, and why one is not taken.
 ghost use Rattle.std.specs.Prelude.{◌≡◌, [], ◌∷◌};
-ghost use Rattle.scasp_search_constraints.specs.Assuming.Taken.{Gives, Takes};
+ghost use Rattle.scasp_search_constraints.specs.Assuming.Taken.{Gives};
 ghost use Rattle.scasp_hint.specs.Satisfying.{sat};
-ghost use Rattle.scasp_search_rules.specs.Successors.Steps.{goes_where};
 
 use scasp_hint::is_satisfiable;
-use scasp_list::{Memory, Sequence};
+use scasp_list::Memory;
 use scasp_rows::LinErr;
-use scasp_search_rules::State;
 use scasp_syntax::Con;
 use std::alloc::{AllocError, AllocFailed, Global};
 use thiserror::Error;
@@ -20,9 +18,6 @@ pub enum SearchErr {
     #[error("out of memory")]
     Memory,
 }
-
-/// States in the order in which they are tried.
-pub type States = Sequence<State>;
 
 impl From<Memory> for SearchErr {
     ghost use Rattle.scasp_search_constraints.specs.declared.assuming.step.SearchErr.TheVariants as errors;
@@ -62,16 +57,5 @@ pub fn passes(alloc: Global, list: &[Con]) -> Result<bool, SearchErr>
         Ok(passes) => Ok(passes),
         Err(LinErr::Overflow) => Err(SearchErr::Overflow),
         Err(LinErr::Memory) => Err(SearchErr::Memory),
-    }
-}
-
-/// The state, where the list has a valuation.
-pub fn goes_where(alloc: Global, list: &[Con], state: State) -> Result<Option<State>, SearchErr>
-    ensures { Takes result (goes_where sat list.now state) }
-{
-    if passes(alloc, list)? {
-        Ok(Some(state))
-    } else {
-        Ok(None)
     }
 }

@@ -9,7 +9,7 @@ ghost use Rattle.scasp_written.specs.Written.Rests.{machine, problem_in};
 ghost use Rattle.scasp_search_rules.specs.declared.states.state.State.{State as ThisState};
 ghost use Rattle.scasp_search_rules.specs.Successors.Search.{answer_at, asked_by};
 
-use crate::steps::pays;
+use scasp_search_calls::pays;
 use crate::written::goal::Goal;
 use crate::written::stack::{Waiting, push_free};
 use scasp_cert::Cert;

@@ -8,9 +8,9 @@ ghost use Rattle.scasp_written.specs.Written.Inside.Stacks.{states_of};
 ghost use Rattle.scasp_search_rules.specs.Successors.Falls.{EachState, size};
 ghost use Rattle.scasp_search_rules.specs.Successors.Search.{pays, step};
 
-use crate::steps::successors;
+use crate::steps::{States, successors};
 use scasp_list::Memory;
-use scasp_search_constraints::{SearchErr, States};
+use scasp_search_constraints::SearchErr;
 use scasp_search_rules::State;
 use scasp_syntax::Program;
 use std::alloc::Global;

@@ -2,7 +2,7 @@ use Rattle.std.specs.Prelude.{Ok}
 use Rattle.std.proofs.Common.{◌+◌, ◌∙◌, ap, drop, refl, subst, sym}
 use Rattle.std.specs.List.{list_any}
 use Rattle.std.proofs.lemmas.Result.{err_from_is_err_and}
-use Rattle.scasp_search_constraints.proofs.AssumingLemmas.StepLemmas.{followed-none, followed-one, overflows-later}
+use Rattle.scasp_search_assuming.proofs.StepLemmas.{followed-none, followed-one, overflows-later}
 use Rattle.scasp_hint.specs.Finding.{overflows_in}
 use Rattle.scasp_hint.specs.Satisfying.{sat}
 use Rattle.scasp_search_assuming.proofs.GoingLemmas.{goes-left, goes-not}

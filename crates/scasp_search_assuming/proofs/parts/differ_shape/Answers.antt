@@ -1,6 +1,6 @@
 use Rattle.std.proofs.Common.{sym, ◌∙◌}
 use Rattle.scasp_hint.specs.Satisfying.{sat}
-use Rattle.scasp_search_constraints.proofs.EquateLemmas.ShapeLemmas.{other_shape}
+use Rattle.scasp_search_assuming.proofs.ShapeLemmas.{other_shape}
 use Rattle.scasp_search_assuming.proofs.GoingLemmas.{forks_same}
 use Rattle.scasp_search_assuming.proofs.parts.differ_shape.Goals as goal
 

@@ -1,6 +1,6 @@
 use Rattle.std.proofs.Common.{sym, ◌∙◌}
 use Rattle.scasp_hint.specs.Satisfying.{sat}
-use Rattle.scasp_search_constraints.proofs.EquateLemmas.ShapeLemmas.{shape_existential, shape_universal}
+use Rattle.scasp_search_assuming.proofs.ShapeLemmas.{shape_existential, shape_universal}
 use Rattle.scasp_search_assuming.proofs.GoingLemmas.{goes_same}
 use Rattle.scasp_search_assuming.proofs.shapes.becomes_shape.Goals as goal
 

@@ -1,18 +1,10 @@
--- The innermost cover.
-use Rattle.std.specs.Prelude.{ℕ, Bool, List, [], ◌∷◌, ◌++◌, map}
+-- The end of a case of the innermost cover.
+use Rattle.std.specs.Prelude.{ℕ, List, ◌++◌, map}
 use Rattle.scasp_search_rules.specs.declared.states.covers.Cover.{Cover}
 use Rattle.scasp_search_rules.specs.declared.states.covers.Remainder.{Remainder}
 use Rattle.scasp_search_rules.specs.declared.states.lines.Line.{Line}
 use Rattle.scasp_search_rules.specs.declared.states.state.State.{State}
-use Rattle.scasp_search_rules.specs.Successors.Cases.{cases_of, kept_literal, line_under, remaining, taken_up, unbound}
-use Rattle.scasp_search_rules.specs.Successors.Steps.{Step, fails}
-use Rattle.scasp_syntax.specs.declared.con.Con.{Con}
-use Rattle.scasp_syntax.specs.declared.program.Program.{Program}
-
--- what comes of the case of the first of these covers
-abbrev pub cases_inside : Program → (List Con → Bool) → State → List Cover → Step
-cases_inside p sat s [] = fails
-cases_inside p sat s (c ∷ cs) = cases_of p sat s c
+use Rattle.scasp_search_rules.specs.Successors.Cases.{kept_literal, line_under, remaining, taken_up, unbound}
 
 -- the case of a cover with these universals has ended, before which these lines stood; some universals stay replaced
 abbrev pub ended_by : State → List ℕ → List Line → List ℕ → State

@@ -1,6 +1,5 @@
 -- Steps by what their parts are known to be.
-use Rattle.std.specs.Prelude.{◌≡◌, ℕ, Bool, true, false, Option, List, [], ◌∷◌, map, length, Result, refl}
-use Rattle.std.proofs.Common.{subst, ◌∙◌}
+use Rattle.std.specs.Prelude.{◌≡◌, ℕ, Bool, true, false, List, [], ◌∷◌, length, refl}
 use Rattle.scasp_search_rules.specs.declared.states.state.Kind.TheVariants.{Existential, Universal}
 use Rattle.scasp_search_rules.specs.declared.states.state.State.{State}
 use Rattle.scasp_search_rules.specs.declared.states.tasks.Aim.{Aim}
@@ -9,27 +8,12 @@ use Rattle.scasp_search_rules.specs.declared.states.tasks.Task.{Task}
 use Rattle.scasp_search_rules.specs.declared.states.tasks.Task.TheVariants as task
 use Rattle.scasp_search_rules.specs.Successors.Differences.{at_part, differ_shape}
 use Rattle.scasp_search_rules.specs.Successors.Equations.{becomes_shape, bound_if, replaced_if}
-use Rattle.scasp_search_rules.specs.Successors.Regions.{before}
-use Rattle.scasp_search_rules.specs.Successors.Steps.{Step}
 use Rattle.scasp_search_rules.specs.Successors.Variables.{bind, depth_of, is_universal, next_variable, with_new}
 use Rattle.scasp_syntax.specs.Tm.{Tms, app, items}
 use Rattle.scasp_syntax.specs.declared.con.Con.{Con}
 use Rattle.scasp_syntax.specs.declared.con.Con.TheVariants as con
 use Rattle.scasp_unify.specs.Negations.{new_parts}
 use Rattle.scasp_unify.specs.Parts.{occurs_among}
-use Rattle.scasp_search_constraints.specs.Assuming.Taken.{Takes, TakesAll}
-use Rattle.scasp_search_constraints.specs.declared.assuming.step.SearchErr.{SearchErr}
-
--- what is taken of a step is taken of an equal one
-pub takes_same : (x : Result (Option State) SearchErr) (r q : Step) → Takes x r → r ≡ q → Takes x q
-takes_same x r q h e = subst (λ (s : Step). Takes x s) e h
-
-pub takes_all_same : (x : Result (List State) SearchErr) (r q : Step) → TakesAll x r → r ≡ q → TakesAll x q
-takes_all_same x r q h e = subst (λ (s : Step). TakesAll x s) e h
-
--- tasks put in front of each state
-pub in_front_of : (left more all : List State) (ts us : List Task) → left ≡ map (before ts) more → ts ≡ us → more ≡ all → left ≡ map (before us) all
-in_front_of left more all ts us h e g = h ∙ rw (e, g) refl
 
 -- a name with new arguments, by the kind of the variable
 pub shape_universal : (sat : List Con → Bool) (s t : State) (x f n d k : ℕ) (ts : Tms) → is_universal s x ≡ true → t ≡ with_new s Universal d n → d ≡ depth_of s x

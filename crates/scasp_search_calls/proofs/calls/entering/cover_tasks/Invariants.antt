@@ -1,6 +1,0 @@
-use Rattle.std.proofs.Common.{◌≡◌, map, take}
-use Rattle.scasp_search_rules.specs.declared.states.tasks.Task.TheVariants as task
-use Rattle.scasp_search_calls.proofs.calls.entering.cover_tasks.Given as goal
-
-abbrev pub invariant-loop-rule : goal.invariant-loop-rule
-invariant-loop-rule l = l.tasks ≡ map (task.Cover l.atom) (take l.rule-index l.rules)
