@@ -1,1 +1,2 @@
+pub mod StepsLemmas
 pub mod WrittenLemmas

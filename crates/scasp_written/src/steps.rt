@@ -19,6 +19,7 @@ use std::alloc::Global;
 pub type States = Sequence<State>;
 
 /// Copies of the states that are still to be gone through: the present one, where it is ahead, and those that wait behind it.
+#[tactic(auto, using(crate::proofs::StepsLemmas::first_copied, crate::proofs::StepsLemmas::one_fewer, crate::proofs::StepsLemmas::none_left))]
 fn all_states(
     alloc: Global,
     program: &Program,
@@ -39,6 +40,7 @@ fn all_states(
 
 /// What comes of a state that is no answer, in the order in which it is tried. Overflow only where a list that the step asks
 /// overflows.
+#[tactic(auto, using(crate::proofs::StepsLemmas::none_waits, crate::proofs::StepsLemmas::all_stepped, crate::proofs::StepsLemmas::not_stepped))]
 pub fn successors(alloc: Global, program: &Program, state: State) -> Result<States, SearchErr>
     ensures { Gives result (step program.now sat state).states (step program.now sat state).asked }
 {

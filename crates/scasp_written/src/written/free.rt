@@ -9,10 +9,10 @@ ghost use Rattle.scasp_written.specs.Written.Rests.{machine, problem_in};
 ghost use Rattle.scasp_search_rules.specs.declared.states.state.State.{State as ThisState};
 ghost use Rattle.scasp_search_rules.specs.Successors.Search.{answer_at, asked_by};
 
-use scasp_search_calls::pays;
 use crate::written::goal::Goal;
 use crate::written::stack::{Waiting, push_free};
 use scasp_cert::Cert;
+use scasp_search_calls::pays;
 use scasp_search_constraints::SearchErr;
 use scasp_search_ends::{About, answer_at, close_overflows};
 use scasp_search_rules::State;
