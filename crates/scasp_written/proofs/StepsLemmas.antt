@@ -1,5 +1,5 @@
 -- The states that come of a step, one by one.
-use Rattle.std.specs.Prelude.{◌≡◌, ◌<◌, ◌++◌, Bool, true, false, Ok, Err, List, [], ◌∷◌, length, refl}
+use Rattle.std.specs.Prelude.{◌≡◌, ◌<◌, ◌++◌, Bool, true, false, Ok, Err, List, [], ◌∷◌, length}
 use Rattle.std.proofs.Common.{append_assoc, arith, ap, subst, sym, ◌∙◌}
 use Rattle.std.proofs.lemmas.List.{append-nil}
 use Rattle.scasp_hint.specs.Satisfying.{sat}

@@ -6,7 +6,7 @@ ghost use Rattle.scasp_search_rules.specs.Successors.Cases.{remaining, replaced_
 use crate::cases::kept::ended_by;
 use crate::cases::lists::with_first;
 use scasp_list::Memory;
-use scasp_search_rules::{Bindings, Cover, Lines, Remainder, Remainders, State};
+use scasp_search_rules::{Cover, Lines, Remainder, Remainders, State};
 use scasp_search_terms::reading::read_term;
 use scasp_unify::Binding;
 use std::alloc::Global;
