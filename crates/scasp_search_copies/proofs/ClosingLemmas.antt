@@ -14,7 +14,7 @@ use Rattle.scasp_unify.specs.declared.bindings.Binding.{Binding}
 
 -- ---- the state with and without the cover
 
-abbrev with_covers : State → List Cover → State
+abbrev pub with_covers : State → List Cover → State
 with_covers s cs = record s { covers = cs }
 
 line_inside : (s : State) (cs : List Cover) (l : Line) → line_under (with_covers s cs) l ≡ line_under s l
