@@ -44,12 +44,11 @@ all_forked : (p : Program) (ss : List State) (now : State) (new old : List Point
 all_forked p ss now new old true e h = h ∙ (ap (λ (qs : List Point). ss ++ waiting p qs) e ∙ append-nil ss)
 all_forked p ss now new old false e h = ap (λ (qs : List Point). waiting p qs) (h.1 ∙ e) ∙ sym h.0
 
-pub all_stepped : (p : Program) (s t now : State) (new old : List Point) (went : Bool) (all : List State) → t ≡ s → old ≡ []
-    → Forks p (step p sat t) now new old (Ok went) → all ≡ states p went now new → all ≡ (step p sat s).states
-all_stepped p s t now new old went all e n h a =
-    a ∙ (all_forked p (step p sat t).states now new old went n h ∙ ap (λ (u : State). (step p sat u).states) e)
+pub all_stepped : (p : Program) (s now : State) (new old : List Point) (went : Bool) (all : List State) → old ≡ [] → Forks p (step p sat s) now new old (Ok went)
+    → all ≡ states p went now new → all ≡ (step p sat s).states
+all_stepped p s now new old went all n h a = a ∙ all_forked p (step p sat s).states now new old went n h
 
-pub not_stepped : (p : Program) (s t now : State) (new old : List Point) (e : SearchErr) → t ≡ s → Forks p (step p sat t) now new old (Err e)
+pub not_stepped : (p : Program) (s now : State) (new old : List Point) (e : SearchErr) → Forks p (step p sat s) now new old (Err e)
     → Gives (Err e) (step p sat s).states (step p sat s).asked
-not_stepped p s t now new old errors.Overflow e h = subst (λ (u : State). Forks p (step p sat u) now new old (Err errors.Overflow)) e h
-not_stepped p s t now new old errors.Memory e h = tt
+not_stepped p s now new old errors.Overflow h = h
+not_stepped p s now new old errors.Memory h = tt

@@ -2,7 +2,6 @@
 ghost use Rattle.std.specs.Prelude.{◌≡◌, [], IfOk, false};
 ghost use Rattle.scasp_hint.specs.Satisfying.{sat};
 ghost use Rattle.scasp_search_constraints.specs.Assuming.Taken.{Gives};
-ghost use Rattle.scasp_search_copies.specs.Saved.{now_of, points_of};
 ghost use Rattle.scasp_search_rules.specs.Successors.Search.{step};
 ghost use Rattle.scasp_search_state.specs.Choices.{states};
 
@@ -19,15 +18,14 @@ use std::alloc::Global;
 pub type States = Sequence<State>;
 
 /// Copies of the states that are still to be gone through: the present one, where it is ahead, and those that wait behind it.
-#[tactic(auto, using(crate::proofs::StepsLemmas::first_copied, crate::proofs::StepsLemmas::one_fewer, crate::proofs::StepsLemmas::none_left))]
-fn all_states(
+fn all_states<M: Situation>(
     alloc: Global,
     program: &Program,
-    at: &mut Copied,
+    at: &mut M,
     is_ahead: bool,
 ) -> Result<States, Memory>
-    requires { is_ahead ≡ false → points_of at.old ≡ [] }
-    ensures { IfOk result (λ all. all ≡ states program.now is_ahead (now_of at.old) (points_of at.old)) }
+    requires { is_ahead ≡ false → M.points at.old ≡ [] }
+    ensures { IfOk result (λ all. all ≡ states program.now is_ahead (M.now at.old) (M.points at.old)) }
 {
     let mut all = States::new(alloc);
     let mut is_left = is_ahead;
@@ -38,15 +36,26 @@ fn all_states(
     Ok(all)
 }
 
+/// Copies of the states that come of the present one, behind which none waits.
+fn all_after<M: Situation>(
+    alloc: Global,
+    program: &Program,
+    at: &mut M,
+) -> Result<States, SearchErr>
+    requires { M.points at.old ≡ [] }
+    ensures { Gives result (step program.now sat (M.now at.old)).states (step program.now sat (M.now at.old)).asked }
+{
+    match step(alloc, program, at) {
+        Ok(went) => Ok(all_states(alloc, program, at, went)?),
+        Err(error) => Err(error),
+    }
+}
+
 /// What comes of a state that is no answer, in the order in which it is tried. Overflow only where a list that the step asks
 /// overflows.
-#[tactic(auto, using(crate::proofs::StepsLemmas::none_waits, crate::proofs::StepsLemmas::all_stepped, crate::proofs::StepsLemmas::not_stepped))]
 pub fn successors(alloc: Global, program: &Program, state: State) -> Result<States, SearchErr>
     ensures { Gives result (step program.now sat state).states (step program.now sat state).asked }
 {
     let mut at = Copied::new(alloc, state);
-    match step(alloc, program, &mut at) {
-        Ok(went) => Ok(all_states(alloc, program, &mut at, went)?),
-        Err(error) => Err(error),
-    }
+    all_after(alloc, program, &mut at)
 }
