@@ -12,6 +12,7 @@ use Rattle.scasp_cert.specs.Text.Separators.{separator_text}
 use Rattle.scasp_cert.specs.Text.Terms.{term_text}
 use Rattle.scasp_project.specs.Projection.{projection}
 use Rattle.scasp_project.specs.declared.projecting.Projected.{Projected}
+use Rattle.scasp_shorten.specs.Shortest.{shortest}
 use Rattle.scasp_project.specs.declared.projecting.Projected.TheVariants as projected
 
 -- ---- values
@@ -61,11 +62,11 @@ abbrev pub alternatives_text : List (List ℕ) → List (List Con) → List ℕ
 alternatives_text names lists =
     if length lists == 0 then codes "% where false\n" else if has_empty lists then [] else alternative_lines names true lists
 
--- what the given constraints say of the variables; none where that overflows
+-- what the given constraints say of the variables, in the shortest form; none where that overflows
 abbrev pub where_text : List (List ℕ) → Option Projected → List ℕ
 where_text names None = codes "% where overflow\n"
 where_text names (Some projected.TooMany) = codes "% where more\n"
-where_text names (Some (projected.Alternatives lists)) = alternatives_text names lists
+where_text names (Some (projected.Alternatives lists)) = alternatives_text names (shortest lists)
 
 -- ---- all
 

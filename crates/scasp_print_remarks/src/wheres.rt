@@ -8,6 +8,7 @@ use scasp_print::put_con;
 use scasp_print_words::{put, put_separator};
 use scasp_project::{Projected, project};
 use scasp_rows::LinErr;
+use scasp_shorten::shortest;
 use scasp_syntax::{Con, ConLists, Cons, VarList};
 
 /// Puts constraints with commas between them.
@@ -84,7 +85,7 @@ pub(crate) fn put_where(
     ensures { OnOk result (out.new.items ≡ out.old.items ++ spec.where_text names.now (projection given.now shown.now)) }
 {
     match project(given, shown) {
-        Ok(Projected::Alternatives(lists)) => put_alternatives(out, names, &lists),
+        Ok(Projected::Alternatives(lists)) => put_alternatives(out, names, &shortest(&lists)?),
         Ok(Projected::TooMany) => put(out, "% where more\n"),
         Err(LinErr::Overflow) => put(out, "% where overflow\n"),
         Err(LinErr::Memory) => Err(Memory),

@@ -6,7 +6,8 @@ use Rattle.std.specs.List.{flat_map, list_all}
 use Rattle.scasp_checker_rules.specs.PairLists.{pair_list}
 use Rattle.scasp_checker_rules.specs.Told.{Told}
 use Rattle.scasp_hint.specs.AskedRows.{asked}
-use Rattle.scasp_hint.specs.Finding.{Forced, possible, unknown, forced, Found, nothing, unknown_list, hint, found, found_asked, found_by, found_rows, first_forced, sides_asked}
+use Rattle.scasp_hint.specs.Finding.{Forced, possible, unknown, forced, Found, nothing, unknown_list, hint, found_asked, found_by, found_rows, first_forced, sides_asked}
+use Rattle.scasp_hint_steps.specs.Pruned.{found_pruned}
 use Rattle.scasp_hint.specs.Showing.{fault_of, terms_fault}
 use Rattle.scasp_hint.specs.Sides.{differs}
 use Rattle.scasp_hint.specs.declared.asked.Asked.{Asked}
@@ -14,7 +15,7 @@ use Rattle.scasp_hint.specs.declared.asked.Asked.TheVariants.{ByTerms, Overflows
 use Rattle.scasp_hint.specs.declared.fault.HintFault.{HintFault}
 use Rattle.scasp_hint.specs.declared.sides.Sides.{Sides}
 use Rattle.scasp_hint.specs.declared.sides.Sides.TheVariants.{Mixed, Large, Listed}
-use Rattle.scasp_hint.proofs.FoundLemmas.{found-terms}
+use Rattle.scasp_hint_steps.proofs.FoundLemmas.{pruned-only_terms, pruned-terms}
 use Rattle.scasp_num.specs.Linear.{Linear}
 use Rattle.scasp_rows.specs.Elimination.{elimination}
 use Rattle.scasp_rows.specs.declared.state.Halt.{Halt}
@@ -46,19 +47,19 @@ rows-not_terms cs all (Err (halt.Unsat steps)) e = cc
 rows-not_terms cs all (Err halt.Overflow) e = cc
 rows-not_terms cs all (Err halt.Memory) e = cc
 
-terms-found : (cs : List Con) → found cs ≡ hint hints.Terms → fault_of cs hints.Terms ≡ None
-terms-found cs e = by (asked cs) e
+terms-found : (cs : List Con) → found_pruned cs ≡ hint hints.Terms → fault_of cs hints.Terms ≡ None
+terms-found cs e = by (asked cs) (pruned-only_terms cs e)
   where
     by : (a : Asked) → found_asked cs a ≡ hint hints.Terms → terms_fault a ≡ None
     by ByTerms k = refl
     by Overflows k = cc
     by (Asks all) k = absurd (rows-not_terms cs all (elimination all) k)
 
-asked-some : (cs : List Con) (o : Found) → found cs ≡ o → o ≢ hint hints.Terms → is_some (fault_of cs hints.Terms) ≡ true
+asked-some : (cs : List Con) (o : Found) → found_pruned cs ≡ o → o ≢ hint hints.Terms → is_some (fault_of cs hints.Terms) ≡ true
 asked-some cs o e n = by (fault_of cs hints.Terms) refl
   where
     by : (f : Option HintFault) → fault_of cs hints.Terms ≡ f → is_some f ≡ true
-    by None k = absurd (n (sym e ∙ found-terms cs k))
+    by None k = absurd (n (sym e ∙ pruned-terms cs k))
     by (Some why) k = refl
 
 -- ---- one pair
@@ -71,7 +72,7 @@ module _ (free : ℕ) (given : List Con) (a b : Told) (m : Clashing) where
   first = pair_list free given a b
 
   abbrev pub other : Found
-  other = found (pair_list free given b a)
+  other = found_pruned (pair_list free given b a)
 
   -- by whether a clash line is needed, and what is found for the first list
   abbrev pub paired : Bool → Found → Clashing
@@ -81,9 +82,9 @@ module _ (free : ℕ) (given : List Con) (a b : Told) (m : Clashing) where
   }
 
   pub by-terms : fault_of first hints.Terms ≡ None → m ≡ with_pair free given (a, b) m
-  by-terms e = sym ((λ i. paired (is_some (e i)) (found-terms first e i)) ∙ none-more m)
+  by-terms e = sym ((λ i. paired (is_some (e i)) (pruned-terms first e i)) ∙ none-more m)
 
-  pub by-hint : (h : Hint) → hint h ≡ found first → with_shown a.at b.at h m ≡ with_pair free given (a, b) m
+  pub by-hint : (h : Hint) → hint h ≡ found_pruned first → with_shown a.at b.at h m ≡ with_pair free given (a, b) m
   by-hint hints.Terms e = by-terms (terms-found first (sym e))
   by-hint (hints.Rows steps) e =
       let h = hints.Rows steps in
@@ -94,10 +95,10 @@ module _ (free : ℕ) (given : List Con) (a b : Told) (m : Clashing) where
       (λ i. record { clashes = m.clashes ++ record { first = a.at; second = b.at; hint = h } ∷ []; known = sym (and-true m.known) i })
       ∙ (λ i. paired (sym (asked-some first (hint h) (sym e) (λ k. cc)) i) (e i))
 
-  pub by-none : nothing ≡ found first → with_turned a.at b.at true other m ≡ with_pair free given (a, b) m
+  pub by-none : nothing ≡ found_pruned first → with_turned a.at b.at true other m ≡ with_pair free given (a, b) m
   by-none e = λ i. paired (sym (asked-some first nothing (sym e) (λ k. cc)) i) (e i)
 
-  pub by-unknown : unknown_list ≡ found first → with_turned a.at b.at false other m ≡ with_pair free given (a, b) m
+  pub by-unknown : unknown_list ≡ found_pruned first → with_turned a.at b.at false other m ≡ with_pair free given (a, b) m
   by-unknown e = λ i. paired (sym (asked-some first unknown_list (sym e) (λ k. cc)) i) (e i)
 
 -- ---- all pairs

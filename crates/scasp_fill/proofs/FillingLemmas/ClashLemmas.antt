@@ -15,10 +15,11 @@ use Rattle.scasp_cert.specs.Certificate.{Certificate}
 use Rattle.scasp_cert.specs.Trees.{pos_tree, neg_tree, loop_tree, seen_tree, test_tree}
 use Rattle.scasp_cert.specs.declared.certificate.Clash.{Clash}
 use Rattle.scasp_hint.specs.AskedRows.{RowsNormal}
-use Rattle.scasp_hint.specs.Finding.{Found, found, hint, nothing, unknown_list}
+use Rattle.scasp_hint.specs.Finding.{Found, hint, nothing, unknown_list}
+use Rattle.scasp_hint_steps.specs.Pruned.{found_pruned}
 use Rattle.scasp_hint.specs.Showing.{fault_of}
 use Rattle.scasp_hint.specs.declared.fault.HintFault.{HintFault}
-use Rattle.scasp_hint.proofs.FoundLemmas.{found-hint, found-unshown}
+use Rattle.scasp_hint_steps.proofs.FoundLemmas.{pruned-shows, pruned-unshown}
 use Rattle.scasp_lines.specs.Lines.{free_of, lines}
 use Rattle.scasp_lines.specs.Walk.{Part, of_node, of_rule, of_check, of_case, Line}
 use Rattle.scasp_lines.proofs.WalkLemmas.{line-found}
@@ -111,9 +112,9 @@ module _ (free : ℕ) (given : List Con) where
   pub record ClashOf (a b : Told) (k : Clash) : Type 0 where
     pub first : k.first ≡ a.at
     pub second : k.second ≡ b.at
-    pub hinted : found (pair_list free given a b) ≡ hint k.hint
+    pub hinted : found_pruned (pair_list free given a b) ≡ hint k.hint
 
-  by-hint : (a b : Told) (o : Option Hint) (k : Clash) → hint_of (found (pair_list free given a b)) ≡ o → Contains (clash_by a.at b.at o) k → ClashOf a b k
+  by-hint : (a b : Told) (o : Option Hint) (k : Clash) → hint_of (found_pruned (pair_list free given a b)) ≡ o → Contains (clash_by a.at b.at o) k → ClashOf a b k
   by-hint a b None k e h = absurd (Contains-none k h)
   by-hint a b (Some x) k e h =
       let s = Contains-single _ k h in
@@ -123,13 +124,13 @@ module _ (free : ℕ) (given : List Con) where
         hinted = hint-found _ x e ∙ ap (λ (c : Clash). hint c.hint) s;
       }
 
-  by-either : (a b : Told) (o : Option Hint) (k : Clash) → hint_of (found (pair_list free given a b)) ≡ o
-      → Contains (clash_or a.at b.at o (clash_by b.at a.at (hint_of (found (pair_list free given b a))))) k → ClashOf a b k ⊎ ClashOf b a k
+  by-either : (a b : Told) (o : Option Hint) (k : Clash) → hint_of (found_pruned (pair_list free given a b)) ≡ o
+      → Contains (clash_or a.at b.at o (clash_by b.at a.at (hint_of (found_pruned (pair_list free given b a))))) k → ClashOf a b k ⊎ ClashOf b a k
   by-either a b None k e h = inr (by-hint b a _ k refl h)
   by-either a b (Some x) k e h = inl (by-hint a b (Some x) k e h)
 
   abbrev either : Told → Told → List Clash
-  either a b = clash_or a.at b.at (hint_of (found (pair_list free given a b))) (clash_by b.at a.at (hint_of (found (pair_list free given b a))))
+  either a b = clash_or a.at b.at (hint_of (found_pruned (pair_list free given a b))) (clash_by b.at a.at (hint_of (found_pruned (pair_list free given b a))))
 
   clash-from : (a b : Told) (k : Clash) → Contains (clash_for free given (a, b)) k → ClashOf a b k ⊎ ClashOf b a k
   clash-from a b k h = by (is_some (fault_of (pair_list free given a b) hints.Terms)) h
@@ -211,17 +212,17 @@ module _ (p : Program) (c : Certificate) where
         straight f s =
             let x = told-unique m.one a m.one_there ha (sym m.clash.first ∙ f) in
             let y = told-unique m.other b m.other_there hb (sym m.clash.second ∙ s) in
-            let q : found (apart_list a b) ≡ hint k.hint =
-            subst (λ (z : Told). found (apart_list a z) ≡ hint k.hint) y (subst (λ (z : Told). found (apart_list z m.other) ≡ hint k.hint) x m.clash.hinted) in
-            found-hint (apart_list a b) k.hint (normal (a, b) i).0 q
+            let q : found_pruned (apart_list a b) ≡ hint k.hint =
+            subst (λ (z : Told). found_pruned (apart_list a z) ≡ hint k.hint) y (subst (λ (z : Told). found_pruned (apart_list z m.other) ≡ hint k.hint) x m.clash.hinted) in
+            pruned-shows (apart_list a b) k.hint (normal (a, b) i).0 q
 
         turned : k.first ≡ b.at → k.second ≡ a.at → fault_of (apart_list b a) k.hint ≡ None
         turned f s =
             let x = told-unique m.one b m.one_there hb (sym m.clash.first ∙ f) in
             let y = told-unique m.other a m.other_there ha (sym m.clash.second ∙ s) in
-            let q : found (apart_list b a) ≡ hint k.hint =
-            subst (λ (z : Told). found (apart_list b z) ≡ hint k.hint) y (subst (λ (z : Told). found (apart_list z m.other) ≡ hint k.hint) x m.clash.hinted) in
-            found-hint (apart_list b a) k.hint (normal (a, b) i).1 q
+            let q : found_pruned (apart_list b a) ≡ hint k.hint =
+            subst (λ (z : Told). found_pruned (apart_list b z) ≡ hint k.hint) y (subst (λ (z : Told). found_pruned (apart_list z m.other) ≡ hint k.hint) x m.clash.hinted) in
+            pruned-shows (apart_list b a) k.hint (normal (a, b) i).1 q
 
         lines_named : (k.first ≡ a.at) × (k.second ≡ b.at) ⊎ (k.first ≡ b.at) × (k.second ≡ a.at)
         lines_named = elim (or_cases (nat_eq k.first a.at && nat_eq k.second b.at) (nat_eq k.first b.at && nat_eq k.second a.at) e) [
@@ -248,11 +249,11 @@ module _ (p : Program) (c : Certificate) where
     some-is (Some why) e = refl
 
     -- where some hint shows the pair apart, in either order, the clash lines that are found do
-    clash-serves : (a b : Told) (h : Hint) → Contains (all_pairs ts) (a, b) → is_either_known (found (apart_list a b)) (found (apart_list b a)) ≡ true
+    clash-serves : (a b : Told) (h : Hint) → Contains (all_pairs ts) (a, b) → is_either_known (found_pruned (apart_list a b)) (found_pruned (apart_list b a)) ≡ true
         → fault_of (apart_list a b) hints.Terms ≢ None
         → (fault_of (apart_list a b) h ≡ None) ⊎ (fault_of (apart_list b a) h ≡ None)
         → HasClash a b (clash_for (free_of c) c.given (a, b))
-    clash-serves a b h i known terms shown = there (found (apart_list a b)) refl (found (apart_list b a)) refl
+    clash-serves a b h i known terms shown = there (found_pruned (apart_list a b)) refl (found_pruned (apart_list b a)) refl
       where
         asked : is_some (fault_of (apart_list a b) hints.Terms) ≡ true
         asked = some-is (fault_of (apart_list a b) hints.Terms) terms
@@ -263,10 +264,10 @@ module _ (p : Program) (c : Certificate) where
         other_way : (x : Hint) → HasClash a b (record { first = b.at; second = a.at; hint = x } ∷ [])
         other_way x = (record { first = b.at; second = a.at; hint = x }, Contains-here _ [], or_right _ _ (and_from _ _ (number-same b.at b.at refl) (number-same a.at a.at refl)))
 
-        unknown : {o u : Found} → found (apart_list a b) ≡ o → found (apart_list b a) ≡ u → is_either_known (found (apart_list a b)) (found (apart_list b a)) ≡ true → is_either_known o u ≡ true
+        unknown : {o u : Found} → found_pruned (apart_list a b) ≡ o → found_pruned (apart_list b a) ≡ u → is_either_known (found_pruned (apart_list a b)) (found_pruned (apart_list b a)) ≡ true → is_either_known o u ≡ true
         unknown e f k = (λ i. is_either_known (sym e i) (sym f i)) ∙ k
 
-        there : (o : Found) → found (apart_list a b) ≡ o → (u : Found) → found (apart_list b a) ≡ u → HasClash a b (clash_for (free_of c) c.given (a, b))
+        there : (o : Found) → found_pruned (apart_list a b) ≡ o → (u : Found) → found_pruned (apart_list b a) ≡ u → HasClash a b (clash_for (free_of c) c.given (a, b))
         there (hint x) e u f = rw (asked, e) (one_way x)
         there unknown_list e (hint x) f = rw (asked, e, f) (other_way x)
         there unknown_list e nothing f = (let k = unknown e f known in cc)
@@ -274,8 +275,8 @@ module _ (p : Program) (c : Certificate) where
         there nothing e (hint x) f = rw (asked, e, f) (other_way x)
         there nothing e unknown_list f = (let k = unknown e f known in cc)
         there nothing e nothing f = elim shown [
-          | inl s ↦ absurd (found-unshown (apart_list a b) h (normal (a, b) i).0 e s)
-          | inr s ↦ absurd (found-unshown (apart_list b a) h (normal (a, b) i).1 f s)
+          | inl s ↦ absurd (pruned-unshown (apart_list a b) h (normal (a, b) i).0 e s)
+          | inr s ↦ absurd (pruned-unshown (apart_list b a) h (normal (a, b) i).1 f s)
         ]
 
     -- the list that a clash line shows is one of the two
@@ -289,7 +290,7 @@ module _ (p : Program) (c : Certificate) where
         by false f = inr f
 
     -- a pair that is shown apart with some clash lines is shown apart with those that are found
-    pub pair-serves : (f g : ℕ → Hint) (ks : List Clash) (a b : Told) → Contains (all_pairs ts) (a, b) → is_either_known (found (apart_list a b)) (found (apart_list b a)) ≡ true
+    pub pair-serves : (f g : ℕ → Hint) (ks : List Clash) (a b : Told) → Contains (all_pairs ts) (a, b) → is_either_known (found_pruned (apart_list a b)) (found_pruned (apart_list b a)) ≡ true
         → AreApart (shown_by f ks c) (a, b) → AreApart (shown_by g (clashes_found p c) c) (a, b)
     pair-serves f g ks a b i known h = by (fault_of (apart_list a b) hints.Terms) refl h
       where

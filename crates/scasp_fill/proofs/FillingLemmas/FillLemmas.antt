@@ -16,9 +16,10 @@ use Rattle.scasp_cert.specs.Skeleton.{skeleton}
 use Rattle.scasp_cert.specs.Trees.{pos_tree, neg_tree, loop_tree, seen_tree, test_tree, split, void, leaf, head, listed}
 use Rattle.scasp_cert.specs.declared.certificate.Clash.{Clash}
 use Rattle.scasp_hint.specs.AskedRows.{RowsNormal}
-use Rattle.scasp_hint.specs.Finding.{Found, found, hint, nothing, unknown_list}
+use Rattle.scasp_hint.specs.Finding.{Found, hint, nothing, unknown_list}
+use Rattle.scasp_hint_steps.specs.Pruned.{found_pruned}
 use Rattle.scasp_hint.specs.Showing.{fault_of}
-use Rattle.scasp_hint.proofs.FoundLemmas.{found-hint, found-unshown}
+use Rattle.scasp_hint_steps.proofs.FoundLemmas.{pruned-shows, pruned-unshown}
 use Rattle.scasp_lines.specs.Below.{count}
 use Rattle.scasp_lines.specs.Contexts.{context}
 use Rattle.scasp_lines.specs.Lines.{free_of, lines, setting}
@@ -53,13 +54,13 @@ each-map h P (x ∷ xs) f = (f x (Contains-here x xs), each-map h P xs (λ y i. 
 
 -- ---- a list that is asked has a hint
 
-list-found : (cs : List Con) (h : Hint) → RowsNormal cs → is_known (found cs) ≡ true → fault_of cs h ≡ None → fault_of cs (or_terms (hint_of (found cs))) ≡ None
-list-found cs h n known e = by (found cs) refl
+list-found : (cs : List Con) (h : Hint) → RowsNormal cs → is_known (found_pruned cs) ≡ true → fault_of cs h ≡ None → fault_of cs (or_terms (hint_of (found_pruned cs))) ≡ None
+list-found cs h n known e = by (found_pruned cs) refl
   where
-    by : (o : Found) → found cs ≡ o → fault_of cs (or_terms (hint_of (found cs))) ≡ None
-    by nothing f = absurd (found-unshown cs h n f e)
+    by : (o : Found) → found_pruned cs ≡ o → fault_of cs (or_terms (hint_of (found_pruned cs))) ≡ None
+    by nothing f = absurd (pruned-unshown cs h n f e)
     by unknown_list f = let k = ap is_known f in cc
-    by (hint k) f = rw f (found-hint cs k n f)
+    by (hint k) f = rw f (pruned-shows cs k n f)
 
 -- ---- rows stay in normal form
 
@@ -137,10 +138,10 @@ module _ (p : Program) (c : Certificate) (normal : AreRowsNormal p c) where
       by (of_case body (head children)) m = absurd (Contains-none cs m)
 
   -- the hint that is found for a line shows the list that the line asks, where any hint does
-  hint-serves : (l : Line) → Contains (lines p c) l → (cs : List Con) → Contains (part_lists c.given l.here l.part) cs → is_known (found cs) ≡ true
+  hint-serves : (l : Line) → Contains (lines p c) l → (cs : List Con) → Contains (part_lists c.given l.here l.part) cs → is_known (found_pruned cs) ≡ true
       → (h : Hint) → fault_of cs h ≡ None → fault_of cs (found_on p c l.at) ≡ None
   hint-serves l i cs m known h e =
-      let n : found_on p c l.at ≡ or_terms (hint_of (found cs)) = ap (hint_at c.given) (line-found p.clauses p.queries c l i) ∙ ap hint_for (one-list l cs m) in
+      let n : found_on p c l.at ≡ or_terms (hint_of (found_pruned cs)) = ap (hint_at c.given) (line-found p.clauses p.queries c l i) ∙ ap hint_for (one-list l cs m) in
       rw n (list-found cs h (lists-normal l i cs m) known e)
 
   told-line : (a : Told) → Contains (all_told (lines p c)) a → (l : Line) × Contains (lines p c) l × (a.opened ≡ l.here.opened)
@@ -200,7 +201,7 @@ module _ (p : Program) (c : Certificate) (normal : AreRowsNormal p c) where
 
   accepts-found : (positives : Bool) (f : ℕ → Hint) (ks : List Clash) → is_filling_known p c ≡ true → AcceptsWhere positives p (shown_by f ks c) → AcceptsWhere positives p (filled p c)
   accepts-found positives f ks known h =
-      let each = and_parts (list_all (λ cs. is_known (found cs)) (hint_lists p c)) (list_all (is_pair_known (free_of c) c.given) (all_pairs (all_told (lines p c)))) known in
+      let each = and_parts (list_all (λ cs. is_known (found_pruned cs)) (hint_lists p c)) (list_all (is_pair_known (free_of c) c.given) (all_pairs (all_told (lines p c)))) known in
       let g = found_on p c in
       let found_clashes = clashes_found p c in
       record {
@@ -215,7 +216,7 @@ module _ (p : Program) (c : Certificate) (normal : AreRowsNormal p c) where
             (each-map (line_hinted g) (LineHolds (hinted_whole positives g found_clashes)) (lines p c)
             (λ l i. line-holds (hinted_whole positives g found_clashes) (line_hinted g l)
             (line-serves (setting p.clauses c) c.given positives (lines p c) f g l (line-fault positives f ks h l i)
-            (λ cs m. hint-serves l i cs m (list_all-member (λ cs. is_known (found cs)) (hint_lists p c) cs each.0 (Contains-flat_map (λ (l : Line). part_lists c.given l.here l.part) (lines p c) l cs i m)) (f l.at)
+            (λ cs m. hint-serves l i cs m (list_all-member (λ cs. is_known (found_pruned cs)) (hint_lists p c) cs each.0 (Contains-flat_map (λ (l : Line). part_lists c.given l.here l.part) (lines p c) l cs i m)) (f l.at)
             (line-shown (setting p.clauses c) c.given positives (lines p c) f l (line-fault positives f ks h l i) cs m)))));
         apart =
             subst (λ (ts : List Told). Each (AreApart (filled p c)) (all_pairs ts)) (sym (told-same positives g found_clashes))

@@ -23,7 +23,7 @@ use Rattle.std.proofs.lemmas.List.{append-nil}
 use Rattle.std.proofs.lemmas.List.Folds.{list_all-append}
 use Rattle.scasp_checker_rules.specs.Pairs.{all_pairs}
 use Rattle.scasp_checker_rules.specs.Told.{Told, all_told}
-use Rattle.scasp_hint.specs.Finding.{found}
+use Rattle.scasp_hint_steps.specs.Pruned.{found_pruned}
 use Rattle.scasp_lines.specs.Walk.{Line}
 use Rattle.scasp_checker.specs.Partners.Partners.{group_of, grouped, pairs_of}
 use Rattle.scasp_checker.specs.declared.partners.partners.Partners.{Partners}
@@ -57,7 +57,7 @@ module _ (lists : Line → List (List Con)) (known more all : Bool) (ls rest : L
       → (known && all_known (flat_map lists ls)) ≡ all → (more && all_known (flat_map lists rest)) ≡ all
   one-known l e p h =
       ap (λ (b : Bool). b && all_known (flat_map lists rest)) p ∙ and_assoc known (all_known (lists l)) (all_known (flat_map lists rest))
-      ∙ ap (λ (b : Bool). known && b) (sym (list_all-append (λ (cs : List Con). is_known (found cs)) (lists l) (flat_map lists rest)))
+      ∙ ap (λ (b : Bool). known && b) (sym (list_all-append (λ (cs : List Con). is_known (found_pruned cs)) (lists l) (flat_map lists rest)))
       ∙ ap (λ (ks : List Line). known && all_known (flat_map lists ks)) (sym e) ∙ h
 
   pub no-known : ls ≡ [] → (known && all_known (flat_map lists ls)) ≡ all → known ≡ all

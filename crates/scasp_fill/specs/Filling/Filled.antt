@@ -8,7 +8,8 @@ use Rattle.scasp_syntax.specs.declared.hint.Hint.TheVariants as hints
 use Rattle.scasp_syntax.specs.declared.program.Program.{Program}
 use Rattle.scasp_cert.specs.Certificate.{Certificate}
 use Rattle.scasp_cert.specs.declared.certificate.Clash.{Clash}
-use Rattle.scasp_hint.specs.Finding.{Found, found, hint, nothing, unknown_list}
+use Rattle.scasp_hint.specs.Finding.{Found, hint, nothing, unknown_list}
+use Rattle.scasp_hint_steps.specs.Pruned.{found_pruned}
 use Rattle.scasp_hint.specs.Showing.{fault_of}
 use Rattle.scasp_lines.specs.Lines.{lines, free_of}
 use Rattle.scasp_lines.specs.Walk.{Line}
@@ -32,7 +33,7 @@ or_terms (Some h) = h
 -- what is found for the list that a line asks, if it asks one
 abbrev pub hint_for : List (List Con) → Hint
 hint_for [] = hints.Terms
-hint_for (cs ∷ more) = or_terms (hint_of (found cs))
+hint_for (cs ∷ more) = or_terms (hint_of (found_pruned cs))
 
 abbrev pub hint_at : List Con → Option Line → Hint
 hint_at given None = hints.Terms
@@ -56,7 +57,7 @@ clash_or first second (Some h) other = clash_by first second (Some h)
 abbrev pub clash_for : ℕ → List Con → Told × Told → List Clash
 clash_for free given ab =
     if is_some (fault_of (pair_list free given ab.0 ab.1) hints.Terms)
-    then clash_or ab.0.at ab.1.at (hint_of (found (pair_list free given ab.0 ab.1))) (clash_by ab.1.at ab.0.at (hint_of (found (pair_list free given ab.1 ab.0))))
+    then clash_or ab.0.at ab.1.at (hint_of (found_pruned (pair_list free given ab.0 ab.1))) (clash_by ab.1.at ab.0.at (hint_of (found_pruned (pair_list free given ab.1 ab.0))))
     else []
 
 abbrev pub clashes_found : Program → Certificate → List Clash
@@ -80,10 +81,10 @@ abbrev pub is_either_known : Found → Found → Bool
 is_either_known one other = is_some (hint_of one) || is_some (hint_of other) || (is_known one && is_known other)
 
 abbrev pub is_pair_known : ℕ → List Con → Told × Told → Bool
-is_pair_known free given ab = is_either_known (found (pair_list free given ab.0 ab.1)) (found (pair_list free given ab.1 ab.0))
+is_pair_known free given ab = is_either_known (found_pruned (pair_list free given ab.0 ab.1)) (found_pruned (pair_list free given ab.1 ab.0))
 
 -- no list overflows that could hide a hint or a clash line
 abbrev pub is_filling_known : Program → Certificate → Bool
 is_filling_known p c =
-    list_all (λ cs. is_known (found cs)) (hint_lists p c)
+    list_all (λ cs. is_known (found_pruned cs)) (hint_lists p c)
     && list_all (is_pair_known (free_of c) c.given) (all_pairs (all_told (lines p c)))

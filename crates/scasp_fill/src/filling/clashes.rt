@@ -7,7 +7,7 @@ ghost use Rattle.scasp_checker_rules.specs.Told.{all_told};
 ghost use Rattle.scasp_cert.specs.Certificate.{certificate_of};
 ghost use Rattle.scasp_fill.specs.Filling.Filled.{clashes_found, is_pair_known};
 ghost use Rattle.scasp_fill.specs.Filling.Inside.Clashing.{is_terms, with_clash, with_pair, with_pairs, with_shown, with_turned};
-ghost use Rattle.scasp_hint.specs.Finding.{found};
+ghost use Rattle.scasp_hint_steps.specs.Pruned.{found_pruned};
 ghost use Rattle.scasp_lines.specs.Lines.{free_of, lines};
 ghost use Rattle.scasp_checker.specs.Partners.Partners.{group_of, pairs_of};
 ghost use Rattle.scasp_lines_walk.specs.Shown.TableView.{told_from, told_of};
@@ -71,7 +71,7 @@ fn put_turned(
     known: bool,
     made: &mut Clashing,
 ) -> Result<(), Memory>
-    ensures { OnOk result (made.new ≡ with_turned first.now.at second.now.at known (found (pair_list free given.now (told_of second.now) (told_of first.now))) made.old) }
+    ensures { OnOk result (made.new ≡ with_turned first.now.at second.now.at known (found_pruned (pair_list free given.now (told_of second.now) (told_of first.now))) made.old) }
 {
     let list = pair_list(alloc, free, given, second, first)?;
     match find_hint(alloc, list.as_slice())? {

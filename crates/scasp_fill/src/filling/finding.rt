@@ -1,9 +1,9 @@
 //! What is found for a list of constraints.
 ghost use Rattle.std.specs.Prelude.{◌≡◌, IfOk};
 ghost use Rattle.scasp_fill.specs.Filling.Inside.Findings.{found_of};
-ghost use Rattle.scasp_hint.specs.Finding.{found};
+ghost use Rattle.scasp_hint_steps.specs.Pruned.{found_pruned};
 
-use scasp_hint::find;
+use scasp_hint_steps::find_pruned;
 use scasp_list::Memory;
 use scasp_rows::LinErr;
 use scasp_syntax::{Con, Hint};
@@ -22,9 +22,9 @@ pub(crate) enum Finding {
 
 /// What is found for the list.
 pub(crate) fn find_hint(alloc: Global, list: &[Con]) -> Result<Finding, Memory>
-    ensures { IfOk result (λ made. found_of made ≡ found list.now) }
+    ensures { IfOk result (λ made. found_of made ≡ found_pruned list.now) }
 {
-    match find(alloc, list) {
+    match find_pruned(alloc, list) {
         Ok(Some(hint)) => Ok(Finding::Shown(hint)),
         Ok(None) => Ok(Finding::Nothing),
         Err(LinErr::Overflow) => Ok(Finding::Unknown),

@@ -1,7 +1,8 @@
 -- What is found for lists of constraints.
 use Rattle.std.specs.Prelude.{Bool, Option, None, Some, List, [], ◌∷◌}
 use Rattle.std.specs.List.{flat_map, list_all}
-use Rattle.scasp_hint.specs.Finding.{Found, found, hint, nothing, unknown_list}
+use Rattle.scasp_hint.specs.Finding.{Found, hint, nothing, unknown_list}
+use Rattle.scasp_hint_steps.specs.Pruned.{found_pruned}
 use Rattle.scasp_lines.specs.Walk.{Line}
 use Rattle.scasp_search_rules.specs.Successors.Answers.{part_lists}
 use Rattle.scasp_syntax.specs.declared.con.Con.{Con}
@@ -21,7 +22,7 @@ lists_in (Some cs) = cs ∷ []
 
 -- no list of these overflows
 abbrev pub all_known : List (List Con) → Bool
-all_known lists = list_all (λ cs. is_known (found cs)) lists
+all_known lists = list_all (λ cs. is_known (found_pruned cs)) lists
 
 -- the lists that a line asks, and those that lines ask
 abbrev pub lists_at : List Con → Line → List (List Con)

@@ -2,7 +2,7 @@ use Rattle.std.proofs.Common.{◌≡◌, ◌∙◌, ap, subst, sym}
 use Rattle.std.specs.Prelude.{OnOk}
 use Rattle.scasp_fill.specs.Filling.Inside.Findings.{found_of}
 use Rattle.scasp_fill.specs.declared.filling.clashes.Clashing.{Clashing}
-use Rattle.scasp_hint.specs.Finding.{found}
+use Rattle.scasp_hint_steps.specs.Pruned.{found_pruned}
 use Rattle.scasp_checker.proofs.PartnersLemmas.NamedLemmas.{named-apart}
 use Rattle.scasp_lines_walk.specs.Shown.TableView.{told_of}
 use Rattle.scasp_fill.proofs.FillingLemmas.ClashFoundLemmas.{by-hint, by-terms, by-unknown}
@@ -18,12 +18,12 @@ pub returns-in-Shown : goal.returns-in-Shown
 returns-in-Shown c =
     subst (λ (x : Clashing). OnOk c.put_shown.result (c.put_shown.new.made ≡ x))
     (by-hint c.args.free c.args.given.now (told_of c.args.first.now) (told_of c.args.second.now) c.args.made.now c.in-Shown.hint
-    (sym (ap found_of c.in-Shown.is) ∙ c.in_ok-hint.ensures ∙ ap found (c.as_slice.ensures ∙ c.in_ok-list.ensures)))
+    (sym (ap found_of c.in-Shown.is) ∙ c.in_ok-hint.ensures ∙ ap found_pruned (c.as_slice.ensures ∙ c.in_ok-list.ensures)))
     c.put_shown.ensures
 
 pub returns : goal.returns
 returns c =
     subst (λ (x : Clashing). OnOk c.put_turned-in-Unknown.result (c.put_turned-in-Unknown.new.made ≡ x))
     (by-unknown c.args.free c.args.given.now (told_of c.args.first.now) (told_of c.args.second.now) c.args.made.now
-    (sym (ap found_of c.in-Unknown.is) ∙ c.in_ok-hint.ensures ∙ ap found (c.as_slice.ensures ∙ c.in_ok-list.ensures)))
+    (sym (ap found_of c.in-Unknown.is) ∙ c.in_ok-hint.ensures ∙ ap found_pruned (c.as_slice.ensures ∙ c.in_ok-list.ensures)))
     c.put_turned-in-Unknown.ensures

@@ -1,0 +1,6 @@
+pub mod ApartLemmas
+pub mod FollowingLemmas
+pub mod OrderingLemmas
+pub mod RowsLemmas
+pub mod ShorteningLemmas
+pub mod TestedLemmas
