@@ -5,6 +5,7 @@ mod files;
 mod pieces;
 mod programs;
 mod searches;
+mod slices;
 mod steps;
 mod stop;
 mod sweeps;

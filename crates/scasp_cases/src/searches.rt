@@ -12,7 +12,7 @@ use std::str;
 const SERVES: u64 = 50_000;
 
 /// What the lines of an event begin with.
-const MARK: &str = "calls ";
+pub const MARK: &str = "calls ";
 
 /// An event, as the text tells it: how many calls come before it, and its lines.
 #[derive(Clone, Copy)]
@@ -47,7 +47,7 @@ fn within(told: Told, budget: u64) -> Told {
 }
 
 /// The lines of the event.
-fn lines_of(alloc: Global, names: &Names, event: &Event) -> Result<Vec<u8>, Stop> {
+pub fn lines_of(alloc: Global, names: &Names, event: &Event) -> Result<Vec<u8>, Stop> {
     match event {
         Event::Answer(cert) => Ok(print_cert(alloc, names, cert, 1)?),
         Event::Ended => Ok(Vec::from_slice(alloc, b"ended\n")?),

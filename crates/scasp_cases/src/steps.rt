@@ -1,6 +1,7 @@
 //! The steps of cases.
 use crate::programs::{counts, entries, program, trial};
 use crate::searches::{answers, events};
+use crate::slices::{agree, pauses, slices};
 use crate::stop::{Stop, expect, number_of};
 use crate::sweeps::{cuts, writes};
 use crate::world::{World, name_of};
@@ -190,6 +191,9 @@ pub fn carry_out<F: Files>(
         "trial" => trial(alloc, world, rest, text),
         "events" => events(alloc, world, rest, text),
         "answers" => answers(alloc, world, rest),
+        "slices" => slices(alloc, world, rest, text),
+        "pauses" => pauses(alloc, world, rest),
+        "agree" => agree(alloc, world, rest),
         _ => Err(Stop::NoStep),
     }
 }

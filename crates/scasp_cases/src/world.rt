@@ -1,6 +1,7 @@
 //! What the steps of a case work on: files in memory, a device, and what came of the last command.
 use crate::stop::Stop;
 use scasp_io::{Bytes, CallList, MemFile, MemFileList, MemFiles, MemSink, Memory};
+use scasp_serve_top::serve;
 use scasp_top::{Status, scasp};
 use std::alloc::{AllocError, Global};
 
@@ -47,6 +48,25 @@ fn words_of(alloc: Global, words: &[&str]) -> Result<Vec<String>, AllocError> {
         all.push(String::from_str(alloc, text)?)?;
     }
     Ok(all)
+}
+
+/// Carries out the command of these words; behind `serve` they are those of `scasp_serve`. How it ends.
+fn ended(
+    alloc: Global,
+    words: &[&str],
+    files: &mut MemFiles,
+    out: &mut MemSink,
+) -> Result<Status, Memory> {
+    match words {
+        ["serve", behind @ ..] => {
+            let words = words_of(alloc, behind)?;
+            Ok(serve(alloc, &words, files, out).status())
+        }
+        _ => {
+            let words = words_of(alloc, words)?;
+            Ok(scasp(alloc, &words, files, out))
+        }
+    }
 }
 
 impl World {
@@ -97,12 +117,11 @@ impl World {
         words: &[&str],
         device: Device,
     ) -> Result<(), Memory> {
-        let words = words_of(alloc, words)?;
         self.files.failing = one(alloc, device.failing_read)?;
         self.files.calls = 0;
         let failing = one(alloc, device.failing_write)?;
         let mut out = MemSink::new(alloc, ROOM, device.chunk, failing)?;
-        self.status = scasp(alloc, &words, &mut self.files, &mut out);
+        self.status = ended(alloc, words, &mut self.files, &mut out)?;
         self.printed = out.taken;
         Ok(())
     }
