@@ -1,0 +1,4 @@
+pub mod Rules
+pub mod Trees
+pub mod Blocks
+pub mod Inside

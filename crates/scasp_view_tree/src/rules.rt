@@ -1,0 +1,148 @@
+//! The rules that a tree names.
+ghost use Rattle.std.specs.Prelude.{◌≡◌, ◌++◌, OnOk, codes, decimal};
+ghost use Rattle.std.specs.Option.{option_copied};
+ghost use Rattle.scasp_syntax.specs.Programs.{numbered};
+ghost use Rattle.scasp_view_tree.specs.Rules as spec;
+
+use crate::atoms::put_item;
+use scasp_list::Memory;
+use scasp_name::Names;
+use scasp_print_program::put_clause;
+use scasp_print_words::{put, put_number};
+use scasp_syntax::{Clause, Program, flat};
+use std::alloc::Global;
+use std::marker::Model;
+
+/// The clauses of a program, and the table of names.
+#[derive(Drop)]
+pub struct Rules<'a> {
+    program: &'a Program,
+    names: &'a Names,
+}
+
+impl<'a> Model for Rules<'a> {
+    ghost use Rattle.scasp_view_tree.specs.Rules.{View};
+
+    ghost Value = { View };
+
+    ghost view = { λ r. record { names = r.names.now; clauses = r.program.now.clauses } };
+}
+
+impl<'a> Rules<'a> {
+    ghost use Rattle.std.specs.Prelude.{◌≡◌};
+    ghost use Rattle.std.specs.Option.{option_copied};
+    ghost use Rattle.scasp_syntax.specs.Programs.{numbered};
+
+    /// The rules of the program, with these names.
+    pub fn new(program: &'a Program, names: &'a Names) -> Rules<'a>
+        ensures { result ≡ record { names = names.now; clauses = program.now.clauses } }
+    {
+        Rules { program, names }
+    }
+
+    /// The table of names.
+    pub fn names(&self) -> &Names
+        ensures { result.now ≡ self.now.names }
+    {
+        self.names
+    }
+
+    /// The clause of this number, counted from 1.
+    pub fn clause(&self, number: u64) -> Option<&Clause>
+        ensures { option_copied result ≡ numbered self.now.clauses number }
+    {
+        self.program.clause(number)
+    }
+}
+
+/// Puts the text of a clause behind a sign at the end, and the line's end; this alone where there is no such clause.
+fn put_clause_behind(
+    out: &mut Vec<u8>,
+    rules: &Rules<'_>,
+    sign: &str,
+    number: u64,
+) -> Result<(), Memory>
+    ensures { OnOk result (out.new.items ≡ out.old.items ++ spec.clause_behind rules.now sign.now number) }
+{
+    match rules.clause(number) {
+        None => put(out, "\n"),
+        Some(clause) => {
+            put(out, sign)?;
+            let alloc = *out.allocator();
+            put_clause(out, alloc, rules.names(), clause)
+        }
+    }
+}
+
+/// Puts the rule by which an atom holds at the end, and the line's end.
+#[tactic(auto, unfolding(crate::specs::Rules::by_text))]
+pub(crate) fn put_by(out: &mut Vec<u8>, rules: &Rules<'_>, number: u64) -> Result<(), Memory>
+    ensures { OnOk result (out.new.items ≡ out.old.items ++ spec.by_text rules.now number) }
+{
+    put(out, " by ")?;
+    put_number(out, number)?;
+    put_clause_behind(out, rules, ": ", number)
+}
+
+/// Puts the line of a rule at the end.
+#[tactic(auto, unfolding(crate::specs::Rules::rule_text))]
+pub(crate) fn put_rule(out: &mut Vec<u8>, rules: &Rules<'_>, number: u64) -> Result<(), Memory>
+    ensures { OnOk result (out.new.items ≡ out.old.items ++ spec.rule_text rules.now number) }
+{
+    put_number(out, number)?;
+    put_clause_behind(out, rules, ": ", number)
+}
+
+/// Puts the item of this number of a clause at the end, behind a sign; nothing where there is none.
+fn put_item_of(
+    out: &mut Vec<u8>,
+    rules: &Rules<'_>,
+    clause: &Clause,
+    item: u64,
+) -> Result<(), Memory>
+    ensures { OnOk result (out.new.items ≡ out.old.items ++ spec.item_of rules.now clause.now item) }
+{
+    if item == 0 {
+        return Ok(());
+    }
+    let alloc = *out.allocator();
+    let items = flat(alloc, clause)?;
+    match items.as_slice().get((item - 1) as usize) {
+        None => Ok(()),
+        Some(item) => {
+            put(out, ": ")?;
+            put_item(out, rules.names(), item)
+        }
+    }
+}
+
+fn put_item_behind(
+    out: &mut Vec<u8>,
+    rules: &Rules<'_>,
+    number: u64,
+    item: u64,
+) -> Result<(), Memory>
+    ensures { OnOk result (out.new.items ≡ out.old.items ++ spec.item_behind rules.now number item) }
+{
+    match rules.clause(number) {
+        None => Ok(()),
+        Some(clause) => put_item_of(out, rules, clause, item),
+    }
+}
+
+/// Puts the line of an item that fails at the end.
+#[tactic(auto, unfolding(crate::specs::Rules::fails_text))]
+pub(crate) fn put_fails(
+    out: &mut Vec<u8>,
+    rules: &Rules<'_>,
+    number: u64,
+    item: u64,
+) -> Result<(), Memory>
+    ensures { OnOk result (out.new.items ≡ out.old.items ++ spec.fails_text rules.now number item) }
+{
+    put(out, "item ")?;
+    put_number(out, item)?;
+    put(out, " fails")?;
+    put_item_behind(out, rules, number, item)?;
+    put(out, "\n")
+}
