@@ -7,4 +7,5 @@ mod programs;
 mod style;
 mod terms;
 
-pub use programs::print_program;
+pub use clauses::{put_clause, put_query};
+pub use programs::{print_program, written_count};

@@ -1,5 +1,5 @@
 -- Places in small texts, computed.
-use Rattle.std.specs.Prelude.{◌≡◌, ℕ, List, [], ◌∷◌, ◌++◌, codes, take, drop, refl}
+use Rattle.std.specs.Prelude.{◌≡◌, ℕ, List, [], ◌∷◌, codes, take, drop, refl}
 use Rattle.scasp_view_place.specs.Places.{column, line_number, line_text, mark_text, reached}
 
 abbrev two_lines : List ℕ

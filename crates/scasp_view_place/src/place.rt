@@ -1,6 +1,5 @@
 //! Places that are told.
-ghost use Rattle.std.specs.Prelude.{◌≡◌, ◌≤◌, ◌++◌, take, drop, length, IfOk, OnOk};
-ghost use Rattle.scasp_view_place.specs.Characters as characters;
+ghost use Rattle.std.specs.Prelude.{◌≡◌, ◌++◌, IfOk, OnOk};
 ghost use Rattle.scasp_view_place.specs.Places as spec;
 
 use crate::columns::{first_bytes, put_blanks};
@@ -22,6 +21,7 @@ fn reached(alloc: Global, before: &[u8], behind: &[u8]) -> Result<Vec<u8>, Memor
 }
 
 /// Puts the line and the column at the end.
+#[tactic(auto, unfolding(crate::specs::Places::numbers_text))]
 fn put_numbers(out: &mut Vec<u8>, line: u64, column: u64) -> Result<(), Memory>
     ensures { OnOk result (out.new.items ≡ out.old.items ++ spec.numbers_text line column) }
 {
@@ -33,6 +33,7 @@ fn put_numbers(out: &mut Vec<u8>, line: u64, column: u64) -> Result<(), Memory>
 }
 
 /// Puts the line that is parted here at the end.
+#[tactic(auto, unfolding(crate::specs::Places::line_text))]
 fn put_line(out: &mut Vec<u8>, before: &[u8], behind: &[u8]) -> Result<(), Memory>
     ensures { OnOk result (out.new.items ≡ out.old.items ++ spec.line_text before.now behind.now) }
 {
@@ -42,6 +43,7 @@ fn put_line(out: &mut Vec<u8>, before: &[u8], behind: &[u8]) -> Result<(), Memor
 }
 
 /// Puts a mark at the end that stands below the last of these characters.
+#[tactic(auto, unfolding(crate::specs::Places::mark_text))]
 fn put_mark(out: &mut Vec<u8>, firsts: &[u8]) -> Result<(), Memory>
     ensures { OnOk result (out.new.items ≡ out.old.items ++ spec.mark_text firsts.now) }
 {

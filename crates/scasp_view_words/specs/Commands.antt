@@ -3,7 +3,7 @@ use Rattle.std.specs.Prelude.{ℕ, Option, None, Some, option_map, if◌then◌e
 use Rattle.std.specs.Str.{bytes_eq}
 use Rattle.scasp_command_words.specs.Numbers.{number_between}
 use Rattle.scasp_view_words.specs.declared.command.Command.{Command}
-use Rattle.scasp_view_words.specs.declared.command.Command.TheVariants.{Place}
+use Rattle.scasp_view_words.specs.declared.command.Command.TheVariants.{Place, Program}
 use Rattle.scasp_view_words.specs.declared.command.TheConstants.{MOST_BYTE}
 
 -- behind `at`: FILE BYTE
@@ -13,7 +13,12 @@ place_of (file ∷ []) = None
 place_of (file ∷ byte ∷ []) = option_map (λ n. Place file n) (number_between 0 MOST_BYTE byte)
 place_of (file ∷ byte ∷ word ∷ words) = None
 
--- the command that the words are
+-- PROGRAM, and nothing behind it
+abbrev pub program_of : List ℕ → List (List ℕ) → Option Command
+program_of program [] = Some (Program program)
+program_of program (word ∷ words) = None
+
+-- the command that the words are; a program whose name is `at` is written `./at`
 abbrev pub command_of : List (List ℕ) → Option Command
 command_of [] = None
-command_of (word ∷ words) = if bytes_eq word (codes "at") then place_of words else None
+command_of (word ∷ words) = if bytes_eq word (codes "at") then place_of words else program_of word words

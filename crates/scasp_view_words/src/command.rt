@@ -1,6 +1,6 @@
 //! Commands.
 ghost use Rattle.std.specs.Prelude.{◌≡◌, Some, None, IfOk, IsErrOf, map, string_bytes};
-ghost use Rattle.scasp_view_words.specs.Commands.{command_of, place_of};
+ghost use Rattle.scasp_view_words.specs.Commands.{command_of, place_of, program_of};
 
 use scasp_command_words::{Word, WordErr, number_between};
 use std::alloc::Global;
@@ -16,6 +16,10 @@ pub enum Command {
         file: Word,
         byte: u64,
     },
+    /// A program with the numbers of its clauses and queries.
+    Program {
+        program: Word,
+    },
 }
 
 /// The command that the words behind `at` are: a file, and a byte.
@@ -23,16 +27,31 @@ fn place_command(alloc: Global, words: &[String]) -> Result<Command, WordErr>
     ensures ok { IfOk result (λ command. place_of (map string_bytes words.now) ≡ Some command) }
     ensures usage { IsErrOf result WordErr.Usage → place_of (map string_bytes words.now) ≡ None }
 {
-    let [file, byte] = words else {
-        return Err(WordErr::Usage);
-    };
-    let Some(byte) = number_between(0, MOST_BYTE, byte.as_str()) else {
-        return Err(WordErr::Usage);
-    };
-    Ok(Command::Place {
-        file: Word::from_text(alloc, file.as_str())?,
-        byte,
-    })
+    match words {
+        [file, byte] => {
+            let Some(byte) = number_between(0, MOST_BYTE, byte.as_str()) else {
+                return Err(WordErr::Usage);
+            };
+            Ok(Command::Place {
+                file: Word::from_text(alloc, file.as_str())?,
+                byte,
+            })
+        }
+        _ => Err(WordErr::Usage),
+    }
+}
+
+/// The command that a program is, with the words behind it.
+fn program_command(alloc: Global, program: &str, words: &[String]) -> Result<Command, WordErr>
+    ensures ok { IfOk result (λ command. program_of program.now (map string_bytes words.now) ≡ Some command) }
+    ensures usage { IsErrOf result WordErr.Usage → program_of program.now (map string_bytes words.now) ≡ None }
+{
+    match words {
+        [] => Ok(Command::Program {
+            program: Word::from_text(alloc, program)?,
+        }),
+        _ => Err(WordErr::Usage),
+    }
 }
 
 /// The command that the words are.
@@ -46,6 +65,7 @@ pub fn parse_words(alloc: Global, words: &Vec<String>) -> Result<Command, WordEr
 {
     match words.as_slice() {
         [word, behind @ ..] if word.as_str() == "at" => place_command(alloc, behind),
-        _ => Err(WordErr::Usage),
+        [word, behind @ ..] => program_command(alloc, word.as_str(), behind),
+        [] => Err(WordErr::Usage),
     }
 }

@@ -1,0 +1,35 @@
+//! A program with its numbers.
+ghost use Rattle.std.specs.Prelude.{◌≡◌};
+ghost use Rattle.scasp_command_inputs.specs.Halts.{IfLine};
+ghost use Rattle.scasp_command_inputs.specs.Inputs.{Says, outside};
+ghost use Rattle.scasp_command_inputs.specs.declared.status.Status.TheVariants.{Done};
+ghost use Rattle.scasp_view_program.specs.Numbered.{front, text_with};
+ghost use Rattle.scasp_view_top.specs.Programs.{ShowsProgram};
+
+use scasp_command_inputs::{Halt, Status, program_in_file};
+use scasp_io::Files;
+use scasp_list::Memory;
+use scasp_name::Names;
+use scasp_syntax::Program;
+use scasp_view_program::print_numbered;
+use std::alloc::Global;
+
+/// The text of the program with its numbers.
+fn numbered_text(alloc: Global, program: &Program, names: &Names) -> Halt
+    ensures { IfLine result (Says (text_with front names.now program.now.clauses program.now.queries) Done) }
+{
+    match print_numbered(alloc, program, names) {
+        Ok(text) => Halt::Line(text, Status::Done),
+        Err(Memory) => Halt::Memory,
+    }
+}
+
+/// The program in a file with its numbers; or the line that tells why there is none.
+pub(crate) fn program_shown<F: Files>(alloc: Global, file: &str, files: &mut F) -> Halt
+    ensures { IfLine result (ShowsProgram (outside (F.told files.old) (F.faults files.old) (F.faults files.new)) file.now) }
+{
+    match program_in_file(alloc, file, files) {
+        Ok((program, names)) => numbered_text(alloc, &program, &names),
+        Err(halt) => halt,
+    }
+}
