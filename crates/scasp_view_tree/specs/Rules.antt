@@ -1,5 +1,5 @@
 -- How the rules that a tree names are written.
-use Rattle.std.specs.Prelude.{ℕ, Option, None, Some, List, [], ◌++◌, codes, decimal}
+use Rattle.std.specs.Prelude.{ℕ, ◌==◌, Option, None, Some, List, [], ◌++◌, length, if◌then◌else◌, codes, decimal}
 use Rattle.scasp_syntax.specs.Flat.{flat_body}
 use Rattle.scasp_syntax.specs.Programs.{numbered}
 use Rattle.scasp_syntax.specs.declared.clause.Clause.{Clause}
@@ -14,22 +14,27 @@ pub record View : Type 0 where
   pub names : List (List ℕ)
   pub clauses : List Clause
 
--- the line of a clause, as that of a program's text, behind a sign
-abbrev pub clause_line : View → List ℕ → Option Clause → List ℕ
-clause_line v sign None = codes "\n"
-clause_line v sign (Some c) = sign ++ clause_text v.names c
+-- the line of a clause, as that of a program's text, behind a colon
+abbrev pub clause_line : View → Clause → List ℕ
+clause_line v c = codes ": " ++ clause_text v.names c
 
--- the line of the clause of this number; the end of a line alone where there is none
-abbrev pub clause_behind : View → List ℕ → ℕ → List ℕ
-clause_behind v sign k = clause_line v sign (numbered v.clauses k)
+-- the same of a clause that there may be; the line's end alone where there is none
+abbrev pub line_behind : View → Option Clause → List ℕ
+line_behind v None = codes "\n"
+line_behind v (Some c) = clause_line v c
 
--- ` by 1: p(V0) :- q(V0).`, behind an atom
+-- the same, where the line of a fact is left out
+abbrev pub rule_behind : View → Option Clause → List ℕ
+rule_behind v None = codes "\n"
+rule_behind v (Some c) = if length c.body == 0 then codes "\n" else clause_line v c
+
+-- ` by 1: p(V0) :- q(V0).`, behind an atom; ` by 2` where clause 2 is a fact
 unfoldable pub by_text : View → ℕ → List ℕ
-by_text v k = codes " by " ++ decimal k ++ clause_behind v (codes ": ") k
+by_text v k = codes " by " ++ decimal k ++ rule_behind v (numbered v.clauses k)
 
 -- `1: p(V0) :- q(V0).`
 unfoldable pub rule_text : View → ℕ → List ℕ
-rule_text v k = decimal k ++ clause_behind v (codes ": ") k
+rule_text v k = decimal k ++ line_behind v (numbered v.clauses k)
 
 -- ---- items
 

@@ -55,21 +55,37 @@ impl<'a> Rules<'a> {
     }
 }
 
-/// Puts the text of a clause behind a sign at the end, and the line's end; this alone where there is no such clause.
-fn put_clause_behind(
-    out: &mut Vec<u8>,
-    rules: &Rules<'_>,
-    sign: &str,
-    number: u64,
-) -> Result<(), Memory>
-    ensures { OnOk result (out.new.items ≡ out.old.items ++ spec.clause_behind rules.now sign.now number) }
+/// Puts the line of a clause behind a colon at the end.
+fn put_clause_line(out: &mut Vec<u8>, rules: &Rules<'_>, clause: &Clause) -> Result<(), Memory>
+    ensures { OnOk result (out.new.items ≡ out.old.items ++ spec.clause_line rules.now clause.now) }
+{
+    put(out, ": ")?;
+    let alloc = *out.allocator();
+    put_clause(out, alloc, rules.names(), clause)
+}
+
+/// Puts the line of the clause of this number at the end; the line's end alone where there is none.
+fn put_clause_behind(out: &mut Vec<u8>, rules: &Rules<'_>, number: u64) -> Result<(), Memory>
+    ensures { OnOk result (out.new.items ≡ out.old.items ++ spec.line_behind rules.now (numbered rules.now.clauses number)) }
+{
+    match rules.clause(number) {
+        None => put(out, "\n"),
+        Some(clause) => put_clause_line(out, rules, clause),
+    }
+}
+
+/// The same, where the line of a fact is left out.
+fn put_body_behind(out: &mut Vec<u8>, rules: &Rules<'_>, number: u64) -> Result<(), Memory>
+    ensures { OnOk result (out.new.items ≡ out.old.items ++ spec.rule_behind rules.now (numbered rules.now.clauses number)) }
 {
     match rules.clause(number) {
         None => put(out, "\n"),
         Some(clause) => {
-            put(out, sign)?;
-            let alloc = *out.allocator();
-            put_clause(out, alloc, rules.names(), clause)
+            if clause.body.len() == 0 {
+                put(out, "\n")
+            } else {
+                put_clause_line(out, rules, clause)
+            }
         }
     }
 }
@@ -81,7 +97,7 @@ pub(crate) fn put_by(out: &mut Vec<u8>, rules: &Rules<'_>, number: u64) -> Resul
 {
     put(out, " by ")?;
     put_number(out, number)?;
-    put_clause_behind(out, rules, ": ", number)
+    put_body_behind(out, rules, number)
 }
 
 /// Puts the line of a rule at the end.
@@ -90,7 +106,7 @@ pub(crate) fn put_rule(out: &mut Vec<u8>, rules: &Rules<'_>, number: u64) -> Res
     ensures { OnOk result (out.new.items ≡ out.old.items ++ spec.rule_text rules.now number) }
 {
     put_number(out, number)?;
-    put_clause_behind(out, rules, ": ", number)
+    put_clause_behind(out, rules, number)
 }
 
 /// Puts the item of this number of a clause at the end, behind a sign; nothing where there is none.
