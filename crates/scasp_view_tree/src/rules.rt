@@ -9,8 +9,7 @@ use scasp_list::Memory;
 use scasp_name::Names;
 use scasp_print_program::put_clause;
 use scasp_print_words::{put, put_number};
-use scasp_syntax::{Clause, Program, flat};
-use std::alloc::Global;
+use scasp_syntax::{Clause, FlatItem, FlatItems, Program, flat};
 use std::marker::Model;
 
 /// The clauses of a program, and the table of names.
@@ -109,21 +108,25 @@ pub(crate) fn put_rule(out: &mut Vec<u8>, rules: &Rules<'_>, number: u64) -> Res
     put_clause_behind(out, rules, number)
 }
 
-/// Puts the item of this number of a clause at the end, behind a sign; nothing where there is none.
-fn put_item_of(
+/// The item of this number, counted from 1.
+fn item_at(items: &FlatItems, number: u64) -> Option<&FlatItem>
+    ensures { option_copied result ≡ numbered items.now number }
+{
+    if number == 0 {
+        return None;
+    }
+    items.get((number - 1) as usize)
+}
+
+/// Puts an item behind a colon at the end, where there is one.
+fn put_item_text(
     out: &mut Vec<u8>,
     rules: &Rules<'_>,
-    clause: &Clause,
-    item: u64,
+    item: Option<&FlatItem>,
 ) -> Result<(), Memory>
-    ensures { OnOk result (out.new.items ≡ out.old.items ++ spec.item_of rules.now clause.now item) }
+    ensures { OnOk result (out.new.items ≡ out.old.items ++ spec.item_text rules.now (option_copied item)) }
 {
-    if item == 0 {
-        return Ok(());
-    }
-    let alloc = *out.allocator();
-    let items = flat(alloc, clause)?;
-    match items.as_slice().get((item - 1) as usize) {
+    match item {
         None => Ok(()),
         Some(item) => {
             put(out, ": ")?;
@@ -132,6 +135,20 @@ fn put_item_of(
     }
 }
 
+/// Puts the item of this number of a clause behind a colon at the end; nothing where there is none.
+fn put_item_of(
+    out: &mut Vec<u8>,
+    rules: &Rules<'_>,
+    clause: &Clause,
+    item: u64,
+) -> Result<(), Memory>
+    ensures { OnOk result (out.new.items ≡ out.old.items ++ spec.item_of rules.now clause.now item) }
+{
+    let items = flat(*out.allocator(), clause)?;
+    put_item_text(out, rules, item_at(&items, item))
+}
+
+/// The same of the clause of a number.
 fn put_item_behind(
     out: &mut Vec<u8>,
     rules: &Rules<'_>,
