@@ -6,12 +6,16 @@ use Rattle.scasp_view_words.specs.declared.command.Command.{Command}
 use Rattle.scasp_view_words.specs.declared.command.Command.TheVariants.{Place, Program}
 use Rattle.scasp_view_words.specs.declared.command.TheConstants.{MOST_BYTE}
 
+-- behind `at FILE`: BYTE
+abbrev pub place_of : List ℕ → List (List ℕ) → Option Command
+place_of file [] = None
+place_of file (byte ∷ []) = option_map (λ n. Place file n) (number_between 0 MOST_BYTE byte)
+place_of file (byte ∷ word ∷ words) = None
+
 -- behind `at`: FILE BYTE
-abbrev pub place_of : List (List ℕ) → Option Command
-place_of [] = None
-place_of (file ∷ []) = None
-place_of (file ∷ byte ∷ []) = option_map (λ n. Place file n) (number_between 0 MOST_BYTE byte)
-place_of (file ∷ byte ∷ word ∷ words) = None
+abbrev pub at_of : List (List ℕ) → Option Command
+at_of [] = None
+at_of (file ∷ words) = place_of file words
 
 -- PROGRAM, and nothing behind it
 abbrev pub program_of : List ℕ → List (List ℕ) → Option Command
@@ -21,4 +25,4 @@ program_of program (word ∷ words) = None
 -- the command that the words are; a program whose name is `at` is written `./at`
 abbrev pub command_of : List (List ℕ) → Option Command
 command_of [] = None
-command_of (word ∷ words) = if bytes_eq word (codes "at") then place_of words else program_of word words
+command_of (word ∷ words) = if bytes_eq word (codes "at") then at_of words else program_of word words
