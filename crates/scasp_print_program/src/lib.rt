@@ -7,5 +7,4 @@ mod programs;
 mod style;
 mod terms;
 
-pub use clauses::{put_clause, put_query};
-pub use programs::{print_program, written_count};
+pub use programs::print_program;

@@ -1,31 +1,25 @@
 -- What is shown, and the cause of each status.
-use Rattle.std.proofs.Common.{◌≡◌, ◌≢◌, ◌∙◌, ℕ, Bool, true, false, Option, None, Some, List, [], refl, sym, subst}
+use Rattle.std.proofs.Common.{◌≡◌, ℕ, Option, None, Some, List, [], refl, sym, subst}
 use Rattle.scasp_command_inputs.proofs.InputLemmas.{line-widen}
 use Rattle.scasp_command_inputs.proofs.ReportLemmas.{reports-widen, tells-widen}
 use Rattle.scasp_command_inputs.specs.Halts.{IfLine, Tells}
-use Rattle.scasp_command_inputs.specs.Inputs.{IsNoProgram, Outside, Says, refused, unread as unread_program, without_faults}
+use Rattle.scasp_command_inputs.specs.Inputs.{Outside, Says, without_faults}
 use Rattle.scasp_command_inputs.specs.Reports.{Reports, whole, part}
-use Rattle.scasp_command_inputs.specs.Texts.{Refusal, program_refusal, refusal_status}
 use Rattle.scasp_command_inputs.specs.declared.halt.Halt.{Halt}
 use Rattle.scasp_command_inputs.specs.declared.status.Status.{Status}
 use Rattle.scasp_command_inputs.specs.declared.status.Status.TheVariants as status
 use Rattle.scasp_io.specs.Counts.{Rose}
 use Rattle.scasp_io.specs.Taken.{TakesWhole}
-use Rattle.scasp_view_top.specs.Outputs.{HasReadFault, Outputs, nothing, place, program, usage, usage_line}
+use Rattle.scasp_view_top.specs.Outputs.{HasReadFault, Outputs, nothing, place, usage, usage_line}
 use Rattle.scasp_view_top.specs.Places.{TellsPlace, past, place as at_place, read, too_long, unread}
-use Rattle.scasp_view_top.specs.Programs.{ShowsProgram, no_program, program as shown_program}
 use Rattle.scasp_view_words.specs.declared.command.Command.{Command}
-use Rattle.scasp_view_words.specs.declared.command.Command.TheVariants.{Place, Program}
+use Rattle.scasp_view_words.specs.declared.command.Command.TheVariants.{Place}
 
 -- ---- lines that are shown
 
 pub place-shown : (o : Outside) (file : List ℕ) (byte : ℕ) (h : Halt) → IfLine h (TellsPlace o file byte) → IfLine h (Outputs (Some (Place file byte)) o)
 place-shown o file byte h line =
     line-widen h (TellsPlace o file byte) (Outputs (Some (Place file byte)) o) line (λ text s t. place file byte refl t)
-
-pub program-line-shown : (o : Outside) (file : List ℕ) (h : Halt) → IfLine h (ShowsProgram o file) → IfLine h (Outputs (Some (Program file)) o)
-program-line-shown o file h line =
-    line-widen h (ShowsProgram o file) (Outputs (Some (Program file)) o) line (λ text s t. program file refl t)
 
 module _ (command : Option Command) (o : Outside) (h : Halt) where
   pub command-shown : (c : Command) → command ≡ Some c → IfLine h (Outputs (Some c) o) → IfLine h (Outputs command o)
@@ -39,10 +33,6 @@ module _ (command : Option Command) (o : Outside) (h : Halt) where
 fault-of : (command : Option Command) (o : Outside) (c : Command) → command ≡ Some c → HasReadFault (Some c) o → HasReadFault command o
 fault-of command o c is h = let P : Option Command → Type 0 = λ x. HasReadFault x o in subst P (sym is) h
 
--- the status of a text that is refused is neither of these
-refusal-other : (r : Refusal) (other : Status) → other ≢ status.Limit → other ≢ status.Text → refusal_status r ≢ other
-refusal-other r other past off = elim (r.limit) as (λ b. refusal_status (record { limit = b; word = r.word }) ≢ other) [ true ↦ λ e. past (sym e) | false ↦ λ e. off (sym e) ]
-
 module _ (command : Option Command) (o : Outside) (text : List ℕ) (s : Status) where
   read-fault : Outputs command o text s → s ≡ status.Read → HasReadFault command o
   read-fault (nothing says) e = absurd (cc (says.ending_is, e))
@@ -51,10 +41,6 @@ module _ (command : Option Command) (o : Outside) (text : List ℕ) (s : Status)
   read-fault (place file byte is (too_long bytes are longer says)) e = absurd (cc (says.ending_is, e))
   read-fault (place file byte is (read bytes are within (past beyond says))) e = absurd (cc (says.ending_is, e))
   read-fault (place file byte is (read bytes are within (at_place there says))) e = absurd (cc (says.ending_is, e))
-  read-fault (program file is (no_program (unread_program rose says))) e = fault-of command o (Program file) is rose
-  read-fault (program file is (no_program (refused bytes are r))) e =
-      absurd (refusal-other (program_refusal (r.fault).kind) status.Read (λ q. cc q) (λ q. cc q) (sym (r.says).ending_is ∙ e))
-  read-fault (program file is (shown_program p names read says)) e = absurd (cc (says.ending_is, e))
 
   never-write : Outputs command o text s → s ≡ status.Write → ⊥
   never-write (nothing says) e = cc (says.ending_is, e)
@@ -63,10 +49,6 @@ module _ (command : Option Command) (o : Outside) (text : List ℕ) (s : Status)
   never-write (place file byte is (too_long bytes are longer says)) e = cc (says.ending_is, e)
   never-write (place file byte is (read bytes are within (past beyond says))) e = cc (says.ending_is, e)
   never-write (place file byte is (read bytes are within (at_place there says))) e = cc (says.ending_is, e)
-  never-write (program file is (no_program (unread_program rose says))) e = cc (says.ending_is, e)
-  never-write (program file is (no_program (refused bytes are r))) e =
-      refusal-other (program_refusal (r.fault).kind) status.Write (λ q. cc q) (λ q. cc q) (sym (r.says).ending_is ∙ e)
-  never-write (program file is (shown_program p names read says)) e = cc (says.ending_is, e)
 
   -- where no read fails, what is shown is so too where none can fail
   without : ¬ HasReadFault command o → Outputs command o text s → Outputs command (without_faults o) text s
@@ -75,9 +57,6 @@ module _ (command : Option Command) (o : Outside) (text : List ℕ) (s : Status)
   without fine (place file byte is (unread rose says)) = absurd (fine (fault-of command o (Place file byte) is rose))
   without fine (place file byte is (too_long bytes are longer says)) = place file byte is (too_long bytes are longer says)
   without fine (place file byte is (read bytes are within t)) = place file byte is (read bytes are within t)
-  without fine (program file is (no_program (unread_program rose says))) = absurd (fine (fault-of command o (Program file) is rose))
-  without fine (program file is (no_program (refused bytes are r))) = program file is (no_program (refused bytes are r))
-  without fine (program file is (shown_program p names read says)) = program file is (shown_program p names read says)
 
 -- ---- the clauses
 

@@ -2,7 +2,6 @@
 #![tactic(auto)]
 
 mod places;
-mod programs;
 mod texts;
 mod top;
 

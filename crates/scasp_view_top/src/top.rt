@@ -9,14 +9,13 @@ ghost use Rattle.scasp_view_top.specs.Outputs.{HasReadFault, Outputs};
 ghost use Rattle.scasp_view_words.specs.Commands.{command_of};
 
 use crate::places::place_in_file;
-use crate::programs::program_shown;
 use scasp_command_inputs::{Halt, Status, line, tell};
 use scasp_command_words::WordErr;
 use scasp_io::{Files, Sink};
 use scasp_view_words::{Command, parse_words};
 use std::alloc::Global;
 
-const USAGE_LINE: &[u8] = b"usage: scasp_view at FILE BYTE | scasp_view PROGRAM\n";
+const USAGE_LINE: &[u8] = b"usage: scasp_view at FILE BYTE\n";
 
 /// What the command shows.
 fn shown<F: Files>(alloc: Global, command: &Command, files: &mut F) -> Halt
@@ -24,7 +23,6 @@ fn shown<F: Files>(alloc: Global, command: &Command, files: &mut F) -> Halt
 {
     match command {
         Command::Place { file, byte } => place_in_file(alloc, file.as_str(), *byte, files),
-        Command::Program { program } => program_shown(alloc, program.as_str(), files),
     }
 }
 

@@ -3,7 +3,7 @@ use Rattle.std.specs.Prelude.{ℕ, Option, None, Some, option_map, if◌then◌e
 use Rattle.std.specs.Str.{bytes_eq}
 use Rattle.scasp_command_words.specs.Numbers.{number_between}
 use Rattle.scasp_view_words.specs.declared.command.Command.{Command}
-use Rattle.scasp_view_words.specs.declared.command.Command.TheVariants.{Place, Program}
+use Rattle.scasp_view_words.specs.declared.command.Command.TheVariants.{Place}
 use Rattle.scasp_view_words.specs.declared.command.TheConstants.{MOST_BYTE}
 
 -- behind `at FILE`: BYTE
@@ -17,12 +17,7 @@ abbrev pub at_of : List (List ℕ) → Option Command
 at_of [] = None
 at_of (file ∷ words) = place_of file words
 
--- PROGRAM, and nothing behind it
-abbrev pub program_of : List ℕ → List (List ℕ) → Option Command
-program_of program [] = Some (Program program)
-program_of program (word ∷ words) = None
-
--- the command that the words are; a program whose name is `at` is written `./at`
+-- the command that the words are
 abbrev pub command_of : List (List ℕ) → Option Command
 command_of [] = None
-command_of (word ∷ words) = if bytes_eq word (codes "at") then at_of words else program_of word words
+command_of (word ∷ words) = if bytes_eq word (codes "at") then at_of words else None

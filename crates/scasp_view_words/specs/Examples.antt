@@ -1,16 +1,13 @@
 -- Words that are a command, and words that are none, computed.
 use Rattle.std.specs.Prelude.{◌≡◌, ℕ, None, Some, List, [], ◌∷◌, codes, refl}
 use Rattle.scasp_view_words.specs.Commands.{command_of}
-use Rattle.scasp_view_words.specs.declared.command.Command.TheVariants.{Place, Program}
+use Rattle.scasp_view_words.specs.declared.command.Command.TheVariants.{Place}
 
 first_byte : command_of (codes "at" ∷ codes "p" ∷ codes "0" ∷ []) ≡ Some (Place (codes "p") 0)
 first_byte = refl
 
 some_byte : command_of (codes "at" ∷ codes "at" ∷ codes "262" ∷ []) ≡ Some (Place (codes "at") 262)
 some_byte = refl
-
-numbered : command_of (codes "p" ∷ []) ≡ Some (Program (codes "p"))
-numbered = refl
 
 -- ---- none
 

@@ -1,6 +1,6 @@
 //! Commands.
 ghost use Rattle.std.specs.Prelude.{◌≡◌, Some, None, IfOk, IsErrOf, map, string_bytes};
-ghost use Rattle.scasp_view_words.specs.Commands.{at_of, command_of, place_of, program_of};
+ghost use Rattle.scasp_view_words.specs.Commands.{at_of, command_of, place_of};
 
 use scasp_command_words::{Word, WordErr, number_between};
 use std::alloc::Global;
@@ -13,8 +13,6 @@ const MOST_BYTE: u64 = 9_999_999_999;
 pub enum Command {
     /// The line and the column of a byte of a file, the first being 0.
     Place { file: Word, byte: u64 },
-    /// A program with the numbers of its clauses and queries.
-    Program { program: Word },
 }
 
 /// The command that a file behind `at` is, with the words behind it: a byte.
@@ -45,19 +43,6 @@ fn at_command(alloc: Global, words: &[String]) -> Result<Command, WordErr>
     }
 }
 
-/// The command that a program is, with the words behind it.
-fn program_command(alloc: Global, program: &str, words: &[String]) -> Result<Command, WordErr>
-    ensures ok { IfOk result (λ command. program_of program.now (map string_bytes words.now) ≡ Some command) }
-    ensures usage { IsErrOf result WordErr.Usage → program_of program.now (map string_bytes words.now) ≡ None }
-{
-    match words {
-        [] => Ok(Command::Program {
-            program: Word::from_text(alloc, program)?,
-        }),
-        _ => Err(WordErr::Usage),
-    }
-}
-
 /// The command that the words are.
 ///
 /// # Errors
@@ -69,7 +54,6 @@ pub fn parse_words(alloc: Global, words: &Vec<String>) -> Result<Command, WordEr
 {
     match words.as_slice() {
         [word, behind @ ..] if word.as_str() == "at" => at_command(alloc, behind),
-        [word, behind @ ..] => program_command(alloc, word.as_str(), behind),
-        [] => Err(WordErr::Usage),
+        _ => Err(WordErr::Usage),
     }
 }

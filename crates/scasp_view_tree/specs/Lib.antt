@@ -1,4 +1,0 @@
-pub mod Rules
-pub mod Trees
-pub mod Blocks
-pub mod Inside
