@@ -1,5 +1,5 @@
 -- What is told of a place in a file.
-use Rattle.std.proofs.Common.{◌≡◌, ◌≤◌, ◌<◌, ℕ, Option, IfSome, List, ◌++◌, length, take, drop, refl, subst, codes}
+use Rattle.std.proofs.Common.{◌≡◌, ◌≤◌, ◌<◌, ℕ, Option, IfSome, List, length, take, drop, subst, codes}
 use Rattle.scasp_command_inputs.proofs.InputLemmas.{line-widen, longer-told}
 use Rattle.scasp_command_inputs.specs.Halts.{IfLine}
 use Rattle.scasp_command_inputs.specs.Inputs.{AreBytes, Failed, Says, outside}
@@ -13,8 +13,10 @@ pub past-line : (bytes : List ℕ) (byte : ℕ) (h : Halt) → length bytes < by
 past-line bytes byte h beyond says =
     line-widen h (Says (cut_line (length bytes)) Text) (TellsPlaceIn bytes byte) says (λ text status s. past beyond s)
 
-pub place-line : (bytes text : List ℕ) (byte : ℕ) → byte ≤ length bytes → text ≡ place_text (take byte bytes) (drop byte bytes) → TellsPlaceIn bytes byte text Done
-place-line bytes text byte within is = place within (record { line_is = is; ending_is = refl })
+pub place-line : (bytes : List ℕ) (byte : ℕ) (h : Halt) → byte ≤ length bytes → IfLine h (Says (place_text (take byte bytes) (drop byte bytes)) Done)
+    → IfLine h (TellsPlaceIn bytes byte)
+place-line bytes byte h within says =
+    line-widen h (Says (place_text (take byte bytes) (drop byte bytes)) Done) (TellsPlaceIn bytes byte) says (λ text status s. place within s)
 
 module _ (told : List ℕ → Option (List ℕ)) (before after : List ℕ → ℕ) (file : List ℕ) (byte : ℕ) (h : Halt) where
   pub read-place : (items bytes : List ℕ) → bytes ≡ items → AreBytes (told file) items → length items ≤ BYTE_LIMIT → IfLine h (TellsPlaceIn bytes byte)

@@ -1,37 +1,28 @@
 //! The whole call.
-ghost use Rattle.std.specs.Prelude.{◌≡◌, Some, map, string_bytes};
+ghost use Rattle.std.specs.Prelude.{◌≡◌, map, string_bytes};
 ghost use Rattle.scasp_command_inputs.specs.Halts.{IfLine};
 ghost use Rattle.scasp_command_inputs.specs.Inputs.{outside, without_faults};
 ghost use Rattle.scasp_command_inputs.specs.Reports.{Reports};
 ghost use Rattle.scasp_io.specs.Counts.{Rose};
 ghost use Rattle.scasp_io.specs.Taken.{TakesWhole};
 ghost use Rattle.scasp_view_top.specs.Outputs.{HasReadFault, Outputs};
-ghost use Rattle.scasp_view_words.specs.Commands.{command_of};
+ghost use Rattle.scasp_view_words.specs.Places.{asked_of};
 
-use crate::places::place_in_file;
+use crate::places::place_shown;
 use scasp_command_inputs::{Halt, Status, line, tell};
 use scasp_command_words::WordErr;
 use scasp_io::{Files, Sink};
-use scasp_view_words::{Command, parse_words};
+use scasp_view_words::parse_words;
 use std::alloc::Global;
 
 const USAGE_LINE: &[u8] = b"usage: scasp_view at FILE BYTE\n";
 
-/// What the command shows.
-fn shown<F: Files>(alloc: Global, command: &Command, files: &mut F) -> Halt
-    ensures { IfLine result (Outputs (Some command.now) (outside (F.told files.old) (F.faults files.old) (F.faults files.new))) }
-{
-    match command {
-        Command::Place { file, byte } => place_in_file(alloc, file.as_str(), *byte, files),
-    }
-}
-
 /// What the words ask to be shown, or the line that tells how they are written.
 fn shown_for<F: Files>(alloc: Global, words: &Vec<String>, files: &mut F) -> Halt
-    ensures { IfLine result (Outputs (command_of (map string_bytes words.now.items)) (outside (F.told files.old) (F.faults files.old) (F.faults files.new))) }
+    ensures { IfLine result (Outputs (asked_of (map string_bytes words.now.items)) (outside (F.told files.old) (F.faults files.old) (F.faults files.new))) }
 {
     match parse_words(alloc, words) {
-        Ok(command) => shown(alloc, &command, files),
+        Ok(place) => place_shown(alloc, &place, files),
         Err(WordErr::Usage) => line(alloc, USAGE_LINE, Status::Usage),
         Err(WordErr::Memory) => Halt::Memory,
     }
@@ -44,14 +35,14 @@ pub fn view<F: Files, K: Sink>(
     files: &mut F,
     out: &mut K,
 ) -> Status
-    ensures reports { Reports (Outputs (command_of (map string_bytes words.now.items)) (outside (F.told files.old) (F.faults files.old) (F.faults files.new))) (K.taken out.old) (K.taken out.new) (K.faults out.old) (K.faults out.new) result }
-    ensures read { result ≡ Status.Read → HasReadFault (command_of (map string_bytes words.now.items)) (outside (F.told files.old) (F.faults files.old) (F.faults files.new)) }
+    ensures reports { Reports (Outputs (asked_of (map string_bytes words.now.items)) (outside (F.told files.old) (F.faults files.old) (F.faults files.new))) (K.taken out.old) (K.taken out.new) (K.faults out.old) (K.faults out.new) result }
+    ensures read { result ≡ Status.Read → HasReadFault (asked_of (map string_bytes words.now.items)) (outside (F.told files.old) (F.faults files.old) (F.faults files.new)) }
     ensures write { result ≡ Status.Write → Rose (K.faults out.old) (K.faults out.new) }
 
     // Nothing but a fault that was counted, and want of memory, keeps the text that is asked for from being shown whole.
-    ensures complete { ¬ HasReadFault (command_of (map string_bytes words.now.items)) (outside (F.told files.old) (F.faults files.old) (F.faults files.new))
+    ensures complete { ¬ HasReadFault (asked_of (map string_bytes words.now.items)) (outside (F.told files.old) (F.faults files.old) (F.faults files.new))
         → ¬ Rose (K.faults out.old) (K.faults out.new)
-        → TakesWhole (λ text. Outputs (command_of (map string_bytes words.now.items)) (without_faults (outside (F.told files.old) (F.faults files.old) (F.faults files.new))) text result) (K.taken out.old) (K.taken out.new) }
+        → TakesWhole (λ text. Outputs (asked_of (map string_bytes words.now.items)) (without_faults (outside (F.told files.old) (F.faults files.old) (F.faults files.new))) text result) (K.taken out.old) (K.taken out.new) }
 {
     let halt = shown_for(alloc, words, files);
     tell(&halt, out)

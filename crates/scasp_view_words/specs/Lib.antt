@@ -1,2 +1,2 @@
-pub mod Commands
+pub mod Places
 pub mod Examples

@@ -1,6 +1,6 @@
 //! The words of `scasp_view`.
 #![tactic(auto)]
 
-mod command;
+mod place;
 
-pub use command::{Command, parse_words};
+pub use place::{Place, parse_words};
