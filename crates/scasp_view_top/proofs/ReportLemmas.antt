@@ -1,5 +1,5 @@
 -- What is shown, and the cause of each status.
-use Rattle.std.proofs.Common.{◌≡◌, ℕ, Option, None, Some, List, [], refl, sym, subst}
+use Rattle.std.proofs.Common.{◌≡◌, ℕ, Option, None, Some, List, sym, subst}
 use Rattle.scasp_command_inputs.proofs.InputLemmas.{line-widen}
 use Rattle.scasp_command_inputs.proofs.ReportLemmas.{reports-widen, tells-widen}
 use Rattle.scasp_command_inputs.specs.Halts.{IfLine, Tells}

@@ -1,4 +1,4 @@
-use Rattle.std.proofs.Common.{Global, map, refl, string_bytes}
+use Rattle.std.proofs.Common.{Global, map, string_bytes}
 use Rattle.scasp_command_inputs.specs.Inputs.{outside}
 use Rattle.scasp_view_top.proofs.ReportLemmas.{place-shown, usage-shown}
 use Rattle.scasp_view_words.specs.Places.{asked_of}
