@@ -1,0 +1,3 @@
+greets('Jürgen', 'Grüß Gott').
+heard(X) :- greets(X, 'naïve), said(X).
+?- heard(X).

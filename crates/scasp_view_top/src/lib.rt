@@ -1,0 +1,8 @@
+//! The call of `scasp_view`: from its words and the bytes of files to what is shown.
+#![tactic(auto)]
+
+mod places;
+mod texts;
+mod top;
+
+pub use top::view;
