@@ -1,0 +1,6 @@
+pub mod Domains
+pub mod Examples
+pub mod Inside
+pub mod Meaning
+pub mod Names
+pub mod View
