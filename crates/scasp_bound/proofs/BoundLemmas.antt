@@ -1,10 +1,10 @@
 -- The first binding of a variable, in a list with gaps and by an index.
-use Rattle.std.specs.Prelude.{◌≡◌, ◌<◌, ◌≤◌, ◌+◌, ℕ, zero, suc, Bool, true, false, not, nat_eq, if◌then◌else◌, List, [], ◌∷◌, ◌++◌, length, slice_set, Option, None, Some, option_map, refl}
+use Rattle.std.specs.Prelude.{◌≡◌, ◌<◌, ◌≤◌, ◌+◌, ℕ, zero, suc, Bool, true, false, not, nat_eq, ◌||◌, is_some, if◌then◌else◌, List, [], ◌∷◌, ◌++◌, length, slice_set, Option, None, Some, option_map, refl}
 use Rattle.std.proofs.Common.{arith, ap, sym, subst, ◌∙◌}
 use Rattle.std.proofs.lemmas.Bool.{true≢false}
 use Rattle.std.proofs.lemmas.Bool.Decides.{Decides-eqb}
 use Rattle.scasp_unify.specs.declared.bindings.Binding.{Binding}
-use Rattle.scasp_bound.specs.Bounds.{bound_in, without}
+use Rattle.scasp_bound.specs.Bounds.{bound_in, is_bound_in, without}
 use Rattle.scasp_bound.specs.Inside.Gaps.{emptied, first_from, gaps, gaps_to, is_of, item, item_at, kept_of, present}
 use Rattle.scasp_bound.specs.Inside.Places.{left_out, noted}
 use Rattle.scasp_bound.specs.declared.places.Place.{Place}
@@ -202,3 +202,19 @@ found_there x k os h = ap (item_at os) (sym h) ∙ found x os
 
 pub found_none : (x : ℕ) (os : List (Option Binding)) → first_from 0 x os ≡ None → None ≡ bound_in x (present os)
 found_none x os h = ap (item_at os) (sym h) ∙ found x os
+
+-- ---- whether a variable is bound
+
+is_found : (x : ℕ) (bs : List Binding) → is_some (bound_in x bs) ≡ is_bound_in bs x
+is_found x [] = refl
+is_found x (b ∷ bs) = by (nat_eq b.x x) (is_found x bs)
+  where
+    by : (c : Bool) → is_some (bound_in x bs) ≡ is_bound_in bs x → is_some (if c then Some b else bound_in x bs) ≡ (c || is_bound_in bs x)
+    by true h = refl
+    by false h = h
+
+pub one_bound : (x : ℕ) (bs : List Binding) (b : Binding) → Some b ≡ bound_in x bs → true ≡ is_bound_in bs x
+one_bound x bs b e = ap is_some e ∙ is_found x bs
+
+pub none_bound : (x : ℕ) (bs : List Binding) → None ≡ bound_in x bs → false ≡ is_bound_in bs x
+none_bound x bs e = ap is_some e ∙ is_found x bs

@@ -1,6 +1,8 @@
 -- Lemmas of the proofs.
 pub mod BoundLemmas
 pub mod OutLemmas
+pub mod PairLemmas
+pub mod PieceLemmas
 pub mod PlaceLemmas
 pub mod ReadLemmas
 pub mod WalkLemmas

@@ -125,3 +125,8 @@ present_latest os (ps ∷ oss) = refl
 pub present_earlier : (oss : List (List (Option Binding))) → map present (earlier oss) ≡ earlier (map present oss)
 present_earlier [] = refl
 present_earlier (ps ∷ oss) = refl
+
+-- there is a mark where the list has one
+pub still_marked : (oss : List (List (Option Binding))) → is_marked oss ≡ is_marked (map present oss)
+still_marked [] = refl
+still_marked (os ∷ oss) = refl

@@ -1,6 +1,9 @@
 -- Bindings in order.
 use Rattle.std.specs.Prelude.{ℕ, Bool, not, ◌||◌, nat_eq, if◌then◌else◌, List, [], ◌∷◌, Option, None, Some}
 use Rattle.std.specs.List.{filter, list_any}
+use Rattle.scasp_syntax.specs.declared.con.Con.{Con}
+use Rattle.scasp_syntax.specs.declared.con.Con.TheVariants as con
+use Rattle.scasp_syntax.specs.declared.term.Term.TheVariants.{Var}
 use Rattle.scasp_unify.specs.declared.bindings.Binding.{Binding}
 
 -- the first binding of the variable
@@ -18,3 +21,9 @@ among x xs = list_any (nat_eq x) xs
 -- the bindings without those of these variables, but for some
 abbrev pub unbound : List ℕ → List ℕ → List Binding → List Binding
 unbound xs but bs = filter (λ b. not (among b.x xs) || among b.x but) bs
+
+abbrev pub is_bound_in : List Binding → ℕ → Bool
+is_bound_in bs x = list_any (λ b. nat_eq b.x x) bs
+
+abbrev pub equation : Binding → Con
+equation b = con.Eq (Var b.x) b.term

@@ -1,4 +1,5 @@
 -- What private functions alone speak of.
 pub mod Gaps
+pub mod Pairs
 pub mod Places
 pub mod Reading

@@ -1,16 +1,21 @@
 //! Bindings in order, which can be taken out and undone, and found by variable.
-ghost use Rattle.std.specs.Prelude.{◌≡◌, [], ◌∷◌, ◌++◌, option_copied, IfOk, OnOk, OnErr};
+ghost use Rattle.std.specs.Prelude.{◌≡◌, [], ◌∷◌, ◌++◌, map, option_copied, IfOk, OnOk, OnErr};
+ghost use Rattle.scasp_syntax.specs.Same.{same_tms};
 ghost use Rattle.scasp_syntax.specs.Values.{all_under, under};
 ghost use Rattle.scasp_syntax.specs.View.{tm_of};
 ghost use Rattle.scasp_unify.specs.Solving.{sub_of};
-ghost use Rattle.scasp_trail.specs.Past.{earlier, latest};
-ghost use Rattle.scasp_bound.specs.Bounds.{among, bound_in, unbound, without};
+ghost use Rattle.scasp_unify.specs.Unification.{term_vars, terms_vars};
+ghost use Rattle.scasp_trail.specs.Past.{earlier, is_marked, latest};
+ghost use Rattle.scasp_bound.specs.Bounds.{among, bound_in, equation, is_bound_in, unbound, without};
 ghost use Rattle.scasp_bound.specs.Inside.Gaps.{without_unless};
 
+use crate::listing::{copies, push_equations};
 use crate::places::{Place, binding_at, first_of, forget, is_among, note, take_out_of};
-use crate::reading::{Head, head_of, resolve_all};
-use scasp_list::Memory;
-use scasp_syntax::{Term, Terms};
+use crate::reading::{Head, Piece, head_of, resolve_all};
+use crate::sameness::{Pair, are_same};
+use crate::variables::push_vars_of;
+use scasp_list::{Memory, Sequence};
+use scasp_syntax::{Cons, Term, Terms, VarList};
 use scasp_trail::Trailed;
 use scasp_unify::Binding;
 use std::alloc::Global;
@@ -64,6 +69,17 @@ impl Bound {
         match first_of(items, self.places.as_slice(), self.is_whole, x) {
             Some(at) => binding_at(items, at),
             None => None,
+        }
+    }
+
+    /// Whether the variable is bound.
+    #[tactic(auto, using(crate::proofs::BoundLemmas::one_bound, crate::proofs::BoundLemmas::none_bound))]
+    pub fn is_bound(&self, x: u64) -> bool
+        ensures { result ≡ is_bound_in self.now.now x }
+    {
+        match self.find(x) {
+            Some(_) => true,
+            None => false,
         }
     }
 
@@ -130,9 +146,10 @@ impl Bound {
         let items = self.list.as_slice();
         let places = self.places.as_slice();
         match head_of(items, places, self.is_whole, 0, term) {
-            Head::All(read) => Ok(read),
-            Head::Name(name, args, from) => {
-                let read = resolve_all(alloc, items, places, self.is_whole, from, args)?;
+            Head::Var(x) => Ok(Term::Var(x)),
+            Head::Num(value) => Ok(Term::Num(value)),
+            Head::Name(name, args) => {
+                let read = resolve_all(alloc, items, places, self.is_whole, args.from, args.terms)?;
                 Ok(Term::App(name, read))
             }
         }
@@ -145,6 +162,77 @@ impl Bound {
         let items = self.list.as_slice();
         let places = self.places.as_slice();
         resolve_all(alloc, items, places, self.is_whole, 0, terms.as_slice())
+    }
+
+    /// Puts the variables of the term, as the bindings read it, behind those found before, each as often as it stands there.
+    pub fn push_vars(&self, alloc: Global, term: &Term, found: &mut VarList) -> Result<(), Memory>
+        ensures { OnOk result (found.new ≡ found.old ++ term_vars (under (sub_of self.now.now) (tm_of term.now))) }
+    {
+        let items = self.list.as_slice();
+        let places = self.places.as_slice();
+        match head_of(items, places, self.is_whole, 0, term) {
+            Head::Var(x) => found.push(x),
+            Head::Num(_) => Ok(()),
+            Head::Name(_, args) => push_vars_of(alloc, items, places, self.is_whole, args, found),
+        }
+    }
+
+    /// Puts the variables of the terms, as the bindings read them, behind those found before.
+    pub fn push_all_vars(
+        &self,
+        alloc: Global,
+        terms: &Terms,
+        found: &mut VarList,
+    ) -> Result<(), Memory>
+        ensures { OnOk result (found.new ≡ found.old ++ terms_vars (all_under (sub_of self.now.now) terms.now)) }
+    {
+        let items = self.list.as_slice();
+        let places = self.places.as_slice();
+        let piece = Piece {
+            terms: terms.as_slice(),
+            from: 0,
+        };
+        push_vars_of(alloc, items, places, self.is_whole, piece, found)
+    }
+
+    /// Whether the bindings read both lists of terms as the same one. No term is made.
+    pub fn same_terms(&self, alloc: Global, first: &Terms, second: &Terms) -> Result<bool, Memory>
+        ensures { IfOk result (λ same. same ≡ same_tms (all_under (sub_of self.now.now) first.now) (all_under (sub_of self.now.now) second.now)) }
+    {
+        let pair = Pair {
+            left: Piece {
+                terms: first.as_slice(),
+                from: 0,
+            },
+            right: Piece {
+                terms: second.as_slice(),
+                from: 0,
+            },
+        };
+        let items = self.list.as_slice();
+        are_same(alloc, items, self.places.as_slice(), self.is_whole, pair)
+    }
+
+    /// Copies of the bindings, in order.
+    pub fn bindings(&self, alloc: Global) -> Result<Sequence<Binding>, Memory>
+        ensures { IfOk result (λ made. made ≡ self.now.now) }
+    {
+        copies(alloc, self.list.as_slice())
+    }
+
+    /// Puts the bindings, as equations, behind the constraints of a list.
+    pub fn push_equations(&self, alloc: Global, list: &mut Cons) -> Result<(), Memory>
+        ensures { OnOk result (list.new ≡ list.old ++ map equation self.now.now) }
+    {
+        push_equations(alloc, self.list.as_slice(), list)
+    }
+
+    /// Whether there is a mark.
+    #[tactic(auto, using(crate::proofs::PlaceLemmas::still_marked))]
+    pub fn is_marked(&self) -> bool
+        ensures { result ≡ is_marked self.now.before }
+    {
+        self.list.is_marked()
     }
 
     /// Marks the bindings as they are now; after an error of a change there is no mark to be had until the next `leave`.

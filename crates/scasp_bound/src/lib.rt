@@ -2,9 +2,12 @@
 #![tactic(auto)]
 
 mod bound;
+mod listing;
 mod places;
 mod reading;
+mod sameness;
 #[cfg(test)]
 mod tests;
+mod variables;
 
 pub use bound::Bound;

@@ -8,18 +8,27 @@ ghost use Rattle.scasp_bound.specs.Inside.Reading.{behind, head_read};
 use crate::places::{Place, binding_at, first_after};
 use scasp_list::Memory;
 use scasp_name::NameId;
+use scasp_num::Rat;
 use scasp_syntax::{Term, Terms};
 use scasp_unify::Binding;
 use std::alloc::Global;
 use std::mem;
 
 /// How a term begins that is read.
-#[derive(Drop)]
+#[derive(Clone, Copy)]
 pub(crate) enum Head<'a> {
-    /// It reads as this term.
-    All(Term),
-    /// It has this name, and these arguments, which the bindings from a place on read.
-    Name(NameId, &'a [Term], usize),
+    /// It is this variable, which none of the bindings from there on binds.
+    Var(u64),
+    Num(Rat),
+    /// It has this name, and these arguments.
+    Name(NameId, Piece<'a>),
+}
+
+/// Terms, which the bindings from a place on read.
+#[derive(Clone, Copy)]
+pub(crate) struct Piece<'a> {
+    pub(crate) terms: &'a [Term],
+    pub(crate) from: usize,
 }
 
 /// A list that is being made and waits for the arguments of the term `name`: what is done before it, and what is left behind
@@ -50,16 +59,19 @@ pub(crate) fn head_of<'a>(
         match reached {
             Term::Var(x) => {
                 let Some(at) = first_after(bindings, places, is_whole, next, *x) else {
-                    return Head::All(Term::Var(*x));
+                    return Head::Var(*x);
                 };
                 let Some(binding) = binding_at(bindings, at) else {
-                    return Head::All(Term::Var(*x));
+                    return Head::Var(*x);
                 };
                 reached = &binding.term;
                 next = at + 1;
             }
-            Term::Num(value) => return Head::All(Term::Num(*value)),
-            Term::App(name, args) => return Head::Name(*name, args.as_slice(), next),
+            Term::Num(value) => return Head::Num(*value),
+            Term::App(name, args) => {
+                let terms = args.as_slice();
+                return Head::Name(*name, Piece { terms, from: next });
+            }
         }
     }
 }
@@ -84,11 +96,15 @@ pub(crate) fn resolve_all(
     'lists: loop {
         match rest.split_first() {
             Some((term, left)) => match head_of(bindings, places, is_whole, next, term) {
-                Head::All(read) => {
-                    made.push(read)?;
+                Head::Var(x) => {
+                    made.push(Term::Var(x))?;
                     rest = left;
                 }
-                Head::Name(name, args, behind) => {
+                Head::Num(value) => {
+                    made.push(Term::Num(value))?;
+                    rest = left;
+                }
+                Head::Name(name, args) => {
                     let done = mem::replace(&mut made, Terms::new(alloc));
                     let from = next;
                     outer.push(Outer {
@@ -97,8 +113,8 @@ pub(crate) fn resolve_all(
                         left,
                         from,
                     })?;
-                    rest = args;
-                    next = behind;
+                    rest = args.terms;
+                    next = args.from;
                 }
             },
             None => {

@@ -1,6 +1,6 @@
 //! Given constraints in order.
 ghost use Rattle.std.specs.Prelude.{◌≡◌, [], ◌∷◌, ◌++◌, OnOk, OnErr};
-ghost use Rattle.scasp_trail.specs.Past.{earlier, latest};
+ghost use Rattle.scasp_trail.specs.Past.{earlier, is_marked, latest};
 
 use scasp_list::Memory;
 use scasp_syntax::Con;
@@ -52,6 +52,13 @@ impl Given {
     {
         self.list.push(constraint)?;
         Ok(())
+    }
+
+    /// Whether there is a mark.
+    pub fn is_marked(&self) -> bool
+        ensures { result ≡ is_marked self.now.before }
+    {
+        self.list.is_marked()
     }
 
     /// Marks the constraints as they are now.

@@ -3,7 +3,7 @@ use Rattle.std.specs.Prelude.{◌≡◌, ◌≤◌, ◌<◌, ◌+◌, ◌-◌, �
 use Rattle.std.proofs.Common.{arith, ap, sym, ◌∙◌}
 use Rattle.std.proofs.lemmas.List.{drop-drop, length-drop, length-set, take_all}
 use Rattle.std.proofs.lemmas.List.Sums.{sum_by-cons}
-use Rattle.scasp_trail.specs.Past.{earlier, latest}
+use Rattle.scasp_trail.specs.Past.{earlier, is_marked, latest}
 use Rattle.scasp_told.specs.Inside.Cuts.{FitEach, cut, cut_each, end_of, total}
 use Rattle.scasp_told.specs.Pieces.{last_of, set_last}
 
@@ -126,3 +126,9 @@ fits_before [] [] f = f
 fits_before [] (ys ∷ xss) f = absurd f
 fits_before (ms ∷ nss) [] f = absurd f
 fits_before (ms ∷ nss) (ys ∷ xss) f = f.1
+
+pub still_marked : {T : Type 0} (nss : List (List ℕ)) (xss : List (List T)) → FitEach nss xss → is_marked nss ≡ is_marked (cut_each nss xss)
+still_marked [] [] f = refl
+still_marked [] (ys ∷ xss) f = absurd f
+still_marked (ms ∷ nss) [] f = absurd f
+still_marked (ms ∷ nss) (ys ∷ xss) f = refl

@@ -1,6 +1,6 @@
 //! One list, cut into pieces.
 ghost use Rattle.std.specs.Prelude.{◌≡◌, ◌+◌, ◌-◌, ◌<◌, [], ◌∷◌, ◌++◌, length, slice_get, Some, OnOk, OnErr};
-ghost use Rattle.scasp_trail.specs.Past.{earlier, latest};
+ghost use Rattle.scasp_trail.specs.Past.{earlier, is_marked, latest};
 ghost use Rattle.scasp_told.specs.Pieces.{grown_at, join_last, last_of, set_last};
 
 use crate::cuts::{insert_in, last_of, piece_of, place_in_last, start_last};
@@ -120,6 +120,14 @@ impl<T: Drop> Told<T> {
     {
         self.counts.pop()?;
         Ok(())
+    }
+
+    /// Whether there is a mark.
+    #[tactic(auto, using(crate::proofs::PlaceLemmas::still_marked))]
+    pub fn is_marked(&self) -> bool
+        ensures { result ≡ is_marked self.now.before }
+    {
+        self.counts.is_marked()
     }
 
     /// Marks the pieces as they are now.

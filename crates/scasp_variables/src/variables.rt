@@ -2,7 +2,7 @@
 ghost use Rattle.std.specs.Prelude.{◌≡◌, [], ◌∷◌, ◌++◌, Some, length, replicate, slice_get, slice_set, IfOk, OnOk, OnErr};
 ghost use Rattle.scasp_search_rules.specs.Successors.Cases.{universals_at};
 ghost use Rattle.scasp_search_rules.specs.Successors.Variables.{is_kind_existential, is_kind_universal, lower, lowered, made_or};
-ghost use Rattle.scasp_trail.specs.Past.{earlier, latest};
+ghost use Rattle.scasp_trail.specs.Past.{earlier, is_marked, latest};
 
 use scasp_list::Memory;
 use scasp_search_rules::{Kind, Made};
@@ -33,6 +33,13 @@ impl Variables {
         Variables {
             made: Trailed::new(alloc),
         }
+    }
+
+    /// What is made of each variable.
+    pub fn as_slice(&self) -> &[Made]
+        ensures { result.now ≡ self.now.now }
+    {
+        self.made.as_slice()
     }
 
     /// The number that the next variable gets.
@@ -88,6 +95,13 @@ impl Variables {
     {
         raise_each(&mut self.made, depth, xs)?;
         Ok(())
+    }
+
+    /// Whether there is a mark.
+    pub fn is_marked(&self) -> bool
+        ensures { result ≡ is_marked self.now.before }
+    {
+        self.made.is_marked()
     }
 
     /// Marks the variables as they are now.

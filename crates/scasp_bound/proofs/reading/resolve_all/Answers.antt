@@ -1,23 +1,29 @@
 use Rattle.std.proofs.Common.{◌≡◌, [], ◌∷◌, arith, ◌∙◌}
 use Rattle.std.proofs.lemmas.List.{nil_from_length}
-use Rattle.scasp_syntax.specs.Tm.{app, pushed}
-use Rattle.scasp_syntax.specs.View.{tm_of}
+use Rattle.scasp_syntax.specs.Tm.{app, num, pushed, var}
 use Rattle.scasp_bound.specs.Inside.Reading.{behind}
 use Rattle.scasp_bound.proofs.WalkLemmas.{all_read, entered, left_behind, one_read}
 use Rattle.scasp_bound.proofs.reading.resolve_all.Goals as goal
 
-pub lists-preserved-in-All : goal.lists-preserved-in-All
-lists-preserved-in-All c =
+pub lists-preserved-in-Var : goal.lists-preserved-in-Var
+lists-preserved-in-Var c =
     let bs = c.args.bindings.now in
     let rest : c.lists.rest.now ≡ c.in-Some.term.now ∷ c.in-Some.left.now = c.in-Some.ensures.cases.0 in
-    one_read bs c.lists.outer.items (behind c.lists.next bs) c.lists.made c.push.new.self (tm_of c.in-All.read) c.in-Some.term.now c.lists.rest.now c.in-Some.left.now _
-    c.in_ok-push-in-All.ensures.value c.in-All.ensures rest c.lists.invariant
+    one_read bs c.lists.outer.items (behind c.lists.next bs) c.lists.made c.push.new.self (var c.in-Var.x) c.in-Some.term.now c.lists.rest.now c.in-Some.left.now _
+    c.in_ok-push-in-Var.ensures.value c.in-Var.ensures rest c.lists.invariant
+
+pub lists-preserved-in-Num : goal.lists-preserved-in-Num
+lists-preserved-in-Num c =
+    let bs = c.args.bindings.now in
+    let rest : c.lists.rest.now ≡ c.in-Some.term.now ∷ c.in-Some.left.now = c.in-Some.ensures.cases.0 in
+    one_read bs c.lists.outer.items (behind c.lists.next bs) c.lists.made c.push-in-Num.new.self (num c.in-Num.value) c.in-Some.term.now c.lists.rest.now c.in-Some.left.now _
+    c.in_ok-push-in-Num.ensures.value c.in-Num.ensures rest c.lists.invariant
 
 pub lists-preserved-in-Name : goal.lists-preserved-in-Name
 lists-preserved-in-Name c =
     let bs = c.args.bindings.now in
     let rest : c.lists.rest.now ≡ c.in-Some.term.now ∷ c.in-Some.left.now = c.in-Some.ensures.cases.0 in
-    entered bs c.lists.outer.items c.push-in-Name.new.self.items _ c.lists.made c.replace-done.new.dest c.in-Some.term.now c.lists.rest.now c.in-Name.args.now c.in-Name.behind _
+    entered bs c.lists.outer.items c.push-in-Name.new.self.items _ c.lists.made c.replace-done.new.dest c.in-Some.term.now c.lists.rest.now c.in-Name.args.terms.now c.in-Name.args.from _
     c.in_ok-push-in-Name.ensures.items c.replace-done.ensures.value (c.replace-done.ensures.after ∙ c.new.ensures) c.in-Name.ensures rest c.lists.invariant
 
 pub returns-in_default : goal.returns-in_default
