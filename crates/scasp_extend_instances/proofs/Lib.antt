@@ -1,1 +1,2 @@
-mod WayLemmas
+pub mod WayLemmas
+pub mod WithinLemmas

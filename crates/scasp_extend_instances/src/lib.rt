@@ -1,6 +1,7 @@
 //! The instances of what opened on the way to a line, over a domain.
 #![tactic(auto)]
 
+pub mod laws;
 mod tests;
 mod values;
 mod ways;

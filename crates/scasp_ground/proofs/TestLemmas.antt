@@ -28,7 +28,7 @@ use Rattle.scasp_ground.proofs.RowLemmas.{row-tested}
 some_is : (a b : Bool) → Some a ≡ Some b → a ≡ b
 some_is a b e = cc
 
-tested-holds : (v : Sub) (c : Con) (b : Bool) → tested v c ≡ Some b → b ≡ holds v c
+pub tested-holds : (v : Sub) (c : Con) (b : Bool) → tested v c ≡ Some b → b ≡ holds v c
 tested-holds v (con.Row r) b e = by (bounded_sum v r) refl e
   where
     by : (o : Option Number) → o ≡ bounded_sum v r → option_map (λ (sum : Number). compares r.op sum.num) o ≡ Some b → b ≡ holds v (con.Row r)
@@ -43,7 +43,7 @@ tested-holds v (con.NotNum t) b e = sym (some_is (holds v (con.NotNum t)) b e)
 abbrev rest_tested : Sub → List Con → Bool → Option Bool
 rest_tested v cs b = if b then all_tested v cs else Some false
 
-all-hold : (v : Sub) (cs : List Con) (b : Bool) → all_tested v cs ≡ Some b → b ≡ list_all (holds v) cs
+pub all-hold : (v : Sub) (cs : List Con) (b : Bool) → all_tested v cs ≡ Some b → b ≡ list_all (holds v) cs
 all-hold v [] b e = sym (some_is true b e)
 all-hold v (c ∷ cs) b e = by (tested v c) refl e (λ k. all-hold v cs b k)
   where
