@@ -65,7 +65,12 @@ fn put_head(out: &mut Vec<u8>, shown: &Shown<'_>, head: &Option<Atom>) -> Result
 }
 
 /// Puts a body at the end behind the sign; an empty one behind nothing.
-fn put_body(out: &mut Vec<u8>, shown: &Shown<'_>, sign: &str, body: &Items) -> Result<(), Memory>
+pub fn put_body(
+    out: &mut Vec<u8>,
+    shown: &Shown<'_>,
+    sign: &str,
+    body: &Items,
+) -> Result<(), Memory>
     ensures { OnOk result (out.new.items ≡ out.old.items ++ spec.body_text shown.now sign.now body.now) }
 {
     if body.len() == 0 {

@@ -7,4 +7,7 @@ mod programs;
 mod style;
 mod terms;
 
-pub use programs::print_program;
+pub use clauses::{put_body, put_clause, put_query};
+pub use items::put_items;
+pub use programs::{print_program, written_count};
+pub use style::Shown;

@@ -82,7 +82,11 @@ fn negated_predicates(alloc: Global, program: &Program) -> Result<Preds, Memory>
 }
 
 /// How many clauses stand in front of the generated denials.
-fn written_count(alloc: Global, program: &Program) -> Result<usize, Memory>
+///
+/// # Errors
+///
+/// Want of memory.
+pub fn written_count(alloc: Global, program: &Program) -> Result<usize, Memory>
     ensures place { IfOk result (λ n. n ≤ length program.now.clauses) }
     ensures clauses { IfOk result (λ n. take n program.now.clauses ≡ spec.written program.now.clauses program.now.queries) }
 {
