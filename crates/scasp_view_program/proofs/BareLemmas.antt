@@ -1,16 +1,12 @@
 -- What the lines are without their numbers.
-use Rattle.std.proofs.Common.{◌≡◌, ◌≤◌, ◌<◌, ℕ, zero, suc, ◌+◌, ◌-◌, Bool, true, false, if◌then◌else◌, List, [], ◌∷◌, ◌++◌, length, take, drop, flat_map, Ok, refl, sym, subst, ◌∙◌, ap, ap₂, arith, length-take-le, le-leb, sub-le}
+use Rattle.std.proofs.Common.{◌≡◌, ◌<◌, ℕ, zero, suc, ◌+◌, ◌-◌, Bool, true, false, if◌then◌else◌, List, [], ◌∷◌, ◌++◌, length, take, drop, flat_map, refl, ◌∙◌, ap, ap₂, arith, length-take-le, le-leb, sub-le}
 use Rattle.std.proofs.Math.Seq.{take-length, take-nil}
 use Rattle.std.proofs.lemmas.Bool.{lt-leb}
 use Rattle.std.proofs.lemmas.List.Concat.{flat_map-append}
 use Rattle.scasp_syntax.specs.declared.clause.Clause.{Clause}
 use Rattle.scasp_syntax.specs.declared.clause.Query.{Query}
 use Rattle.scasp_reader.specs.Programs.Programs.{program_in}
-use Rattle.scasp_reader.specs.declared.texts.texts.Reading.{Reading}
-use Rattle.scasp_reader.specs.declared.texts.texts.TheConstants.{BYTE_LIMIT}
 use Rattle.scasp_print_program.specs.Programs.{are_denials, clause_text, negated_predicates, program_text, query_text, written}
-use Rattle.scasp_law_program_text.specs.CompoundReadback.Styles.{IsTable}
-use Rattle.scasp_law_program_text.proofs.FittingLemmas.Texts.{program-read-again}
 use Rattle.scasp_view_program.specs.Lines.{clause_lines, program_lines, query_lines}
 use Rattle.scasp_view_program.specs.Meaning.{bare_line, bare_text}
 
@@ -51,13 +47,9 @@ numbers-added names clauses queries =
     let count = length (written clauses queries) in
     flat_map-append bare_line (clause_lines names count 1 clauses) (query_lines names 1 queries)
     ∙ ap₂ (λ (x y : List ℕ). x ++ y)
-        (bare-written names count count 0 clauses refl ∙ ap (flat_map (clause_text names)) (written-first clauses queries))
-        (bare-queries names 1 queries)
+    (bare-written names count count 0 clauses refl ∙ ap (flat_map (clause_text names)) (written-first clauses queries))
+    (bare-queries names 1 queries)
 
-pub read-again : (names : List (List ℕ)) (bytes : List ℕ) (r : Reading) → program_in names bytes ≡ Ok r → IsTable names
-    → length (bare_text (program_lines r.names r.clauses r.queries)) ≤ BYTE_LIMIT
-    → program_in r.names (bare_text (program_lines r.names r.clauses r.queries)) ≡ Ok r
-read-again names bytes r is table small =
-    let same = numbers-added r.names r.clauses r.queries in
-    ap (program_in r.names) same
-    ∙ program-read-again names bytes r is table (subst (λ (text : List ℕ). length text ≤ BYTE_LIMIT) same small)
+pub read-as : (names table : List (List ℕ)) (clauses : List Clause) (queries : List Query)
+    → program_in table (bare_text (program_lines names clauses queries)) ≡ program_in table (program_text names clauses queries)
+read-as names table clauses queries = ap (program_in table) (numbers-added names clauses queries)

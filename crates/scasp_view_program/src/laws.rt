@@ -6,7 +6,7 @@ pub fn numbers_are_added()
     ensures { spec.NumbersAreAdded }
 {}
 
-/// A program that was read is read again from its lines without these.
-pub fn lines_are_read_again()
-    ensures { spec.LinesAreReadAgain }
+/// So what is read of the text of the program is read of these lines without numbers.
+pub fn lines_are_read_as_the_text()
+    ensures { spec.LinesAreReadAsTheText }
 {}

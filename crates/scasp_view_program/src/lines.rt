@@ -90,13 +90,7 @@ pub fn print_numbered(alloc: Global, program: &Program, names: &Names) -> Result
 {
     let mut text = Vec::new(alloc);
     let written = written_count(alloc, program)?;
-    put_clauses(
-        &mut text,
-        alloc,
-        names,
-        written,
-        program.clauses.as_slice(),
-    )?;
+    put_clauses(&mut text, alloc, names, written, program.clauses.as_slice())?;
     put_queries(&mut text, alloc, names, program.queries.as_slice())?;
     Ok(text)
 }
