@@ -1,5 +1,5 @@
 -- How a block is shown: its query with terms for the variables, what is given, its trees, and its checks.
-use Rattle.std.specs.Prelude.{ℕ, Bool, if◌then◌else◌, List, [], ◌∷◌, ◌++◌, not, is_empty, length, flat_map, codes, decimal}
+use Rattle.std.specs.Prelude.{ℕ, Bool, if◌then◌else◌, List, [], ◌∷◌, ◌++◌, not, ◌==◌, length, flat_map, codes, decimal}
 use Rattle.scasp_cert.specs.Certificate.{Certificate}
 use Rattle.scasp_cert.specs.Text.Block.{given_line}
 use Rattle.scasp_cert.specs.Trees.{Branch, listed}
@@ -13,7 +13,7 @@ check_text s more c = before s [] more ++ rule_label s c.0 ++ branch_text s (bel
 
 abbrev pub checked_text : Scene → List (ℕ × Branch) → List ℕ
 checked_text s [] = []
-checked_text s (c ∷ cs) = check_text s (not (is_empty cs)) c ++ checked_text s cs
+checked_text s (c ∷ cs) = check_text s (not (length cs == 0)) c ++ checked_text s cs
 
 -- `checks 5`; and, where they are to be shown whole, the checks
 abbrev pub checks_text : Scene → Bool → List (ℕ × Branch) → List ℕ

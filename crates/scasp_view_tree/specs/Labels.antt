@@ -1,5 +1,5 @@
 -- What stands on the lines of a tree.
-use Rattle.std.specs.Prelude.{ℕ, Bool, true, false, is_empty, Option, None, Some, List, [], ◌∷◌, ◌++◌, map, codes, decimal}
+use Rattle.std.specs.Prelude.{ℕ, true, Option, None, Some, List, ◌++◌, map, codes, decimal}
 use Rattle.scasp_syntax.specs.Flat.{flat_body}
 use Rattle.scasp_syntax.specs.Programs.{numbered}
 use Rattle.scasp_syntax.specs.Tm.{Tms, items}

@@ -1,5 +1,5 @@
 -- How the trees of a certificate are shown: a line for each node, each rule and each case, behind strokes that join it to the lines above.
-use Rattle.std.specs.Prelude.{ℕ, Bool, true, false, not, ◌||◌, if◌then◌else◌, List, [], ◌∷◌, ◌++◌, is_empty, codes}
+use Rattle.std.specs.Prelude.{ℕ, Bool, true, false, not, ◌||◌, if◌then◌else◌, List, [], ◌∷◌, ◌++◌, ◌==◌, length, codes}
 use Rattle.scasp_syntax.specs.declared.con.Con.{Con}
 use Rattle.scasp_syntax.specs.declared.con.Con.TheVariants as con
 use Rattle.scasp_cert.specs.Trees.{Tree, Trees, Branch, Branches, pos_tree, neg_tree, loop_tree, seen_tree, test_tree, no_tree, tree, split, void, leaf, head, no_branch, branch}
@@ -16,7 +16,7 @@ is_number_test (con.Neq t s) = false
 is_number_test (con.NotShape x f n) = false
 is_number_test (con.Num t) = true
 is_number_test (con.NotNum t) = true
-is_number_test (con.Row r) = is_empty r.coeffs
+is_number_test (con.Row r) = length r.coeffs == 0
 
 abbrev pub is_hidden : Tree → Bool
 is_hidden (pos_tree a k terms children) = false

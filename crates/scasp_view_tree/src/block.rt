@@ -24,7 +24,8 @@ fn put_given_line(out: &mut Vec<u8>, names: &Names, con: &Con) -> Result<(), Mem
     put(out, "\n")
 }
 
-fn put_given(out: &mut Vec<u8>, names: &Names, given: &Cons) -> Result<(), Memory>
+/// Puts the lines of what is given at the end, each behind what was written before.
+pub fn put_given(out: &mut Vec<u8>, names: &Names, given: &Cons) -> Result<(), Memory>
     ensures { OnOk result (out.new.items ≡ out.old.items ++ flat_map (given_line names.now) given.now) }
 {
     for con in given.as_slice() {
@@ -37,9 +38,10 @@ fn put_given(out: &mut Vec<u8>, names: &Names, given: &Cons) -> Result<(), Memor
 fn put_check(out: &mut Vec<u8>, scene: &Scene<'_>, more: bool, check: &Check) -> Result<(), Memory>
     ensures { OnOk result (out.new.items ≡ out.old.items ++ spec.check_text scene.now more (check_of check.now)) }
 {
+    let alloc = *out.allocator();
     put_before(out, scene, &[], more)?;
-    put_rule_label(out, *out.allocator(), scene, check.clause)?;
-    let next = below(out, scene, &[], more)?;
+    put_rule_label(out, alloc, scene, check.clause)?;
+    let next = below(alloc, scene, &[], more)?;
     put_case(out, scene, next, check.clause, &check.case)
 }
 

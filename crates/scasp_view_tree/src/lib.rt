@@ -9,6 +9,6 @@ mod strokes;
 mod terms;
 mod trees;
 
-pub use block::print_block;
+pub use block::{print_block, put_given};
 pub use scene::Scene;
 pub use strokes::Strokes;

@@ -18,6 +18,7 @@ use scasp_cert::{Case, Cover, Node, Nodes};
 use scasp_list::Memory;
 use scasp_print_words::put;
 use scasp_syntax::Con;
+use std::alloc::Global;
 
 /// A part of a tree that is still to be put, behind this front; of a case also the clause that it is about.
 #[derive(Drop)]
@@ -36,7 +37,7 @@ fn is_number_test(con: &Con) -> bool
     match con {
         Con::Eq(_, _) | Con::Neq(_, _) | Con::NotShape(_, _, _) => false,
         Con::Num(_) | Con::NotNum(_) => true,
-        Con::Row(row) => row.coeffs().is_empty(),
+        Con::Row(row) => row.coeffs().len() == 0,
     }
 }
 
@@ -78,14 +79,14 @@ pub(crate) fn put_before(
 
 /// The front of the lines below a line with this front.
 pub(crate) fn below(
-    out: &Vec<u8>,
+    alloc: Global,
     scene: &Scene<'_>,
     front: &[u8],
     more: bool,
 ) -> Result<Vec<u8>, Memory>
     ensures { IfOk result (λ next. next.items ≡ spec.below scene.now front.now more) }
 {
-    let mut next = Vec::from_slice(*out.allocator(), front)?;
+    let mut next = Vec::from_slice(alloc, front)?;
     next.extend_from_slice(rail(scene.strokes(), more))?;
     Ok(next)
 }
@@ -108,7 +109,8 @@ fn put_node<'a>(
             terms,
             children,
         } => {
-            put_pos_label(out, *out.allocator(), scene, atom, *rule, terms)?;
+            let alloc = *out.allocator();
+            put_pos_label(out, alloc, scene, atom, *rule, terms)?;
             wait(waiting, Waiting::Nodes(front, children.as_slice()))
         }
         Node::Neg { atom, covers } => {
@@ -139,9 +141,10 @@ fn put_first_node<'a>(
     if is_hidden(first) {
         return wait(waiting, Waiting::Nodes(front, others));
     }
+    let alloc = *out.allocator();
     let more = are_some_shown(others);
     put_before(out, scene, front.as_slice(), more)?;
-    let next = below(out, scene, front.as_slice(), more)?;
+    let next = below(alloc, scene, front.as_slice(), more)?;
     wait(waiting, Waiting::Nodes(front, others))?;
     put_node(out, scene, next, first, waiting)
 }
@@ -160,10 +163,11 @@ fn put_first_rule<'a>(
     let Some((first, others)) = rules.split_first() else {
         return Ok(());
     };
+    let alloc = *out.allocator();
     let more = !others.is_empty();
     put_before(out, scene, front.as_slice(), more)?;
-    put_rule_label(out, *out.allocator(), scene, first.rule)?;
-    let next = below(out, scene, front.as_slice(), more)?;
+    put_rule_label(out, alloc, scene, first.rule)?;
+    let next = below(alloc, scene, front.as_slice(), more)?;
     wait(waiting, Waiting::Rules(front, others))?;
     wait(waiting, Waiting::Case(next, first.rule, &first.case))
 }
@@ -180,9 +184,10 @@ fn put_else<'a>(
     ensures text { OnOk result (out.new.items ++ all_text scene.now (reverse waiting.new.items) ≡ out.old.items ++ (((spec.before scene.now front.items false ++ codes "else\n" ++ spec.branch_text scene.now (spec.below scene.now front.items false) rule (branch_of case.now))) ++ all_text scene.now (reverse waiting.old.items))) }
     ensures falls { OnOk result (weights (reverse waiting.new.items) < weights (reverse waiting.old.items) + (2 * lines_at (branch_of case.now) + 1)) }
 {
+    let alloc = *out.allocator();
     put_before(out, scene, front.as_slice(), false)?;
     put(out, "else\n")?;
-    let next = below(out, scene, front.as_slice(), false)?;
+    let next = below(alloc, scene, front.as_slice(), false)?;
     wait(waiting, Waiting::Case(next, rule, case))
 }
 
@@ -198,11 +203,12 @@ fn put_first_line<'a>(
     ensures text { OnOk result (out.new.items ++ all_text scene.now (reverse waiting.new.items) ≡ out.old.items ++ (spec.branch_text scene.now front.items rule (branch_of case.now) ++ all_text scene.now (reverse waiting.old.items))) }
     ensures falls { OnOk result (weights (reverse waiting.new.items) < weights (reverse waiting.old.items) + 2 * lines_at (branch_of case.now)) }
 {
+    let alloc = *out.allocator();
     match case {
         Case::Split { con, first, second } => {
             put_before(out, scene, front.as_slice(), true)?;
             put_where_label(out, scene, con)?;
-            let next = below(out, scene, front.as_slice(), true)?;
+            let next = below(alloc, scene, front.as_slice(), true)?;
             wait(waiting, Waiting::Else(front, rule, second))?;
             wait(waiting, Waiting::Case(next, rule, first))
         }
@@ -212,14 +218,14 @@ fn put_first_line<'a>(
         }
         Case::Leaf { item, children } => {
             put_before(out, scene, front.as_slice(), false)?;
-            put_leaf_label(out, *out.allocator(), scene, rule, *item)?;
-            let next = below(out, scene, front.as_slice(), false)?;
+            put_leaf_label(out, alloc, scene, rule, *item)?;
+            let next = below(alloc, scene, front.as_slice(), false)?;
             wait(waiting, Waiting::Nodes(next, children.as_slice()))
         }
         Case::Head { children } => {
             put_before(out, scene, front.as_slice(), false)?;
             put(out, "its head holds\n")?;
-            let next = below(out, scene, front.as_slice(), false)?;
+            let next = below(alloc, scene, front.as_slice(), false)?;
             wait(waiting, Waiting::Nodes(next, children.as_slice()))
         }
     }
@@ -259,11 +265,8 @@ fn put_all(out: &mut Vec<u8>, scene: &Scene<'_>, part: Waiting<'_>) -> Result<()
 pub(crate) fn put_nodes(out: &mut Vec<u8>, scene: &Scene<'_>, nodes: &Nodes) -> Result<(), Memory>
     ensures { OnOk result (out.new.items ≡ out.old.items ++ spec.trees_text scene.now [] (listed (trees_of nodes.now))) }
 {
-    put_all(
-        out,
-        scene,
-        Waiting::Nodes(Vec::new(*out.allocator()), nodes.as_slice()),
-    )
+    let front = Vec::new(*out.allocator());
+    put_all(out, scene, Waiting::Nodes(front, nodes.as_slice()))
 }
 
 /// Puts a case of this clause at the end, behind this front, with what stands below it.
