@@ -40,4 +40,4 @@ numbered = simp (d0, d1, d2) refl
 bare : bare_text (codes "[]" ∷ codes "[|]" ∷ codes "p" ∷ codes "q" ∷ codes "X" ∷ []) (rule ∷ denial ∷ []) (query ∷ [])
     ≡ codes "-p(V0) :- not q(V0).\n?- -p(X).\n"
 unfolding clause_text query_text atom_text lit_text
-bare = simp (d0, d1, d2) refl
+bare = simp (d0) refl

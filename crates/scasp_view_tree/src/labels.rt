@@ -57,12 +57,8 @@ fn put_reason(
         None => put(out, " by no clause"),
         Some(clause) => {
             let texts = term_texts(alloc, names, terms)?;
-            put_body(
-                out,
-                &Shown::new(names, texts.as_slice()),
-                " :- ",
-                &clause.body,
-            )
+            let shown = Shown::new(names, texts.as_slice());
+            put_body(out, &shown, " :- ", &clause.body)
         }
     }
 }
@@ -202,7 +198,8 @@ fn put_asked(
         None => put(out, "no query"),
         Some(query) => {
             let texts = term_texts(alloc, names, terms)?;
-            put_items(out, &Shown::new(names, texts.as_slice()), &query.body)
+            let shown = Shown::new(names, texts.as_slice());
+            put_items(out, &shown, &query.body)
         }
     }
 }
