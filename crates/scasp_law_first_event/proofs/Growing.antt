@@ -126,11 +126,11 @@ module _ (p : Problem) (q : Query) (n : ℕ) where
 
   by-size : (d : ℕ) → ((k w : ℕ) → Bounded d k w) → (k w : ℕ) → Bounded (suc d) k w
   by-size d fewer zero w s hc hk hw = met s (let e : size s + 0 ≡ size s = omega arith in omega (arith, hk, e))
-  by-size d fewer (suc j) w = by-weight d j fewer (λ v. by-size d fewer j v) w
+  by-size d fewer (suc j) w s hc hk hw = by-weight d j fewer (λ v. by-size d fewer j v) w s hc hk hw
 
   by-closes : (c k w : ℕ) → Bounded c k w
   by-closes zero k w s hc hk hw = absurd (omega (arith, hc))
-  by-closes (suc d) k w = by-size d (λ j v. by-closes d j v) k w
+  by-closes (suc d) k w s hc hk hw = by-size d (λ j v. by-closes d j v) k w s hc hk hw
 
   settles : (s : State) → Ends s
   settles s = by-closes (suc (closes s.work)) (suc n) (suc (weight s.work)) s (omega arith) (omega arith) (omega arith)
