@@ -1,0 +1,71 @@
+-- Constraints and the flags of those that are open.
+use Rattle.std.proofs.Common.{◌≡◌, ◌<◌, ℕ, zero, suc, Bool, true, false, ◌&&◌, List, [], ◌∷◌, ◌++◌, length, map, slice_get, slice_set, Option, None, Some, refl, sym, ap, subst, arith, ◌∙◌}
+use Rattle.std.specs.List.{list_all, list_any}
+use Rattle.std.proofs.lemmas.Bool.{and_from, and_parts, true≢false}
+use Rattle.scasp_list.specs.Each.{Each}
+use Rattle.scasp_syntax.specs.Constraints.{holds}
+use Rattle.scasp_syntax.specs.Values.{Sub}
+use Rattle.scasp_syntax.specs.declared.con.Con.{Con}
+use Rattle.scasp_unify.specs.Unification.{then_by}
+use Rattle.scasp_store.specs.Inside.Open.{AreFlags, IsSettled, opened}
+
+-- what holds of the settled constraints and of the open ones holds of all
+pub all-of : {P : Con → Type 0} (s : Sub) → ((c : Con) → IsSettled s c → P c) → (cs : List Con) (fs : List Bool) → AreFlags s cs fs → Each P (opened cs fs) → Each P cs
+all-of s settled [] fs h e = tt
+all-of s settled (c ∷ cs) [] h e = absurd h
+all-of s settled (c ∷ cs) (true ∷ fs) h e = (e.0, all-of s settled cs fs h e.1)
+all-of s settled (c ∷ cs) (false ∷ fs) h e = (settled c h.0, all-of s settled cs fs h.1 e)
+
+-- what holds of all holds of the open ones
+pub open-of : {P : Con → Type 0} (cs : List Con) (fs : List Bool) → Each P cs → Each P (opened cs fs)
+open-of [] fs e = tt
+open-of (c ∷ cs) [] e = tt
+open-of (c ∷ cs) (true ∷ fs) e = (e.0, open-of cs fs e.1)
+open-of (c ∷ cs) (false ∷ fs) e = open-of cs fs e.1
+
+-- an open one that passes is one of all
+pub any-of : (p : Con → Bool) (cs : List Con) (fs : List Bool) → list_any p (opened cs fs) ≡ true → list_any p cs ≡ true
+any-of p [] fs e = e
+any-of p (c ∷ cs) [] e = absurd (true≢false (sym e))
+any-of p (c ∷ cs) (true ∷ fs) e = by (p c) e (any-of p cs fs)
+  where
+    by : (b : Bool) → (b || list_any p (opened cs fs)) ≡ true → (list_any p (opened cs fs) ≡ true → list_any p cs ≡ true) → (b || list_any p cs) ≡ true
+    by true e rest = refl
+    by false e rest = rest e
+any-of p (c ∷ cs) (false ∷ fs) e = by (p c) (any-of p cs fs e)
+  where
+    by : (b : Bool) → list_any p cs ≡ true → (b || list_any p cs) ≡ true
+    by true e = refl
+    by false e = e
+
+-- ---- flags
+
+pub one_more : (s : Sub) (cs : List Con) (fs : List Bool) (c : Con) → AreFlags s cs fs → AreFlags s (cs ++ c ∷ []) (fs ++ true ∷ [])
+one_more s [] [] c h = tt
+one_more s [] (f ∷ fs) c h = absurd h
+one_more s (d ∷ cs) [] c h = absurd h
+one_more s (d ∷ cs) (true ∷ fs) c h = one_more s cs fs c h
+one_more s (d ∷ cs) (false ∷ fs) c h = (h.0, one_more s cs fs c h.1)
+
+pub one_settled : (s : Sub) (cs : List Con) (fs : List Bool) (i : ℕ) (c : Con) → AreFlags s cs fs → Some c ≡ slice_get cs i → IsSettled s c → AreFlags s cs (slice_set fs i false)
+one_settled s [] [] i c h g e = tt
+one_settled s [] (f ∷ fs) i c h g e = absurd h
+one_settled s (d ∷ cs) [] i c h g e = absurd h
+one_settled s (d ∷ cs) (true ∷ fs) zero c h g e = let p : c ≡ d = cc in (subst (IsSettled s) p e, h)
+one_settled s (d ∷ cs) (false ∷ fs) zero c h g e = h
+one_settled s (d ∷ cs) (true ∷ fs) (suc i) c h g e = one_settled s cs fs i c h g e
+one_settled s (d ∷ cs) (false ∷ fs) (suc i) c h g e = (h.0, one_settled s cs fs i c h.1 g e)
+
+pub all-open : (s r : Sub) (cs : List Con) (fs : List Bool) → AreFlags s cs fs → AreFlags r cs (map (λ _. true) fs)
+all-open s r [] [] h = tt
+all-open s r [] (f ∷ fs) h = absurd h
+all-open s r (c ∷ cs) [] h = absurd h
+all-open s r (c ∷ cs) (true ∷ fs) h = all-open s r cs fs h
+all-open s r (c ∷ cs) (false ∷ fs) h = all-open s r cs fs h.1
+
+pub flags-under : (s r : Sub) → ((c : Con) → IsSettled s c → IsSettled r c) → (cs : List Con) (fs : List Bool) → AreFlags s cs fs → AreFlags r cs fs
+flags-under s r k [] [] h = tt
+flags-under s r k [] (f ∷ fs) h = absurd h
+flags-under s r k (c ∷ cs) [] h = absurd h
+flags-under s r k (c ∷ cs) (true ∷ fs) h = flags-under s r k cs fs h
+flags-under s r k (c ∷ cs) (false ∷ fs) h = (k c h.0, flags-under s r k cs fs h.1)

@@ -1,0 +1,137 @@
+//! Given constraints that need not be asked any more.
+ghost use Rattle.std.specs.Prelude.{◌≡◌, ◌++◌, ◌<◌, IfOk, OnOk, length, map, slice_set, true, false};
+ghost use Rattle.std.specs.List.{list_all};
+ghost use Rattle.scasp_law_parts.specs.Bound.{Triangular};
+ghost use Rattle.scasp_store.specs.Inside.Open.{AreFlags, IsNew, IsSettled, is_unbound, opened};
+ghost use Rattle.scasp_unify.specs.Solving.{sub_of};
+
+use crate::asking::{has_values, is_readable, note_row};
+use scasp_bound::Bound;
+use scasp_list::Memory;
+use scasp_readings::read_con;
+use scasp_search_terms::constraints::push_vars;
+use scasp_search_terms::forms::holds_always;
+use scasp_search_terms::regions::push_copies;
+use scasp_syntax::{Con, Cons, DeepCopy, VarList};
+use scasp_trail::Trailed;
+use scasp_unify::Binding;
+use std::alloc::Global;
+
+/// Whether the constraint holds as the bindings read it, whatever its variables stand for.
+#[tactic(auto, using(crate::proofs::AskLemmas::settled))]
+fn is_settled(alloc: Global, bound: &Bound, constraint: &Con) -> Result<bool, Memory>
+    ensures { Triangular bound.now.now → IfOk result (λ answer. answer ≡ true → IsSettled (sub_of bound.now.now) constraint.now) }
+{
+    note_row(constraint);
+    if !has_values(alloc, bound, constraint)? {
+        return Ok(false);
+    }
+    if !is_readable(alloc, bound, constraint)? {
+        return Ok(false);
+    }
+    let read = read_con(alloc, bound, constraint)?;
+    holds_always(alloc, &read)
+}
+
+/// Takes the flag of the constraint away where it is settled.
+#[tactic(auto, using(crate::proofs::FlagLemmas::one_settled))]
+fn settle_at(
+    alloc: Global,
+    bound: &Bound,
+    given: &[Con],
+    open: &mut Trailed<bool>,
+    at: usize,
+) -> Result<(), Memory>
+    requires { at < length given.now }
+    requires { at < length open.old.now }
+    ensures flags { Triangular bound.now.now → AreFlags (sub_of bound.now.now) given.now open.old.now → AreFlags (sub_of bound.now.now) given.now open.new.now }
+    ensures length { length open.new.now ≡ length open.old.now }
+    ensures before { open.new.before ≡ open.old.before }
+{
+    if open.as_slice()[at] && is_settled(alloc, bound, &given[at])? {
+        open.set(at, false)?;
+    }
+    Ok(())
+}
+
+/// Takes the flags of all settled constraints away.
+pub(crate) fn settle(
+    alloc: Global,
+    bound: &Bound,
+    given: &[Con],
+    open: &mut Trailed<bool>,
+) -> Result<(), Memory>
+    ensures flags { Triangular bound.now.now → AreFlags (sub_of bound.now.now) given.now open.old.now → AreFlags (sub_of bound.now.now) given.now open.new.now }
+    ensures before { open.new.before ≡ open.old.before }
+{
+    let mut at = 0;
+    while at < given.len() && at < open.len() {
+        settle_at(alloc, bound, given, open, at)?;
+        at += 1;
+    }
+    Ok(())
+}
+
+/// All constraints are open again.
+pub(crate) fn open_all(open: &mut Trailed<bool>) -> Result<(), Memory>
+    ensures now { OnOk result (open.new.now ≡ map (λ _. true) open.old.now) }
+    ensures before { open.new.before ≡ open.old.before }
+{
+    let mut at = 0;
+    while at < open.len() {
+        if !open.as_slice()[at] {
+            open.set(at, true)?;
+        }
+        at += 1;
+    }
+    Ok(())
+}
+
+/// Puts copies of the open constraints behind those of a list.
+fn push_open(alloc: Global, given: &[Con], open: &[bool], list: &mut Cons) -> Result<(), Memory>
+    ensures { OnOk result (list.new ≡ list.old ++ opened given.now open.now) }
+{
+    let mut at = 0;
+    while at < given.len() && at < open.len() {
+        if open[at] {
+            list.push(given[at].copy(alloc)?)?;
+        }
+        at += 1;
+    }
+    Ok(())
+}
+
+/// The open constraints, and then those that are asked.
+pub(crate) fn standing(
+    alloc: Global,
+    given: &[Con],
+    open: &[bool],
+    more: &[Con],
+) -> Result<Cons, Memory>
+    ensures { IfOk result (λ list. list ≡ opened given.now open.now ++ more.now) }
+{
+    let mut list = Cons::new(alloc);
+    push_open(alloc, given, open, &mut list)?;
+    push_copies(alloc, more, &mut list)?;
+    Ok(list)
+}
+
+/// Whether the variables are unbound, and none of them is `x`.
+fn are_unbound(bound: &Bound, x: u64, vars: &[u64]) -> bool
+    ensures { result ≡ list_all (is_unbound bound.now.now x) vars.now }
+{
+    vars.iter().all(|y| x != *y && !bound.is_bound(*y))
+}
+
+/// Whether the binding is of an unbound variable, to a term of other unbound variables.
+#[tactic(auto, using(crate::proofs::NewLemmas::new_binding))]
+pub(crate) fn is_new(alloc: Global, bound: &Bound, binding: &Binding) -> Result<bool, Memory>
+    ensures { IfOk result (λ answer. answer ≡ true → IsNew bound.now.now binding.now) }
+{
+    if bound.is_bound(binding.x) {
+        return Ok(false);
+    }
+    let mut vars = VarList::new(alloc);
+    push_vars(&binding.term, &mut vars)?;
+    Ok(are_unbound(bound, binding.x, vars.as_slice()))
+}
