@@ -252,7 +252,7 @@ with-rows bs cs fs more h f e =
     let one = and_parts (not (list_any is_equation list)) (list_all (is_counted s list) list) both.0 in
     let two = and_parts (not (list_any is_equation read)) (list_all (is_counted var read) read) both.1 in
     let none = none-of is_equation list (is-false (list_any is_equation list) one.0) in
-    let left = all-of s (settled-none s) cs fs f (Each-left (λ c. is_equation c ≡ false) (opened cs fs) more none) in
+    let left = all-of (λ c. is_equation c ≡ false) s (settled-none s) cs fs f (Each-left (λ c. is_equation c ≡ false) (opened cs fs) more none) in
     let rest = Each-append (λ c. is_equation c ≡ false) cs more left (Each-right (λ c. is_equation c ≡ false) (opened cs fs) more none) in
     let whole = resolved-behind bs (cs ++ more) h ∙ no-equations s (cs ++ more) rest in
     let short = no-equations var read (none-of is_equation read (is-false (list_any is_equation read) two.0)) in
@@ -273,7 +273,7 @@ whole-typed bs cs fs more h f t =
     let all : List Con = equations bs ++ (cs ++ more) in
     let k = goes-on (sub_of bs) (cs ++ more) in
     let same = resolved-behind bs (cs ++ more) h ∙ k.1 in
-    let given = all-of (sub_of bs) (settled-typed all (sub_of bs) k.0 same) cs fs f (Each-left (λ c. is_typed_con all c ≡ true) (opened cs fs) more t.whole) in
+    let given = all-of (λ c. is_typed_con all c ≡ true) (sub_of bs) (settled-typed all (sub_of bs) k.0 same) cs fs f (Each-left (λ c. is_typed_con all c ≡ true) (opened cs fs) more t.whole) in
     let rest = Each-append (λ c. is_typed_con all c ≡ true) cs more given (Each-right (λ c. is_typed_con all c ≡ true) (opened cs fs) more t.whole) in
     join-all (is_typed_con all) (equations bs) (cs ++ more) (sorted-equations all bs) (all-typed all (cs ++ more) rest)
 
@@ -293,12 +293,12 @@ with-settled s cs fs more f = (to, from)
     to : SatUnder s (cs ++ more) → SatUnder s (opened cs fs ++ more)
     to a =
         let e = each a.by.of (cs ++ more) a.meets in
-        record { by = a.by; meets = test a.by.of (opened cs fs ++ more) (Each-append (Met a.by.of) (opened cs fs) more (open-of cs fs (Each-left (Met a.by.of) cs more e)) (Each-right (Met a.by.of) cs more e)) }
+        record { by = a.by; meets = test a.by.of (opened cs fs ++ more) (Each-append (Met a.by.of) (opened cs fs) more (open-of (Met a.by.of) cs fs (Each-left (Met a.by.of) cs more e)) (Each-right (Met a.by.of) cs more e)) }
 
     from : SatUnder s (opened cs fs ++ more) → SatUnder s (cs ++ more)
     from a =
         let e = each a.by.of (opened cs fs ++ more) a.meets in
-        record { by = a.by; meets = test a.by.of (cs ++ more) (Each-append (Met a.by.of) cs more (all-of s (λ c k. k.always a.by.of) cs fs f (Each-left (Met a.by.of) (opened cs fs) more e)) (Each-right (Met a.by.of) (opened cs fs) more e)) }
+        record { by = a.by; meets = test a.by.of (cs ++ more) (Each-append (Met a.by.of) cs more (all-of (Met a.by.of) s (λ c k. k.always a.by.of) cs fs f (Each-left (Met a.by.of) (opened cs fs) more e)) (Each-right (Met a.by.of) (opened cs fs) more e)) }
 
 pub asked_alike : (bs : List Binding) (cs : List Con) (fs : List Bool) (more : List Con) → Triangular bs → AreFlags (sub_of bs) cs fs → RowsNormal (opened cs fs ++ more) → is_askable (sub_of bs) (opened cs fs ++ more) ≡ true → sat (equations bs ++ (cs ++ more)) ≡ sat (read_by (sub_of bs) (opened cs fs ++ more))
 asked_alike bs cs fs more h f n e =
@@ -310,8 +310,8 @@ asked_alike bs cs fs more h f n e =
     let all = sat-sorted (equations bs ++ (cs ++ more)) (typed (whole-typed bs cs fs more h f t)) in
     let part = sat-sorted (read_by s list) (typed t.short) in
     let bound = bound-read bs (cs ++ more) solved in
-    let open = with-settled s cs fs more f in
+    let same = with-settled s cs fs more f in
     let read = list-met s list (absorbed s bs solved) (all-read s list n k.0) in
     same-truth (sat (equations bs ++ (cs ++ more))) (sat (read_by s list))
-    (λ q. part.1 (read.0 (open.0 (bound.0 (all.0 q)))))
-    (λ q. all.1 (bound.1 (open.1 (read.1 (part.0 q)))))
+    (λ q. part.1 (read.0 (same.0 (bound.0 (all.0 q)))))
+    (λ q. all.1 (bound.1 (same.1 (read.1 (part.0 q)))))

@@ -1,5 +1,5 @@
 -- Constraints and the flags of those that are open.
-use Rattle.std.proofs.Common.{◌≡◌, ◌<◌, ℕ, zero, suc, Bool, true, false, ◌&&◌, List, [], ◌∷◌, ◌++◌, length, map, slice_get, slice_set, Option, None, Some, refl, sym, ap, subst, arith, ◌∙◌}
+use Rattle.std.proofs.Common.{◌≡◌, ◌<◌, ℕ, zero, suc, Bool, true, false, ◌||◌, List, [], ◌∷◌, ◌++◌, length, map, slice_get, slice_set, Option, None, Some, refl, sym, ap, subst, arith, ◌∙◌}
 use Rattle.std.specs.List.{list_all, list_any}
 use Rattle.std.proofs.lemmas.Bool.{and_from, and_parts, true≢false}
 use Rattle.scasp_list.specs.Each.{Each}
@@ -10,18 +10,18 @@ use Rattle.scasp_unify.specs.Unification.{then_by}
 use Rattle.scasp_store.specs.Inside.Open.{AreFlags, IsSettled, opened}
 
 -- what holds of the settled constraints and of the open ones holds of all
-pub all-of : {P : Con → Type 0} (s : Sub) → ((c : Con) → IsSettled s c → P c) → (cs : List Con) (fs : List Bool) → AreFlags s cs fs → Each P (opened cs fs) → Each P cs
-all-of s settled [] fs h e = tt
-all-of s settled (c ∷ cs) [] h e = absurd h
-all-of s settled (c ∷ cs) (true ∷ fs) h e = (e.0, all-of s settled cs fs h e.1)
-all-of s settled (c ∷ cs) (false ∷ fs) h e = (settled c h.0, all-of s settled cs fs h.1 e)
+pub all-of : (P : Con → Type 0) (s : Sub) → ((c : Con) → IsSettled s c → P c) → (cs : List Con) (fs : List Bool) → AreFlags s cs fs → Each P (opened cs fs) → Each P cs
+all-of P s settled [] fs h e = tt
+all-of P s settled (c ∷ cs) [] h e = absurd h
+all-of P s settled (c ∷ cs) (true ∷ fs) h e = (e.0, all-of P s settled cs fs h e.1)
+all-of P s settled (c ∷ cs) (false ∷ fs) h e = (settled c h.0, all-of P s settled cs fs h.1 e)
 
 -- what holds of all holds of the open ones
-pub open-of : {P : Con → Type 0} (cs : List Con) (fs : List Bool) → Each P cs → Each P (opened cs fs)
-open-of [] fs e = tt
-open-of (c ∷ cs) [] e = tt
-open-of (c ∷ cs) (true ∷ fs) e = (e.0, open-of cs fs e.1)
-open-of (c ∷ cs) (false ∷ fs) e = open-of cs fs e.1
+pub open-of : (P : Con → Type 0) (cs : List Con) (fs : List Bool) → Each P cs → Each P (opened cs fs)
+open-of P [] fs e = tt
+open-of P (c ∷ cs) [] e = tt
+open-of P (c ∷ cs) (true ∷ fs) e = (e.0, open-of P cs fs e.1)
+open-of P (c ∷ cs) (false ∷ fs) e = open-of P cs fs e.1
 
 -- an open one that passes is one of all
 pub any-of : (p : Con → Bool) (cs : List Con) (fs : List Bool) → list_any p (opened cs fs) ≡ true → list_any p cs ≡ true

@@ -96,12 +96,7 @@ fn is_told(alloc: Global, bound: &Bound, list: &[Con], x: u64) -> Result<bool, M
 }
 
 /// Whether each variable of the row counts as a number.
-fn are_told(
-    alloc: Global,
-    bound: &Bound,
-    list: &[Con],
-    coeffs: &[Coeff],
-) -> Result<bool, Memory>
+fn are_told(alloc: Global, bound: &Bound, list: &[Con], coeffs: &[Coeff]) -> Result<bool, Memory>
     ensures { IfOk result (λ answer. answer ≡ list_all (λ k. is_told (sub_of bound.now.now) list.now (sub_of bound.now.now k.x)) coeffs.now) }
 {
     for coeff in coeffs {
@@ -146,12 +141,7 @@ pub(crate) fn is_readable(alloc: Global, bound: &Bound, constraint: &Con) -> Res
     is_flat(alloc, bound, constraint)
 }
 
-fn is_counted(
-    alloc: Global,
-    bound: &Bound,
-    list: &[Con],
-    constraint: &Con,
-) -> Result<bool, Memory>
+fn is_counted(alloc: Global, bound: &Bound, list: &[Con], constraint: &Con) -> Result<bool, Memory>
     ensures { IfOk result (λ answer. answer ≡ is_counted (sub_of bound.now.now) list.now constraint.now) }
 {
     match constraint {

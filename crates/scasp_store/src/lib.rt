@@ -2,7 +2,7 @@
 #![tactic(auto)]
 
 mod asking;
-mod open;
+mod opening;
 mod store;
 
 pub use store::Store;

@@ -7,7 +7,7 @@ ghost use Rattle.scasp_store.specs.Held.{list_with};
 ghost use Rattle.scasp_trail.specs.Past.{earlier, is_marked, latest};
 
 use crate::asking::answer;
-use crate::open::{is_new, open_all, settle, standing};
+use crate::opening::{is_new, open_all, settle, standing};
 use scasp_bound::Bound;
 use scasp_given::Given;
 use scasp_list::Memory;
@@ -25,7 +25,7 @@ pub struct Store {
     bound: Bound,
     given: Given,
     /// Whether the constraint is to be asked: one that holds as it reads, whatever its variables stand for, is not.
-    open: Trailed<bool>,
+    flags: Trailed<bool>,
     /// Whether each binding was of an unbound variable, to a term of unbound variables, so that none leads back to itself.
     is_solved: bool,
     /// Whether no change has failed since the latest mark.
@@ -44,7 +44,7 @@ impl Model for Store {
 
     ghost view = { λ s. record { bound = s.bound; given = s.given } };
 
-    ghost invariant = { λ s. IsKept s.is_solved s.is_known s.bound s.given s.open };
+    ghost invariant = { λ s. IsKept s.is_solved s.is_known s.bound s.given s.flags };
 }
 
 impl Store {
@@ -56,7 +56,7 @@ impl Store {
         Store {
             bound: Bound::new(alloc),
             given: Given::new(alloc),
-            open: Trailed::new(alloc),
+            flags: Trailed::new(alloc),
             is_solved: true,
             is_known: true,
         }
@@ -104,7 +104,7 @@ impl Store {
         let was_known = self.is_known;
         self.is_known = false;
         self.bound.end_case(universals, but)?;
-        open_all(&mut self.open)?;
+        open_all(&mut self.flags)?;
         self.is_known = was_known;
         Ok(())
     }
@@ -119,7 +119,7 @@ impl Store {
         let was_known = self.is_known;
         self.is_known = false;
         self.given.give(constraint)?;
-        self.open.push(true)?;
+        self.flags.push(true)?;
         self.is_known = was_known;
         Ok(())
     }
@@ -146,8 +146,8 @@ impl Store {
             return Ok(None);
         }
         let given = self.given.as_slice();
-        settle(alloc, &self.bound, given, &mut self.open)?;
-        let list = standing(alloc, given, self.open.as_slice(), more)?;
+        settle(alloc, &self.bound, given, &mut self.flags)?;
+        let list = standing(alloc, given, self.flags.as_slice(), more)?;
         answer(alloc, &self.bound, list.as_slice())
     }
 
@@ -187,7 +187,7 @@ impl Store {
             self.bound.leave();
             return Err(Memory);
         }
-        if self.open.mark().is_err() {
+        if self.flags.mark().is_err() {
             self.bound.leave();
             self.given.leave();
             return Err(Memory);
@@ -206,7 +206,7 @@ impl Store {
         let was_marked = self.bound.is_marked();
         self.bound.leave();
         self.given.leave();
-        self.open.leave();
+        self.flags.leave();
         self.is_known = self.is_known || was_marked;
     }
 }

@@ -66,9 +66,9 @@ AreGoodIf false bss css fss = ⊤
 AreGoodIf true bss css fss = AreGood bss css fss
 
 -- so it is at each mark, and now where no change has failed since
-pub record IsKept (is_solved is_known : Bool) (bound : Past Binding) (given : Past Con) (open : Past Bool) : Type 0 where
-  pub now : IsGoodIf (is_solved && is_known) bound.now given.now open.now
-  pub before : AreGoodIf is_solved bound.before given.before open.before
+pub record IsKept (is_solved is_known : Bool) (bound : Past Binding) (given : Past Con) (flags : Past Bool) : Type 0 where
+  pub now : IsGoodIf (is_solved && is_known) bound.now given.now flags.now
+  pub before : AreGoodIf is_solved bound.before given.before flags.before
 
 -- y is another variable than x, and unbound
 abbrev pub is_unbound : List Binding → ℕ → ℕ → Bool

@@ -39,17 +39,17 @@ fn settle_at(
     alloc: Global,
     bound: &Bound,
     given: &[Con],
-    open: &mut Trailed<bool>,
+    flags: &mut Trailed<bool>,
     at: usize,
 ) -> Result<(), Memory>
     requires { at < length given.now }
-    requires { at < length open.old.now }
-    ensures flags { Triangular bound.now.now → AreFlags (sub_of bound.now.now) given.now open.old.now → AreFlags (sub_of bound.now.now) given.now open.new.now }
-    ensures length { length open.new.now ≡ length open.old.now }
-    ensures before { open.new.before ≡ open.old.before }
+    requires { at < length flags.old.now }
+    ensures flags { Triangular bound.now.now → AreFlags (sub_of bound.now.now) given.now flags.old.now → AreFlags (sub_of bound.now.now) given.now flags.new.now }
+    ensures length { length flags.new.now ≡ length flags.old.now }
+    ensures before { flags.new.before ≡ flags.old.before }
 {
-    if open.as_slice()[at] && is_settled(alloc, bound, &given[at])? {
-        open.set(at, false)?;
+    if flags.as_slice()[at] && is_settled(alloc, bound, &given[at])? {
+        flags.set(at, false)?;
     }
     Ok(())
 }
@@ -59,28 +59,28 @@ pub(crate) fn settle(
     alloc: Global,
     bound: &Bound,
     given: &[Con],
-    open: &mut Trailed<bool>,
+    flags: &mut Trailed<bool>,
 ) -> Result<(), Memory>
-    ensures flags { Triangular bound.now.now → AreFlags (sub_of bound.now.now) given.now open.old.now → AreFlags (sub_of bound.now.now) given.now open.new.now }
-    ensures before { open.new.before ≡ open.old.before }
+    ensures flags { Triangular bound.now.now → AreFlags (sub_of bound.now.now) given.now flags.old.now → AreFlags (sub_of bound.now.now) given.now flags.new.now }
+    ensures before { flags.new.before ≡ flags.old.before }
 {
     let mut at = 0;
-    while at < given.len() && at < open.len() {
-        settle_at(alloc, bound, given, open, at)?;
+    while at < given.len() && at < flags.len() {
+        settle_at(alloc, bound, given, flags, at)?;
         at += 1;
     }
     Ok(())
 }
 
 /// All constraints are open again.
-pub(crate) fn open_all(open: &mut Trailed<bool>) -> Result<(), Memory>
-    ensures now { OnOk result (open.new.now ≡ map (λ _. true) open.old.now) }
-    ensures before { open.new.before ≡ open.old.before }
+pub(crate) fn open_all(flags: &mut Trailed<bool>) -> Result<(), Memory>
+    ensures now { OnOk result (flags.new.now ≡ map (λ _. true) flags.old.now) }
+    ensures before { flags.new.before ≡ flags.old.before }
 {
     let mut at = 0;
-    while at < open.len() {
-        if !open.as_slice()[at] {
-            open.set(at, true)?;
+    while at < flags.len() {
+        if !flags.as_slice()[at] {
+            flags.set(at, true)?;
         }
         at += 1;
     }
@@ -88,12 +88,12 @@ pub(crate) fn open_all(open: &mut Trailed<bool>) -> Result<(), Memory>
 }
 
 /// Puts copies of the open constraints behind those of a list.
-fn push_open(alloc: Global, given: &[Con], open: &[bool], list: &mut Cons) -> Result<(), Memory>
-    ensures { OnOk result (list.new ≡ list.old ++ opened given.now open.now) }
+fn push_open(alloc: Global, given: &[Con], flags: &[bool], list: &mut Cons) -> Result<(), Memory>
+    ensures { OnOk result (list.new ≡ list.old ++ opened given.now flags.now) }
 {
     let mut at = 0;
-    while at < given.len() && at < open.len() {
-        if open[at] {
+    while at < given.len() && at < flags.len() {
+        if flags[at] {
             list.push(given[at].copy(alloc)?)?;
         }
         at += 1;
@@ -105,13 +105,13 @@ fn push_open(alloc: Global, given: &[Con], open: &[bool], list: &mut Cons) -> Re
 pub(crate) fn standing(
     alloc: Global,
     given: &[Con],
-    open: &[bool],
+    flags: &[bool],
     more: &[Con],
 ) -> Result<Cons, Memory>
-    ensures { IfOk result (λ list. list ≡ opened given.now open.now ++ more.now) }
+    ensures { IfOk result (λ list. list ≡ opened given.now flags.now ++ more.now) }
 {
     let mut list = Cons::new(alloc);
-    push_open(alloc, given, open, &mut list)?;
+    push_open(alloc, given, flags, &mut list)?;
     push_copies(alloc, more, &mut list)?;
     Ok(list)
 }
