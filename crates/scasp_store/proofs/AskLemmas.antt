@@ -18,6 +18,8 @@ use Rattle.scasp_num.specs.Linear.{IsNormal, Linear}
 use Rattle.scasp_num.specs.declared.linear.Coeff.{Coeff}
 use Rattle.scasp_search_rules.specs.Successors.Reading.{con_under, holds_always, not_shaped}
 use Rattle.scasp_search_rules.specs.Successors.Replacing.{is_unreplaced}
+use Rattle.scasp_search_rules.specs.Successors.Splits.{is_number_test}
+use Rattle.scasp_readings.specs.Readings.{reading}
 use Rattle.scasp_syntax.specs.Constraints.{Sat, has_shape, holds, is_number}
 use Rattle.scasp_syntax.specs.Tm.{Tm, var, num, app}
 use Rattle.scasp_syntax.specs.Values.{Sub, under}
@@ -157,17 +159,17 @@ no-row-typed all (con.NotShape x f n) h = refl
 no-row-typed all (con.Num t) h = refl
 no-row-typed all (con.NotNum t) h = refl
 
+told-here : (s : Sub) (some all : List Con) → ((p : Con → Bool) → list_any p some ≡ true → list_any p all ≡ true) → (t : Tm) → is_told s some t ≡ true → (is_number t || list_any (is_num_of s t) all) ≡ true
+told-here s some all more (var y) e = more (is_num_of s (var y)) e
+told-here s some all more (num q) e = refl
+told-here s some all more (app f ts) e = absurd (true≢false (sym e))
+
 told-counts : (all some : List Con) (s : Sub) → resolver all ≡ s → ((p : Con → Bool) → list_any p some ≡ true → list_any p all ≡ true) → (ks : List Coeff) → list_all (λ k. is_told s some (s k.x)) ks ≡ true → list_all (λ k. counts all k.x) ks ≡ true
 told-counts all some s same more [] e = refl
 told-counts all some s same more (k ∷ ks) e =
     let q = and_parts (is_told s some (s k.x)) (list_all (λ k. is_told s some (s k.x)) ks) e in
-    let here : is_told s all (s k.x) ≡ true = by (is_number (s k.x)) q.0 in
-    let one : counts all k.x ≡ true = ap (λ (v : Sub). is_told v all (v k.x)) same ∙ here in
+    let one : counts all k.x ≡ true = ap (λ (v : Sub). is_number (v k.x) || list_any (is_num_of v (v k.x)) all) same ∙ told-here s some all more (s k.x) q.0 in
     and_from (counts all k.x) (list_all (λ k. counts all k.x) ks) one (told-counts all some s same more ks q.1)
-  where
-    by : (b : Bool) → (b || list_any (is_num_of s (s k.x)) some) ≡ true → (b || list_any (is_num_of s (s k.x)) all) ≡ true
-    by true e = refl
-    by false e = more (is_num_of s (s k.x)) e
 
 counted-typed : (all some : List Con) (s : Sub) → resolver all ≡ s → ((p : Con → Bool) → list_any p some ≡ true → list_any p all ≡ true) → (c : Con) → is_counted s some c ≡ true → is_typed_con all c ≡ true
 counted-typed all some s same more (con.Row l) e = told-counts all some s same more l.coeffs e
@@ -315,3 +317,17 @@ asked_alike bs cs fs more h f n e =
     same-truth (sat (equations bs ++ (cs ++ more))) (sat (read_by s list))
     (λ q. part.1 (read.0 (same.0 (bound.0 (all.0 q)))))
     (λ q. all.1 (bound.1 (same.1 (read.1 (part.0 q)))))
+
+-- ---- what is read of the list that is told
+
+one-told : (bs : List Binding) (y : ℕ) (c : Con) → is_number_test (reading bs) y c ≡ is_num_of (sub_of bs) (var y) c
+one-told bs y (con.Num t) = refl
+one-told bs y (con.Eq t u) = refl
+one-told bs y (con.Neq t u) = refl
+one-told bs y (con.NotShape x f n) = refl
+one-told bs y (con.NotNum t) = refl
+one-told bs y (con.Row r) = refl
+
+pub told_alike : (bs : List Binding) (y : ℕ) (cs : List Con) → list_any (is_number_test (reading bs) y) cs ≡ list_any (is_num_of (sub_of bs) (var y)) cs
+told_alike bs y [] = refl
+told_alike bs y (c ∷ cs) = λ i. one-told bs y c i || told_alike bs y cs i

@@ -4,7 +4,7 @@ ghost use Rattle.std.specs.List.{list_all, list_any};
 ghost use Rattle.scasp_hint.specs.AskedRows.{RowsNormal};
 ghost use Rattle.scasp_hint.specs.Satisfying.{sat};
 ghost use Rattle.scasp_law_parts.specs.Bound.{Triangular, equations};
-ghost use Rattle.scasp_store.specs.Inside.Asking.{counts_all, is_counted, is_equation, is_flat, is_readable, is_row, is_sorted, is_told, read_by};
+ghost use Rattle.scasp_store.specs.Inside.Asking.{counts_all, is_askable, is_counted, is_equation, is_flat, is_readable, is_row, is_sorted, is_told, read_by};
 ghost use Rattle.scasp_store.specs.Inside.Open.{AreFlags, has_values, opened};
 ghost use Rattle.scasp_syntax.specs.Constraints.{is_number};
 ghost use Rattle.scasp_syntax.specs.declared.con.Con.{Con as ThisCon};
@@ -84,7 +84,8 @@ fn are_flat(alloc: Global, bound: &Bound, coeffs: &[Coeff]) -> Result<bool, Memo
     Ok(true)
 }
 
-/// Whether the variable stands for a number, or the list says so of what it stands for.
+/// Whether the variable stands for a number, or for a variable of which the list says so.
+#[tactic(auto, using(crate::proofs::AskLemmas::told_alike))]
 fn is_told(alloc: Global, bound: &Bound, list: &[Con], x: u64) -> Result<bool, Memory>
     ensures { IfOk result (λ answer. answer ≡ is_told (sub_of bound.now.now) list.now (sub_of bound.now.now x)) }
 {
@@ -230,24 +231,53 @@ fn is_sorted(alloc: Global, bound: &Bound, list: &[Con], read: &[Con]) -> Result
     counts_all(alloc, &none, read)
 }
 
+/// Whether the list may be asked as it reads.
+fn is_askable(alloc: Global, bound: &Bound, list: &[Con], read: &[Con]) -> Result<bool, Memory>
+    requires { read.now ≡ read_by (sub_of bound.now.now) list.now }
+    ensures { IfOk result (λ answer. answer ≡ is_askable (sub_of bound.now.now) list.now) }
+{
+    if !are_readable(alloc, bound, list)? {
+        return Ok(false);
+    }
+    is_sorted(alloc, bound, list, read)
+}
+
+/// Whether the list passes the test; None where its arithmetic overflows.
+fn tested(alloc: Global, list: &[Con]) -> Result<Option<bool>, Memory>
+    ensures { IfOk result (λ found. IfSome found (λ answer. answer ≡ sat list.now)) }
+{
+    match is_satisfiable(alloc, list) {
+        Ok(answer) => Ok(Some(answer)),
+        Err(LinErr::Overflow) => Ok(None),
+        Err(LinErr::Memory) => Err(Memory),
+    }
+}
+
+/// As `answer`, where the list reads so.
+fn answer_by(
+    alloc: Global,
+    bound: &Bound,
+    list: &[Con],
+    read: &[Con],
+) -> Result<Option<bool>, Memory>
+    requires normal { RowsNormal list.now }
+    requires read { read.now ≡ read_by (sub_of bound.now.now) list.now }
+    ensures { (cs more : List ThisCon) (fs : List Bool) → Triangular bound.now.now → AreFlags (sub_of bound.now.now) cs fs → list.now ≡ opened cs fs ++ more
+        → IfOk result (λ found. IfSome found (λ answer. answer ≡ sat (equations bound.now.now ++ (cs ++ more)))) }
+{
+    if !is_askable(alloc, bound, list, read)? {
+        return Ok(None);
+    }
+    tested(alloc, read)
+}
+
 /// Whether the bindings and constraints have a valuation, of which this list is what is left where the settled ones are
 /// left out; None where the whole list is to be asked.
-#[tactic(auto, using(crate::proofs::AskLemmas::asked_alike))]
 pub(crate) fn answer(alloc: Global, bound: &Bound, list: &[Con]) -> Result<Option<bool>, Memory>
     ensures { (cs more : List ThisCon) (fs : List Bool) → Triangular bound.now.now → AreFlags (sub_of bound.now.now) cs fs → list.now ≡ opened cs fs ++ more
         → IfOk result (λ found. IfSome found (λ answer. answer ≡ sat (equations bound.now.now ++ (cs ++ more)))) }
 {
     note_rows(list);
-    if !are_readable(alloc, bound, list)? {
-        return Ok(None);
-    }
     let read = read_all(alloc, bound, list)?;
-    if !is_sorted(alloc, bound, list, read.as_slice())? {
-        return Ok(None);
-    }
-    match is_satisfiable(alloc, read.as_slice()) {
-        Ok(answer) => Ok(Some(answer)),
-        Err(LinErr::Overflow) => Ok(None),
-        Err(LinErr::Memory) => Err(Memory),
-    }
+    answer_by(alloc, bound, list, read.as_slice())
 }

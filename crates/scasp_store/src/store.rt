@@ -1,5 +1,5 @@
 //! Bindings and given constraints.
-ghost use Rattle.std.specs.Prelude.{◌≡◌, [], ◌∷◌, ◌++◌, IfOk, IfSome, OnErr, OnOk};
+ghost use Rattle.std.specs.Prelude.{◌≡◌, [], ◌∷◌, ◌++◌, ◌&&◌, IfOk, IfSome, OnErr, OnOk};
 ghost use Rattle.scasp_bound.specs.Bounds.{unbound};
 ghost use Rattle.scasp_hint.specs.Satisfying.{sat};
 ghost use Rattle.scasp_search_constraints.specs.Assuming.Taken.{Gives};
@@ -142,7 +142,7 @@ impl Store {
         ensures answer { IfOk result (λ found. IfSome found (λ answer. answer ≡ sat (list_with self.old more.now))) }
         ensures same { self.new ≡ self.old }
     {
-        if !(self.is_solved && self.is_known) {
+        if !both(self.is_solved, self.is_known) {
             return Ok(None);
         }
         let given = self.given.as_slice();
@@ -166,9 +166,9 @@ impl Store {
 
     /// Whether there is a mark.
     pub fn is_marked(&self) -> bool
-        ensures { result ≡ is_marked self.now.bound.before }
+        ensures { result ≡ (is_marked self.now.bound.before && is_marked self.now.given.before) }
     {
-        self.bound.is_marked()
+        self.bound.is_marked() && self.given.is_marked()
     }
 
     /// Marks what is held; after an error of a change there is no mark to be had until the next `leave`.
@@ -209,4 +209,10 @@ impl Store {
         self.flags.leave();
         self.is_known = self.is_known || was_marked;
     }
+}
+
+fn both(one: bool, other: bool) -> bool
+    ensures { result ≡ (one && other) }
+{
+    one && other
 }

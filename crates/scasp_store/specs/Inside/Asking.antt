@@ -3,8 +3,7 @@ use Rattle.std.specs.Prelude.{Bool, true, false, ◌&&◌, ◌||◌, not, List, 
 use Rattle.std.specs.List.{list_all, list_any}
 use Rattle.scasp_search_rules.specs.Successors.Reading.{con_under}
 use Rattle.scasp_search_rules.specs.Successors.Replacing.{is_unreplaced}
-use Rattle.scasp_syntax.specs.Constraints.{is_number}
-use Rattle.scasp_syntax.specs.Tm.{Tm, var}
+use Rattle.scasp_syntax.specs.Tm.{Tm, var, num, app}
 use Rattle.scasp_syntax.specs.Values.{Sub}
 use Rattle.scasp_syntax.specs.declared.con.Con.{Con}
 use Rattle.scasp_syntax.specs.declared.con.Con.TheVariants as con
@@ -40,9 +39,11 @@ is_flat s (con.NotNum t) = true
 abbrev pub is_readable : Sub → Con → Bool
 is_readable s c = not (is_unreplaced s c) && is_flat s c
 
--- the term is a number, or the list says so
+-- the term is a number, or the list says so of a variable
 abbrev pub is_told : Sub → List Con → Tm → Bool
-is_told s cs t = is_number t || list_any (is_num_of s t) cs
+is_told s cs (var y) = list_any (is_num_of s (var y)) cs
+is_told s cs (num q) = true
+is_told s cs (app f ts) = false
 
 -- each variable of a row counts as a number
 abbrev pub is_counted : Sub → List Con → Con → Bool

@@ -1,5 +1,5 @@
 -- Given constraints that need not be asked any more, and which of them are still open.
-use Rattle.std.specs.Prelude.{◌≡◌, Bool, true, false, ◌&&◌, not, nat_eq, ℕ, List, [], ◌∷◌, ⊤}
+use Rattle.std.specs.Prelude.{◌≡◌, Bool, true, false, ◌&&◌, not, nat_eq, ℕ, zero, suc, List, [], ◌∷◌, ⊤}
 use Rattle.std.specs.List.{list_all}
 use Rattle.scasp_bound.specs.Bounds.{is_bound_in}
 use Rattle.scasp_law_parts.specs.Bound.{IsFree, Triangular}
@@ -35,6 +35,17 @@ opened [] fs = []
 opened (c ∷ cs) [] = []
 opened (c ∷ cs) (true ∷ fs) = c ∷ opened cs fs
 opened (c ∷ cs) (false ∷ fs) = opened cs fs
+
+-- the constraint by itself, if its flag is set
+abbrev pub one_opened : Con → Bool → List Con
+one_opened c true = c ∷ []
+one_opened c false = []
+
+-- the first flags, so many, are set
+abbrev pub opened_to : ℕ → List Bool → List Bool
+opened_to zero fs = fs
+opened_to (suc n) [] = []
+opened_to (suc n) (f ∷ fs) = true ∷ opened_to n fs
 
 -- each constraint without it is settled
 abbrev pub AreFlags : Sub → List Con → List Bool → Type 0
