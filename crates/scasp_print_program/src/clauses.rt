@@ -4,27 +4,26 @@ ghost use Rattle.scasp_cert.specs.Text.Terms.{var_text};
 ghost use Rattle.scasp_print_program.specs.Programs as spec;
 
 use crate::items::put_items;
-use crate::style::Shown;
+use crate::style::{Shown, VariableText};
 use crate::terms::put_atom;
-use itoa::Buffer;
 use scasp_list::{Memory, Sequence};
 use scasp_name::{NameId, Names};
-use scasp_print_words::{put, text_at};
-use scasp_reader_tokens::Text;
+use scasp_print_words::{put, put_number, text_at};
 use scasp_syntax::{Atom, Clause, Items, Query, VarNames};
 use std::alloc::Global;
 
 /// `V0`, `V1`, ..
-fn rule_variable(alloc: Global, var: u64) -> Result<Text, Memory>
+fn rule_variable(alloc: Global, var: u64) -> Result<VariableText, Memory>
     ensures { IfOk result (λ text. text ≡ var_text var) }
 {
-    let mut text = String::from_str(alloc, "V")?;
-    text.push_str(Buffer::new().format(var))?;
-    Text::from_str(alloc, text.as_str())
+    let mut text = Vec::new(alloc);
+    put(&mut text, "V")?;
+    put_number(&mut text, var)?;
+    Ok(VariableText::new(text))
 }
 
 /// The texts of so many variables of a rule.
-fn rule_variables(alloc: Global, count: u64) -> Result<Sequence<Text>, Memory>
+fn rule_variables(alloc: Global, count: u64) -> Result<Sequence<VariableText>, Memory>
     ensures { IfOk result (λ texts. texts ≡ spec.rule_variables 0 count) }
 {
     let mut texts = Sequence::new(alloc);
@@ -35,17 +34,25 @@ fn rule_variables(alloc: Global, count: u64) -> Result<Sequence<Text>, Memory>
 }
 
 /// The name of a query's variable; `_` for one without a name.
-fn query_variable(alloc: Global, names: &Names, name: Option<NameId>) -> Result<Text, Memory>
+fn query_variable(
+    alloc: Global,
+    names: &Names,
+    name: Option<NameId>,
+) -> Result<VariableText, Memory>
     ensures { IfOk result (λ text. text ≡ spec.query_variable names.now name) }
 {
     match name {
-        None => Text::from_str(alloc, "_"),
-        Some(name) => Text::from_str(alloc, text_at(names, name)),
+        None => VariableText::from_str(alloc, "_"),
+        Some(name) => VariableText::from_str(alloc, text_at(names, name)),
     }
 }
 
 /// The texts of a query's variables.
-fn query_variables(alloc: Global, names: &Names, vars: &VarNames) -> Result<Sequence<Text>, Memory>
+fn query_variables(
+    alloc: Global,
+    names: &Names,
+    vars: &VarNames,
+) -> Result<Sequence<VariableText>, Memory>
     ensures { IfOk result (λ texts. texts ≡ map (spec.query_variable names.now) vars.now) }
 {
     let mut texts = Sequence::new(alloc);

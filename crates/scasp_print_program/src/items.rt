@@ -4,7 +4,7 @@ ghost use Rattle.scasp_cert.specs.Text.Constraints.{plus_text, factor_text, rela
 ghost use Rattle.scasp_print_program.specs.Items as spec;
 
 use crate::style::Shown;
-use crate::terms::{put_lit, put_term};
+use crate::terms::{put_lit, put_term, put_variable};
 use scasp_list::Memory;
 use scasp_num::{Op, Row};
 use scasp_print_words::{put, put_integer, put_separator};
@@ -52,7 +52,7 @@ fn put_summand(
 {
     put_sign(out, is_first, number)?;
     put_factor(out, number)?;
-    put(out, shown.variable(var))
+    put_variable(out, shown, var)
 }
 
 /// Puts each of the variables with its coefficient at the end.

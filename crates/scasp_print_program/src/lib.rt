@@ -10,4 +10,4 @@ mod terms;
 pub use clauses::{put_body, put_clause, put_query};
 pub use items::put_items;
 pub use programs::{print_program, written_count};
-pub use style::Shown;
+pub use style::{Shown, VariableText};

@@ -22,13 +22,21 @@ fn put_constant(out: &mut Vec<u8>, shown: &Shown<'_>, room: u64, name: NameId) -
     }
 }
 
+/// Puts the text of a variable at the end.
+pub fn put_variable(out: &mut Vec<u8>, shown: &Shown<'_>, var: u64) -> Result<(), Memory>
+    ensures { OnOk result (out.new.items ≡ out.old.items ++ spec.variable_text shown.now var) }
+{
+    out.extend_from_slice(shown.variable(var))?;
+    Ok(())
+}
+
 /// Puts a term at the end, where so many brackets may be opened.
 #[cycle(term)]
 pub fn put_term(out: &mut Vec<u8>, shown: &Shown<'_>, room: u64, term: &Term) -> Result<(), Memory>
     ensures { OnOk result (out.new.items ≡ out.old.items ++ spec.term_text shown.now room (tm_of term.now)) }
 {
     match term {
-        Term::Var(var) => put(out, shown.variable(*var)),
+        Term::Var(var) => put_variable(out, shown, *var),
         Term::Num(number) => put_rational(out, *number),
         Term::App(name, args) => put_app(out, shown, room, *name, args),
     }
@@ -42,7 +50,7 @@ fn put_tail(out: &mut Vec<u8>, shown: &Shown<'_>, room: u64, term: &Term) -> Res
     match term {
         Term::Var(var) => {
             put(out, "|")?;
-            put(out, shown.variable(*var))
+            put_variable(out, shown, *var)
         }
         Term::Num(number) => {
             put(out, "|")?;

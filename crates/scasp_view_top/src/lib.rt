@@ -2,6 +2,7 @@
 #![tactic(auto)]
 
 mod places;
+mod programs;
 mod texts;
 mod top;
 

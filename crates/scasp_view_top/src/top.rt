@@ -6,23 +6,25 @@ ghost use Rattle.scasp_command_inputs.specs.Reports.{Reports};
 ghost use Rattle.scasp_io.specs.Counts.{Rose};
 ghost use Rattle.scasp_io.specs.Taken.{TakesWhole};
 ghost use Rattle.scasp_view_top.specs.Outputs.{HasReadFault, Outputs};
-ghost use Rattle.scasp_view_words.specs.Places.{asked_of};
+ghost use Rattle.scasp_view_words.specs.Asked.{asked_of};
 
 use crate::places::place_shown;
+use crate::programs::program_shown;
 use scasp_command_inputs::{Halt, Status, line, tell};
 use scasp_command_words::WordErr;
 use scasp_io::{Files, Sink};
-use scasp_view_words::parse_words;
+use scasp_view_words::{Asked, parse_words};
 use std::alloc::Global;
 
-const USAGE_LINE: &[u8] = b"usage: scasp_view at FILE BYTE\n";
+const USAGE_LINE: &[u8] = b"usage: scasp_view PROGRAM | at FILE BYTE\n";
 
 /// What the words ask to be shown, or the line that tells how they are written.
 fn shown_for<F: Files>(alloc: Global, words: &Vec<String>, files: &mut F) -> Halt
     ensures { IfLine result (Outputs (asked_of (map string_bytes words.now.items)) (outside (F.told files.old) (F.faults files.old) (F.faults files.new))) }
 {
     match parse_words(alloc, words) {
-        Ok(place) => place_shown(alloc, &place, files),
+        Ok(Asked::Place(place)) => place_shown(alloc, &place, files),
+        Ok(Asked::Program { file }) => program_shown(alloc, file.as_str(), files),
         Err(WordErr::Usage) => line(alloc, USAGE_LINE, Status::Usage),
         Err(WordErr::Memory) => Halt::Memory,
     }

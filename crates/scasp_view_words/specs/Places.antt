@@ -1,6 +1,5 @@
--- Which words ask for a place, and for which one.
-use Rattle.std.specs.Prelude.{ℕ, Option, None, Some, option_map, if◌then◌else◌, List, [], ◌∷◌, codes}
-use Rattle.std.specs.Str.{bytes_eq}
+-- Which words behind `at` ask for a place, and for which one.
+use Rattle.std.specs.Prelude.{ℕ, Option, None, Some, option_map, List, [], ◌∷◌}
 use Rattle.scasp_command_words.specs.Numbers.{number_between}
 use Rattle.scasp_view_words.specs.declared.place.Place.{Place}
 use Rattle.scasp_view_words.specs.declared.place.TheConstants.{MOST_BYTE}
@@ -18,8 +17,3 @@ place_of file (byte ∷ word ∷ words) = None
 abbrev pub at_of : List (List ℕ) → Option Place
 at_of [] = None
 at_of (file ∷ words) = place_of file words
-
--- the place that the words ask for
-abbrev pub asked_of : List (List ℕ) → Option Place
-asked_of [] = None
-asked_of (word ∷ words) = if bytes_eq word (codes "at") then at_of words else None

@@ -1,6 +1,8 @@
 //! The words of `scasp_view`.
 #![tactic(auto)]
 
+mod asked;
 mod place;
 
-pub use place::{Place, parse_words};
+pub use asked::{Asked, parse_words};
+pub use place::Place;

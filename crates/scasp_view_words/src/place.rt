@@ -1,6 +1,6 @@
 //! The place that is asked for.
 ghost use Rattle.std.specs.Prelude.{◌≡◌, Some, None, IfOk, IsErrOf, map, string_bytes};
-ghost use Rattle.scasp_view_words.specs.Places.{asked_of, at_of, place_of};
+ghost use Rattle.scasp_view_words.specs.Places.{at_of, place_of};
 
 use scasp_command_words::{Word, WordErr, number_between};
 use std::alloc::Global;
@@ -33,27 +33,12 @@ fn place_behind(alloc: Global, file: &str, words: &[String]) -> Result<Place, Wo
 }
 
 /// What the words behind `at` ask for.
-fn at_words(alloc: Global, words: &[String]) -> Result<Place, WordErr>
+pub(crate) fn at_words(alloc: Global, words: &[String]) -> Result<Place, WordErr>
     ensures ok { IfOk result (λ place. at_of (map string_bytes words.now) ≡ Some place) }
     ensures usage { IsErrOf result WordErr.Usage → at_of (map string_bytes words.now) ≡ None }
 {
     match words {
         [] => Err(WordErr::Usage),
         [file, behind @ ..] => place_behind(alloc, file.as_str(), behind),
-    }
-}
-
-/// What the words ask for.
-///
-/// # Errors
-///
-/// `Usage` exactly where they ask for nothing; `Memory` for want of memory.
-pub fn parse_words(alloc: Global, words: &Vec<String>) -> Result<Place, WordErr>
-    ensures ok { IfOk result (λ place. asked_of (map string_bytes words.now.items) ≡ Some place) }
-    ensures usage { IsErrOf result WordErr.Usage → asked_of (map string_bytes words.now.items) ≡ None }
-{
-    match words.as_slice() {
-        [word, behind @ ..] if word.as_str() == "at" => at_words(alloc, behind),
-        _ => Err(WordErr::Usage),
     }
 }

@@ -1,0 +1,43 @@
+-- The lines of a small program, and what is left of them without numbers.
+use Rattle.std.specs.Prelude.{◌≡◌, true, false, None, Some, [], ◌∷◌, codes, decimal}
+use Rattle.std.proofs.Common.{refl, lit<}
+use Rattle.std.proofs.lemmas.Fmt.{decimal_digit}
+use Rattle.scasp_syntax.specs.Denials.{denial_of}
+use Rattle.scasp_syntax.specs.Tm.{var, nil, cons}
+use Rattle.scasp_syntax.specs.declared.clause.Clause.{Clause}
+use Rattle.scasp_syntax.specs.declared.clause.Query.{Query}
+use Rattle.scasp_reader.specs.Bodies.Atoms.{atom_of}
+use Rattle.scasp_reader.specs.Bodies.Items.{call_of}
+use Rattle.scasp_print_program.specs.Programs.{clause_text, query_text}
+use Rattle.scasp_print_program.specs.Terms.{atom_text, lit_text}
+use Rattle.scasp_view_program.specs.Lines.{numbered_text, program_lines}
+use Rattle.scasp_view_program.specs.Meaning.{bare_text}
+
+d0 : decimal 0 ≡ 48 ∷ []
+d0 = decimal_digit 0 (lit< tt)
+
+d1 : decimal 1 ≡ 49 ∷ []
+d1 = decimal_digit 1 (lit< tt)
+
+d2 : decimal 2 ≡ 50 ∷ []
+d2 = decimal_digit 2 (lit< tt)
+
+-- the denial of -p is generated
+abbrev rule : Clause
+rule = record { head = Some (atom_of true 2 (cons (var 0) nil)); body = call_of false (atom_of false 3 (cons (var 0) nil)) ∷ []; vars = 1 }
+
+abbrev denial : Clause
+denial = denial_of (record { minus = true; name = 2; arity = 1 })
+
+abbrev query : Query
+query = record { body = call_of true (atom_of true 2 (cons (var 0) nil)) ∷ []; names = Some 4 ∷ [] }
+
+numbered : numbered_text (codes "[]" ∷ codes "[|]" ∷ codes "p" ∷ codes "q" ∷ codes "X" ∷ []) (rule ∷ denial ∷ []) (query ∷ [])
+    ≡ codes "1\t-p(V0) :- not q(V0).\n2 generated\t:- p(V0), -p(V0).\nquery 1\t?- -p(X).\n"
+unfolding clause_text query_text atom_text lit_text
+numbered = simp (d0, d1, d2) refl
+
+bare : bare_text (program_lines (codes "[]" ∷ codes "[|]" ∷ codes "p" ∷ codes "q" ∷ codes "X" ∷ []) (rule ∷ denial ∷ []) (query ∷ []))
+    ≡ codes "-p(V0) :- not q(V0).\n?- -p(X).\n"
+unfolding clause_text query_text atom_text lit_text
+bare = simp (d0, d1, d2) refl

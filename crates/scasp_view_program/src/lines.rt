@@ -1,0 +1,96 @@
+//! Clauses and queries behind their numbers.
+ghost use Rattle.std.specs.Prelude.{◌≡◌, ◌++◌, IfOk, OnOk};
+ghost use Rattle.scasp_view_program.specs.Lines as spec;
+
+use scasp_list::Memory;
+use scasp_name::Names;
+use scasp_print_program::{put_clause, put_query, written_count};
+use scasp_print_words::{put, put_number};
+use scasp_syntax::{Clause, Program, Query};
+use std::alloc::Global;
+
+/// Puts a clause at the end behind its number, where so many clauses are written, and the others are generated denials.
+fn put_numbered_clause(
+    out: &mut Vec<u8>,
+    alloc: Global,
+    names: &Names,
+    written: usize,
+    number: u64,
+    clause: &Clause,
+) -> Result<(), Memory>
+    ensures { OnOk result (out.new.items ≡ out.old.items ++ spec.line_text (spec.clause_line names.now written number clause.now)) }
+{
+    put_number(out, number)?;
+    put(
+        out,
+        if number <= written as u64 {
+            "\t"
+        } else {
+            " generated\t"
+        },
+    )?;
+    put_clause(out, alloc, names, clause)
+}
+
+/// Puts the clauses at the end, each behind its number.
+fn put_clauses(
+    out: &mut Vec<u8>,
+    alloc: Global,
+    names: &Names,
+    written: usize,
+    clauses: &[Clause],
+) -> Result<(), Memory>
+    ensures { OnOk result (out.new.items ≡ out.old.items ++ spec.text_of (spec.clause_lines names.now written 1 clauses.now)) }
+{
+    for (place, clause) in clauses.iter().enumerate() {
+        put_numbered_clause(out, alloc, names, written, place as u64 + 1, clause)?;
+    }
+    Ok(())
+}
+
+/// Puts a query at the end behind its number.
+fn put_numbered_query(
+    out: &mut Vec<u8>,
+    alloc: Global,
+    names: &Names,
+    number: u64,
+    query: &Query,
+) -> Result<(), Memory>
+    ensures { OnOk result (out.new.items ≡ out.old.items ++ spec.line_text (spec.query_line names.now number query.now)) }
+{
+    put(out, "query ")?;
+    put_number(out, number)?;
+    put(out, "\t")?;
+    put_query(out, alloc, names, query)
+}
+
+/// Puts the queries at the end, each behind its number.
+fn put_queries(
+    out: &mut Vec<u8>,
+    alloc: Global,
+    names: &Names,
+    queries: &[Query],
+) -> Result<(), Memory>
+    ensures { OnOk result (out.new.items ≡ out.old.items ++ spec.text_of (spec.query_lines names.now 1 queries.now)) }
+{
+    for (place, query) in queries.iter().enumerate() {
+        put_numbered_query(out, alloc, names, place as u64 + 1, query)?;
+    }
+    Ok(())
+}
+
+/// The text of a program with the number of each clause in front, as trees name it; a generated denial is marked as such. Behind
+/// the clauses stand the queries with their own numbers.
+///
+/// # Errors
+///
+/// Want of memory.
+pub fn print_numbered(alloc: Global, program: &Program, names: &Names) -> Result<Vec<u8>, Memory>
+    ensures { IfOk result (λ text. text.items ≡ spec.numbered_text names.now program.now.clauses program.now.queries) }
+{
+    let mut text = Vec::new(alloc);
+    let written = written_count(alloc, program)?;
+    put_clauses(&mut text, alloc, names, written, program.clauses.as_slice())?;
+    put_queries(&mut text, alloc, names, program.queries.as_slice())?;
+    Ok(text)
+}
