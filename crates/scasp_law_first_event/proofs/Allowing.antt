@@ -1,6 +1,6 @@
 -- Where an overflow is allowed, it is told.
 use Rattle.std.specs.Prelude.{◌≡◌, ◌⊎◌, ℕ, ◌≤◌, true, List}
-use Rattle.std.proofs.Common.{inl, inr, sym, subst}
+use Rattle.std.proofs.Common.{inl, inr, subst}
 use Rattle.scasp_search_rules.specs.declared.states.state.State.{State}
 use Rattle.scasp_search_rules.specs.Successors.Machine.{Machine, Found, overflowed}
 use Rattle.scasp_search_rules.specs.Successors.Problems.{Problem}

@@ -1,5 +1,5 @@
 -- A step that costs nothing leaves as many cases to be closed as there were, but for the close of one.
-use Rattle.std.specs.Prelude.{◌≡◌, ◌≢◌, ℕ, zero, suc, Bool, true, false, ◌&&◌, not, nat_le, min, max, if◌then◌else◌, List, [], ◌∷◌, ◌++◌, length, map}
+use Rattle.std.specs.Prelude.{◌≡◌, ◌≢◌, ℕ, suc, Bool, true, false, ◌&&◌, not, nat_le, min, max, if◌then◌else◌, List, [], ◌∷◌, ◌++◌, length, map}
 use Rattle.std.specs.List.{flat_map, fold}
 use Rattle.std.proofs.Common.{refl, ◌∙◌}
 use Rattle.scasp_num.specs.Number.{Number}
@@ -26,9 +26,9 @@ use Rattle.scasp_unify.specs.Negations.{new_parts}
 use Rattle.scasp_unify.specs.Parts.{occurs_among}
 use Rattle.scasp_unify.specs.SimpleForm.{differ, term_with}
 use Rattle.scasp_search_rules.specs.Successors.Assumptions.{performed, as_read, status, assume, assume_all}
-use Rattle.scasp_search_rules.specs.Successors.Calls.{marked, moved, left, at_number, finished, leave_literal, ancestors}
-use Rattle.scasp_search_rules.specs.Successors.Differences.{when_apart, when_same, alternatives, at_part, part_of_variables, stands_first, differ_variables, differ_number, differ_value, differ_shape, same_shape, differ_pair, same_value, is_matched, take_up, differ_first, differ_pairs}
-use Rattle.scasp_search_rules.specs.Successors.Equations.{replaced_if, bound_if, mixed, two_variables, is_inside, becomes_number, variable_number, becomes_shape, variable_app, equated, equate_pairs, equations, equations_of}
+use Rattle.scasp_search_rules.specs.Successors.Calls.{marked, moved, left, at_number, finished, ancestors}
+use Rattle.scasp_search_rules.specs.Successors.Differences.{when_apart, alternatives, at_part, part_of_variables, stands_first, differ_variables, differ_number, differ_shape, differ_pair, is_matched, take_up, differ_pairs}
+use Rattle.scasp_search_rules.specs.Successors.Equations.{replaced_if, bound_if, mixed, two_variables, is_inside, becomes_number, variable_number, becomes_shape, variable_app, equated, equate_pairs, equations_of}
 use Rattle.scasp_search_rules.specs.Successors.Falls.{EachState}
 use Rattle.scasp_search_rules.specs.Successors.Items.{test_item, number_tests, with_line}
 use Rattle.scasp_search_rules.specs.Successors.Pairs.{pairs, pairs_of, from_first}

@@ -1,21 +1,17 @@
 -- Each way of steps that cost nothing comes to an end, or to a state of more variables and bindings than a number.
 use Rattle.std.specs.Prelude.{◌≡◌, ◌⊎◌, ◌≢◌, ℕ, ◌+◌, ◌<◌, ◌≤◌, zero, suc, Bool, true, false, List, [], ◌∷◌, ⊤}
 use Rattle.std.specs.List.{Contains}
-use Rattle.std.proofs.Common.{inl, inr, refl, arith, sym, subst, ap, ◌∙◌}
-use Rattle.scasp_cert.specs.Certificate.{Certificate}
+use Rattle.std.proofs.Common.{inl, inr, refl, arith, subst, ap, ◌∙◌}
 use Rattle.scasp_list.specs.Each.{Each}
 use Rattle.scasp_list.proofs.MemberLemmas.{Contains-none, Contains-cases}
 use Rattle.scasp_search_rules.specs.declared.states.state.State.{State}
 use Rattle.scasp_search_rules.specs.declared.states.tasks.Task.{Task}
 use Rattle.scasp_search_rules.specs.declared.states.tasks.Task.TheVariants as task
 use Rattle.scasp_search_rules.specs.Successors.Falls.{EachState, Falls, makes_more, weighs_less, size, weight, weight_of}
-use Rattle.scasp_search_rules.specs.Successors.Machine.{Machine}
 use Rattle.scasp_search_rules.specs.Successors.Problems.{Problem}
 use Rattle.scasp_search_rules.specs.Successors.Search.{costs, done, pays_for, search_for, step_at}
 use Rattle.scasp_search_rules.proofs.SuccessorsLemmas.FallLemmas.{free_step_falls, close_keeps_work}
 use Rattle.scasp_syntax.specs.declared.clause.Query.{Query}
-use Rattle.scasp_syntax.specs.declared.con.Con.{Con}
-use Rattle.scasp_syntax.specs.declared.program.Program.{Program}
 use Rattle.scasp_law_first_event.specs.Events.{HasEvent, ComesTo, IsBeyond}
 use Rattle.scasp_law_first_event.proofs.Closing.{closes, free-closes}
 use Rattle.scasp_law_first_event.proofs.Settling.{Settles, met, costs as pays_there, goes_on, finds}

@@ -6,7 +6,7 @@ use Rattle.std.proofs.lemmas.Bool.Decides.{nat_tests}
 use Rattle.scasp_list.specs.Each.{Each}
 use Rattle.scasp_list.proofs.EachLemmas.{Each-append}
 use Rattle.scasp_list.proofs.MemberLemmas.{Contains-here, Contains-there}
-use Rattle.scasp_search_rules.specs.Successors.Machine.{Machine, Found, ended, spent, outcome_of, behind, first_event, pick, cost}
+use Rattle.scasp_search_rules.specs.Successors.Machine.{Machine, Found, ended, spent, outcome_of, behind, first_event, cost}
 use Rattle.scasp_search_walk.specs.Walks.{Reached}
 use Rattle.scasp_search_walk.proofs.ReachedLemmas.{reached-none, reached-step, reached-both}
 use Rattle.scasp_law_first_event.specs.Events.{HasEvent, ComesTo}

@@ -1,5 +1,5 @@
 -- Searches with their first events, computed.
-use Rattle.std.specs.Prelude.{◌≡◌, ℕ, false, Option, None, Some, List, [], ◌∷◌}
+use Rattle.std.specs.Prelude.{◌≡◌, false, Option, None, Some, List, [], ◌∷◌}
 use Rattle.std.proofs.Common.{refl}
 use Rattle.scasp_checker_rules.specs.ExampleWords.{program}
 use Rattle.scasp_cert.specs.Certificate.{Certificate}

@@ -1,21 +1,20 @@
 -- The sample meets what is given also without the range of the numbers, and as a valuation of all variables.
-use Rattle.std.proofs.Common.{◌≡◌, ◌∙◌, ℕ, zero, suc, Bool, true, false, nat_lt, IsTrue, Option, Some, None, List, [], ◌∷◌, refl, sym, arith}
+use Rattle.std.proofs.Common.{◌≡◌, ◌∙◌, ℕ, zero, suc, Bool, true, nat_lt, Option, Some, None, List, [], ◌∷◌, refl, sym, arith}
 use Rattle.std.specs.Prelude.{length}
 use Rattle.std.specs.List.{list_all}
 use Rattle.std.proofs.lemmas.Bool.{and_parts, and_from, ltb-true}
 use Rattle.scasp_num.specs.Linear.{Linear}
 use Rattle.scasp_num.specs.Number.{Number, zero_number}
 use Rattle.scasp_num.proofs.Numbers.{lt_ltb}
-use Rattle.scasp_syntax.specs.Constraints.{Meets, holds}
+use Rattle.scasp_syntax.specs.Constraints.{holds}
 use Rattle.scasp_syntax.specs.Tm.{Tm, Tms, num, nil, cons, items}
 use Rattle.scasp_syntax.specs.RowTruth.{row_holds}
-use Rattle.scasp_syntax.specs.Values.{Sub, Valuation, giving, is_ground, are_ground}
+use Rattle.scasp_syntax.specs.Values.{Sub, giving, is_ground, are_ground}
 use Rattle.scasp_syntax.specs.declared.con.Con.{Con}
 use Rattle.scasp_syntax.specs.declared.con.Con.TheVariants as con
 use Rattle.scasp_syntax.specs.declared.program.Program.{Program}
 use Rattle.scasp_cert.specs.Certificate.{Certificate}
 use Rattle.scasp_lines.specs.Known.{is_con_known}
-use Rattle.scasp_lines.specs.Lines.{free_of}
 use Rattle.scasp_lines.proofs.KnownLemmas.{agree-con}
 use Rattle.scasp_checker_rules.specs.Accepted.{AcceptsWhere}
 use Rattle.scasp_checker_rules.specs.BoundedTruth.{bounded_sum, compares_so, holds_bounded}
