@@ -1,15 +1,21 @@
 //! The model above an answer.
 ghost use Rattle.std.specs.Prelude.{IsTrue, IfOk};
+ghost use Rattle.std.specs.Option.{option_or};
 ghost use Rattle.scasp_cert.specs.Certificate.{certificate_of};
 ghost use Rattle.scasp_extend.specs.Extension.{obstacle};
 ghost use Rattle.scasp_extend_instances.specs.Values.{valued};
 ghost use Rattle.scasp_extend_parts.specs.Causes.{Explains};
+ghost use Rattle.scasp_extend_parts.specs.Obstacles.{given_unmet, grounding_obstacle, lines_obstacle};
 ghost use Rattle.scasp_law_extension.specs.Above.{IsModelAbove, model_above};
+ghost use Rattle.scasp_lines.specs.Lines.{lines};
 ghost use Rattle.scasp_model.specs.Atoms.{SameAtoms, are_distinct};
 ghost use Rattle.scasp_syntax.specs.Tm.{items};
 
+use crate::models::model_above;
+use crate::worth::accept_right;
 use scasp_cert::Cert;
-use scasp_extend_parts::ExtendErr;
+use scasp_extend_parts::{ExtendErr, accept_values};
+use scasp_law_promise::see_rows;
 use scasp_model::AtomList;
 use scasp_syntax::{Program, Terms};
 use scasp_tables::Domain;
@@ -47,5 +53,24 @@ pub fn extend(
     ensures distinct { IfOk result (λ atoms. IsTrue (are_distinct atoms)) }
     ensures above { IfOk result (λ atoms. IsModelAbove program.now (certificate_of cert.now) (valued (items theta.now)) (items domain.now) atoms) }
 {
-    Err(ExtendErr::Memory)
+    see_rows(cert);
+    let _members = domain.terms();
+    accept_right(alloc, program, cert)?;
+    extend_right(alloc, program, cert, theta, domain)
+}
+
+/// The same of a certificate that is right.
+fn extend_right(
+    alloc: Global,
+    program: &Program,
+    cert: &Cert,
+    theta: &Terms,
+    domain: &Domain,
+) -> Result<AtomList, ExtendErr>
+    ensures causes { Explains result (option_or (given_unmet (certificate_of cert.now) theta.now) (option_or (lines_obstacle (valued (items theta.now)) (items domain.now) (lines program.now (certificate_of cert.now))) (grounding_obstacle program.now (items domain.now)))) }
+    ensures atoms { IfOk result (λ atoms. SameAtoms atoms (model_above program.now (certificate_of cert.now) (valued (items theta.now)) (items domain.now))) }
+    ensures distinct { IfOk result (λ atoms. IsTrue (are_distinct atoms)) }
+{
+    accept_values(alloc, cert, theta)?;
+    model_above(alloc, program, cert, theta, domain)
 }

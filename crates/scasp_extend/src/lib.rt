@@ -2,6 +2,8 @@
 #![tactic(auto)]
 
 mod extending;
+mod models;
+mod worth;
 
 pub use extending::extend;
 pub use scasp_extend_parts::ExtendErr;
