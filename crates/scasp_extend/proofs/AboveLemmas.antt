@@ -2,15 +2,17 @@
 use Rattle.std.proofs.Common.{◌≡◌, ◌∙◌, ◌∷◌, ◌++◌, ℕ, zero, suc, ◌<◌, ◌^◌, Bool, true, false, ◌&&◌, nat_eq, nat_lt, cond, List, [], Option, None, Some, length, refl, ap, sym, arith}
 use Rattle.std.specs.List.{flat_map, list_all}
 use Rattle.std.specs.Option.{option_or}
+use Rattle.std.specs.Prelude.{Result, Ok, Err, IfOk}
 use Rattle.std.proofs.lemmas.Bool.{and_from, and_parts, ltb-true}
-use Rattle.std.proofs.lemmas.Bool.Decides.{Decides-eqb, Decides-ltb}
+use Rattle.std.proofs.lemmas.Bool.Decides.{Decides-eqb}
 use Rattle.std.proofs.lemmas.List.Folds.{list_all-append}
 use Rattle.scasp_cert.specs.Certificate.{Certificate}
 use Rattle.scasp_checker_rules.specs.Accepted.{Accepts}
-use Rattle.scasp_checker_rules.specs.Faults.{faults, is_free}
+use Rattle.scasp_checker_rules.specs.Faults.{is_free}
 use Rattle.scasp_checker_rules.proofs.AcceptedLemmas.{accepted-no_fault}
 use Rattle.scasp_extend_instances.specs.Values.{valued}
 use Rattle.scasp_extend_instances.specs.Within.{overflows, ranging}
+use Rattle.scasp_extend_parts.specs.Causes.{Explains}
 use Rattle.scasp_extend_parts.specs.Obstacles.{given_unmet, grounding_obstacle, line_obstacle, lines_obstacle, overflow_if, too_large_if, unless_closed}
 use Rattle.scasp_extend_parts.specs.declared.errors.ExtendErr.{ExtendErr}
 use Rattle.scasp_extend_parts.specs.declared.errors.ExtendErr.TheVariants.{NotClosed}
@@ -28,11 +30,10 @@ use Rattle.scasp_model.specs.Atoms.{SameAtoms}
 use Rattle.scasp_model.specs.Grounding.{is_domain}
 use Rattle.scasp_syntax.specs.Constraints.{Meets, holds}
 use Rattle.scasp_syntax.specs.Tm.{Tm, Tms, nil, cons, items}
-use Rattle.scasp_syntax.specs.Values.{Sub, Valuation, are_ground, giving, is_ground}
+use Rattle.scasp_syntax.specs.Values.{Sub, are_ground, giving, is_ground}
 use Rattle.scasp_syntax.specs.declared.atom.Atom.{Atom}
-use Rattle.scasp_syntax.specs.declared.con.Con.{Con}
 use Rattle.scasp_syntax.specs.declared.program.Program.{Program}
-use Rattle.scasp_extend.specs.Extension.{not_right, obstacle}
+use Rattle.scasp_extend.specs.Extension.{not_right}
 use Rattle.scasp_extend.proofs.ObstacleLemmas.{Serve, both-none, none-given, right-parts}
 
 -- ---- values
@@ -93,17 +94,27 @@ lines-closed v d (l ∷ ls) h =
 
 -- ---- the whole
 
-pub above-extended : (p : Program) (c : Certificate) (ts : Tms) (d : List Tm) (atoms : List Atom) → has_normal_rows c ≡ true → is_domain d ≡ true
-    → obstacle p c ts d ≡ None → SameAtoms atoms (model_above p c (valued (items ts)) d) → IsModelAbove p c (valued (items ts)) d atoms
-above-extended p c ts d atoms normal domain none same =
+-- what can stand in the way of a certificate that is right
+abbrev later : Program → Certificate → Tms → List Tm → Option ExtendErr
+later p c ts d = option_or (given_unmet c ts) (option_or (lines_obstacle (valued (items ts)) d (lines p c)) (grounding_obstacle p d))
+
+-- The certificate is right, and nothing later stands in the way.
+above-extended : (p : Program) (c : Certificate) (ts : Tms) (d : List Tm) (atoms : List Atom) → has_normal_rows c ≡ true → is_domain d ≡ true
+    → not_right p c ≡ None → later p c ts d ≡ None → SameAtoms atoms (model_above p c (valued (items ts)) d) → IsModelAbove p c (valued (items ts)) d atoms
+above-extended p c ts d atoms normal domain right none same =
     let v : Sub = valued (items ts) in
-    let later = option_or (lines_obstacle v d (lines p c)) (grounding_obstacle p d) in
-    let first = both-none (not_right p c) (option_or (given_unmet c ts) later) none in
-    let second = both-none (given_unmet c ts) later first.1 in
-    let third = both-none (lines_obstacle v d (lines p c)) (grounding_obstacle p d) second.1 in
-    let right = right-parts p c first.0 in
-    let serve = none-given c ts second.0 in
-    let accepted : Accepts p c = (accepted-no_fault true p c).1 right.0 in
+    let rest : Option ExtendErr = option_or (lines_obstacle v d (lines p c)) (grounding_obstacle p d) in
+    let values = both-none (given_unmet c ts) rest none in
+    let walked = both-none (lines_obstacle v d (lines p c)) (grounding_obstacle p d) values.1 in
+    let parts = right-parts p c right in
+    let serve : Serve c ts = none-given c ts values.0 in
+    let accepted : Accepts p c = (accepted-no_fault true p c).1 parts.0 in
     same-above p c v d atoms (model_above p c v d) same
-    (levelled-above true p c normal accepted right.1 (record { of = v; ground = valued-ground ts serve.ground })
-    (valued-meets c ts serve accepted.given_known) d domain (lines-closed v d (lines p c) third.0))
+    (levelled-above true p c normal accepted parts.1 (record { of = v; ground = valued-ground ts serve.ground })
+    (valued-meets c ts serve accepted.given_known) d domain (lines-closed v d (lines p c) walked.0))
+
+pub above-told : (p : Program) (c : Certificate) (ts : Tms) (d : List Tm) (r : Result (List Atom) ExtendErr) → has_normal_rows c ≡ true → is_domain d ≡ true
+    → not_right p c ≡ None → Explains r (later p c ts d) → IfOk r (λ atoms. SameAtoms atoms (model_above p c (valued (items ts)) d))
+    → IfOk r (λ atoms. IsModelAbove p c (valued (items ts)) d atoms)
+above-told p c ts d (Ok atoms) normal domain right none same = above-extended p c ts d atoms normal domain right none same
+above-told p c ts d (Err e) normal domain right none same = same

@@ -1,8 +1,10 @@
 -- What is left by sets of atoms asks only which atoms are there.
 use Rattle.std.proofs.Common.{◌≡◌, ◌∙◌, ◌∷◌, ◌++◌, ℕ, Bool, ◌||◌, not, cond, List, [], Option, None, Some, refl, ap}
 use Rattle.std.specs.List.{filter, list_any}
+use Rattle.std.specs.Prelude.{Result, Ok, Err, IfOk}
 use Rattle.scasp_extend_levels.specs.Sets.{with_atoms}
 use Rattle.scasp_extend_levels.proofs.SetLemmas.{append-same, with_atoms-same}
+use Rattle.scasp_extend_parts.specs.declared.errors.ExtendErr.{ExtendErr}
 use Rattle.scasp_model.specs.Atoms.{among, SameAtoms}
 use Rattle.scasp_model.specs.Levelled.{levelled_model}
 use Rattle.scasp_model.specs.Residual.{is_known, is_known_false, is_known_true, residual, residual_of}
@@ -45,7 +47,7 @@ module _ (t u f g : List Atom) (trues : SameAtoms t u) (falses : SameAtoms f g) 
   residual-same (c ∷ cs) = ap (λ ds. ds ++ residual t f cs) (clause-same c) ∙ ap (λ ds. residual_of u g c ++ ds) (residual-same cs)
 
 -- by the sets of the atoms that are true and false, the model is that by the lists
-pub model-by_sets : (level : Atom → ℕ) (plus : Atom → Bool) (cs : List GroundClause) (atoms set other trues falses : List Atom)
+model-by_sets : (level : Atom → ℕ) (plus : Atom → Bool) (cs : List GroundClause) (atoms set other trues falses : List Atom)
     → set ≡ with_atoms [] trues → other ≡ with_atoms [] falses → SameAtoms atoms (set ++ levelled_model level plus (residual set other cs))
     → SameAtoms atoms (trues ++ levelled_model level plus (residual trues falses cs))
 model-by_sets level plus cs atoms set other trues falses e h same a =
@@ -54,3 +56,11 @@ model-by_sets level plus cs atoms set other trues falses e h same a =
     same a
     ∙ append-same set (levelled_model level plus (residual set other cs)) trues (levelled_model level plus (residual trues falses cs)) there
     (λ b. ap (λ rs. among (levelled_model level plus rs) b) (residual-same set trues other falses there others cs)) a
+
+-- the same of a model that is told
+pub told-by_sets : (level : Atom → ℕ) (plus : Atom → Bool) (cs : List GroundClause) (r : Result (List Atom) ExtendErr) (set other trues falses : List Atom)
+    → set ≡ with_atoms [] trues → other ≡ with_atoms [] falses
+    → IfOk r (λ atoms. SameAtoms atoms (set ++ levelled_model level plus (residual set other cs)))
+    → IfOk r (λ atoms. SameAtoms atoms (trues ++ levelled_model level plus (residual trues falses cs)))
+told-by_sets level plus cs (Ok atoms) set other trues falses e h same = model-by_sets level plus cs atoms set other trues falses e h same
+told-by_sets level plus cs (Err error) set other trues falses e h same = same

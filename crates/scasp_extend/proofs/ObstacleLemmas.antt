@@ -1,22 +1,15 @@
--- What a certificate is worth, and what follows where nothing stands in the way.
-use Rattle.std.proofs.Common.{◌≡◌, ◌∙◌, ℕ, Bool, true, false, ◌&&◌, nat_eq, cond, List, [], ◌∷◌, Option, None, Some, length, refl, ap}
+-- What follows where nothing stands in the way.
+use Rattle.std.proofs.Common.{◌≡◌, ℕ, Bool, true, false, ◌&&◌, nat_eq, cond, List, [], ◌∷◌, Option, None, Some, length, refl}
 use Rattle.std.specs.Option.{option_or}
-use Rattle.std.specs.Prelude.{Result, Ok, Err}
 use Rattle.std.proofs.lemmas.Bool.{and_parts}
 use Rattle.scasp_cert.specs.Certificate.{Certificate}
-use Rattle.scasp_checker_answer.specs.Judged.{IsFirst}
-use Rattle.scasp_checker_answer.specs.declared.judged.CheckErr.{CheckErr}
-use Rattle.scasp_checker_answer.specs.declared.judged.CheckErr.TheVariants as checking
 use Rattle.scasp_checker_rules.specs.Faults.{faults}
 use Rattle.scasp_checker_rules.specs.Refusals.{first}
 use Rattle.scasp_checker_rules.specs.declared.refusal.Refusal.{Refusal}
-use Rattle.scasp_extend_parts.specs.Causes.{IsCause, of_check}
 use Rattle.scasp_extend_parts.specs.Obstacles.{given_unmet, unless_met}
 use Rattle.scasp_extend_parts.specs.declared.errors.ExtendErr.{ExtendErr}
-use Rattle.scasp_extend_parts.specs.declared.errors.ExtendErr.TheVariants.{Given, Joins}
-use Rattle.scasp_graph.specs.Judged.{judged}
+use Rattle.scasp_extend_parts.specs.declared.errors.ExtendErr.TheVariants.{Given}
 use Rattle.scasp_graph.specs.Map.{map_faults}
-use Rattle.scasp_graph.specs.declared.map.MapFault.{MapFault}
 use Rattle.scasp_ground.specs.Bounded.{all_tested}
 use Rattle.scasp_lines.specs.Lines.{free_of}
 use Rattle.scasp_sound.specs.MapLevels.{covered}
@@ -24,26 +17,6 @@ use Rattle.scasp_syntax.specs.Tm.{Tms, items}
 use Rattle.scasp_syntax.specs.Values.{are_ground, giving}
 use Rattle.scasp_syntax.specs.declared.program.Program.{Program}
 use Rattle.scasp_extend.specs.Extension.{joins_by, not_right, refused_by}
-
--- ---- what the checker tells
-
-pub none-right : (p : Program) (c : Certificate) → faults p c ≡ [] → map_faults p (covered c) c.map ≡ [] → not_right p c ≡ None
-none-right p c f m = ap (λ fs. option_or (refused_by (first fs)) (joins_by (map_faults p (covered c) c.map))) f ∙ ap joins_by m
-
-first-joins : (ns : List ℕ) (fault : MapFault) → judged ns ≡ Err fault → joins_by ns ≡ Some (Joins fault)
-first-joins [] fault h = cc
-first-joins (n ∷ ns) fault h = let same : record { rule = n } ≡ fault = cc in ap (λ (f : MapFault). Some (Joins f)) same
-
-pub joins-right : (p : Program) (c : Certificate) (fault : MapFault) → faults p c ≡ [] → judged (map_faults p (covered c) c.map) ≡ Err fault
-    → not_right p c ≡ Some (Joins fault)
-joins-right p c fault f m =
-    ap (λ fs. option_or (refused_by (first fs)) (joins_by (map_faults p (covered c) c.map))) f ∙ first-joins (map_faults p (covered c) c.map) fault m
-
-pub refused-right : (p : Program) (c : Certificate) (e : CheckErr) → IsFirst e (faults p c) → IsCause (of_check e) (not_right p c)
-refused-right p c (checking.Refused r) h = ap (λ o. option_or (refused_by o) (joins_by (map_faults p (covered c) c.map))) h
-refused-right p c checking.Memory h = h
-
--- ---- nothing stands in the way
 
 pub both-none : (o rest : Option ExtendErr) → option_or o rest ≡ None → (o ≡ None) × (rest ≡ None)
 both-none None rest h = (refl, h)
