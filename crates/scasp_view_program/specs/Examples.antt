@@ -10,7 +10,7 @@ use Rattle.scasp_reader.specs.Bodies.Atoms.{atom_of}
 use Rattle.scasp_reader.specs.Bodies.Items.{call_of}
 use Rattle.scasp_print_program.specs.Programs.{clause_text, query_text}
 use Rattle.scasp_print_program.specs.Terms.{atom_text, lit_text}
-use Rattle.scasp_view_program.specs.Lines.{numbered_text, program_lines}
+use Rattle.scasp_view_program.specs.Lines.{numbered_text}
 use Rattle.scasp_view_program.specs.Meaning.{bare_text}
 
 d0 : decimal 0 ≡ 48 ∷ []
@@ -37,7 +37,7 @@ numbered : numbered_text (codes "[]" ∷ codes "[|]" ∷ codes "p" ∷ codes "q"
 unfolding clause_text query_text atom_text lit_text
 numbered = simp (d0, d1, d2) refl
 
-bare : bare_text (program_lines (codes "[]" ∷ codes "[|]" ∷ codes "p" ∷ codes "q" ∷ codes "X" ∷ []) (rule ∷ denial ∷ []) (query ∷ []))
+bare : bare_text (codes "[]" ∷ codes "[|]" ∷ codes "p" ∷ codes "q" ∷ codes "X" ∷ []) (rule ∷ denial ∷ []) (query ∷ [])
     ≡ codes "-p(V0) :- not q(V0).\n?- -p(X).\n"
 unfolding clause_text query_text atom_text lit_text
-bare = simp (d0, d1, d2) refl
+bare = simp (d0) refl

@@ -1,19 +1,21 @@
 -- The lines of a program with the number of each clause and of each query in front.
-use Rattle.std.specs.Prelude.{ℕ, ◌+◌, nat_le, if◌then◌else◌, List, [], ◌∷◌, ◌++◌, length, flat_map, codes, decimal}
+use Rattle.std.specs.Prelude.{ℕ, ◌+◌, Bool, nat_lt, if◌then◌else◌, List, [], ◌∷◌, ◌++◌, length, flat_map, codes, decimal}
 use Rattle.scasp_syntax.specs.declared.clause.Clause.{Clause}
 use Rattle.scasp_syntax.specs.declared.clause.Query.{Query}
 use Rattle.scasp_print_program.specs.Programs.{clause_text, query_text, written}
 
--- a number, and the text of what has it
+-- A number, and the text of what has it. A clause is written in the program, or is a generated denial.
 pub data Line : Type 0 where
-  clause : ℕ → List ℕ → Line
-  generated : ℕ → List ℕ → Line
+  clause : ℕ → Bool → List ℕ → Line
   query : ℕ → List ℕ → Line
+
+-- what stands between the number of a clause and the clause
+abbrev pub mark : Bool → List ℕ
+mark is_generated = if is_generated then codes " generated\t" else codes "\t"
 
 -- `7`, or `12 generated`, or `query 1`, and a tab before the text
 abbrev pub line_text : Line → List ℕ
-line_text (clause n text) = decimal n ++ codes "\t" ++ text
-line_text (generated n text) = decimal n ++ codes " generated\t" ++ text
+line_text (clause n is_generated text) = decimal n ++ mark is_generated ++ text
 line_text (query n text) = codes "query " ++ decimal n ++ codes "\t" ++ text
 
 abbrev pub text_of : List Line → List ℕ
@@ -21,9 +23,9 @@ text_of lines = flat_map line_text lines
 
 -- ---- which lines a program has
 
--- Clause n. So many are written in the program, and the others are its generated denials.
+-- clause n, where so many are written
 abbrev pub clause_line : List (List ℕ) → ℕ → ℕ → Clause → Line
-clause_line names count n c = if nat_le n count then clause n (clause_text names c) else generated n (clause_text names c)
+clause_line names count n c = clause n (nat_lt count n) (clause_text names c)
 
 -- the clauses, of which the first is clause n
 abbrev pub clause_lines : List (List ℕ) → ℕ → ℕ → List Clause → List Line
@@ -38,9 +40,10 @@ abbrev pub query_lines : List (List ℕ) → ℕ → List Query → List Line
 query_lines names n [] = []
 query_lines names n (q ∷ qs) = query_line names n q ∷ query_lines names (n + 1) qs
 
--- all clauses, and then all queries, both counted from 1
-abbrev pub program_lines : List (List ℕ) → List Clause → List Query → List Line
-program_lines names clauses queries = clause_lines names (length (written clauses queries)) 1 clauses ++ query_lines names 1 queries
+-- all clauses of a program, from 1
+abbrev pub numbered_clauses : List (List ℕ) → List Clause → List Query → List Line
+numbered_clauses names clauses queries = clause_lines names (length (written clauses queries)) 1 clauses
 
+-- and behind them its queries, from 1
 abbrev pub numbered_text : List (List ℕ) → List Clause → List Query → List ℕ
-numbered_text names clauses queries = text_of (program_lines names clauses queries)
+numbered_text names clauses queries = text_of (numbered_clauses names clauses queries) ++ text_of (query_lines names 1 queries)

@@ -1,5 +1,6 @@
 //! Clauses and queries behind their numbers.
-ghost use Rattle.std.specs.Prelude.{◌≡◌, ◌++◌, IfOk, OnOk};
+ghost use Rattle.std.specs.Prelude.{◌≡◌, ◌++◌, length, IfOk, OnOk};
+ghost use Rattle.scasp_print_program.specs.Programs.{written};
 ghost use Rattle.scasp_view_program.specs.Lines as spec;
 
 use scasp_list::Memory;
@@ -9,26 +10,26 @@ use scasp_print_words::{put, put_number};
 use scasp_syntax::{Clause, Program, Query};
 use std::alloc::Global;
 
+/// What stands between the number of a clause and the clause.
+fn mark(is_generated: bool) -> &'static str
+    ensures { result.now ≡ spec.mark is_generated }
+{
+    if is_generated { " generated\t" } else { "\t" }
+}
+
 /// Puts a clause at the end behind its number, where so many clauses are written, and the others are generated denials.
 fn put_numbered_clause(
     out: &mut Vec<u8>,
     alloc: Global,
     names: &Names,
-    written: usize,
+    written: u64,
     number: u64,
     clause: &Clause,
 ) -> Result<(), Memory>
     ensures { OnOk result (out.new.items ≡ out.old.items ++ spec.line_text (spec.clause_line names.now written number clause.now)) }
 {
     put_number(out, number)?;
-    put(
-        out,
-        if number <= written as u64 {
-            "\t"
-        } else {
-            " generated\t"
-        },
-    )?;
+    put(out, mark(written < number))?;
     put_clause(out, alloc, names, clause)
 }
 
@@ -37,7 +38,7 @@ fn put_clauses(
     out: &mut Vec<u8>,
     alloc: Global,
     names: &Names,
-    written: usize,
+    written: u64,
     clauses: &[Clause],
 ) -> Result<(), Memory>
     ensures { OnOk result (out.new.items ≡ out.old.items ++ spec.text_of (spec.clause_lines names.now written 1 clauses.now)) }
@@ -79,6 +80,13 @@ fn put_queries(
     Ok(())
 }
 
+/// How many clauses are written, and no generated denials.
+fn count_written(alloc: Global, program: &Program) -> Result<usize, Memory>
+    ensures { IfOk result (λ n. n ≡ length (written program.now.clauses program.now.queries)) }
+{
+    written_count(alloc, program)
+}
+
 /// The text of a program with the number of each clause in front, as trees name it; a generated denial is marked as such. Behind
 /// the clauses stand the queries with their own numbers.
 ///
@@ -88,8 +96,8 @@ fn put_queries(
 pub fn print_numbered(alloc: Global, program: &Program, names: &Names) -> Result<Vec<u8>, Memory>
     ensures { IfOk result (λ text. text.items ≡ spec.numbered_text names.now program.now.clauses program.now.queries) }
 {
+    let written = count_written(alloc, program)? as u64;
     let mut text = Vec::new(alloc);
-    let written = written_count(alloc, program)?;
     put_clauses(&mut text, alloc, names, written, program.clauses.as_slice())?;
     put_queries(&mut text, alloc, names, program.queries.as_slice())?;
     Ok(text)
