@@ -1,6 +1,6 @@
 -- Searches with their first events, computed.
-use Rattle.std.specs.Prelude.{◌≡◌, false, Option, None, Some, List, [], ◌∷◌}
-use Rattle.std.proofs.Common.{refl}
+use Rattle.std.specs.Prelude.{◌≡◌, true, false, Option, None, Some, List, [], ◌∷◌}
+use Rattle.std.proofs.Common.{inr, refl}
 use Rattle.scasp_checker_rules.specs.ExampleWords.{program}
 use Rattle.scasp_cert.specs.Certificate.{Certificate}
 use Rattle.scasp_lines.specs.Samples.{atom, one, is_true, rule}
@@ -16,7 +16,7 @@ use Rattle.scasp_syntax.specs.declared.clause.Item.TheVariants.{Call}
 use Rattle.scasp_syntax.specs.declared.clause.Query.{Query}
 use Rattle.scasp_syntax.specs.declared.program.Program.{Program}
 use Rattle.scasp_unify.specs.Unification.{unifier}
-use Rattle.scasp_law_first_event.specs.Events.{HasEvent}
+use Rattle.scasp_law_first_event.specs.Events.{HasEvent, TellsOverflow}
 
 -- ---- p(X) :- p(f(X)). ?- p(X). It has no answer and no end.
 
@@ -55,3 +55,20 @@ is_spent = refl
 later : first_event (search_for plain ask_p) 5 2 states 0 false ≡ None
 unfolding first_event is_met unifier
 later = refl
+
+-- no list that it asks overflows
+is_quiet : found.may ≡ false
+unfolding first_event is_met unifier
+is_quiet = refl
+
+-- ---- the same, where each list that is asked overflows
+
+abbrev flagged : Problem
+flagged = record plain { overflows = λ cs. true }
+
+abbrev flagged_found : Found State Certificate
+flagged_found = found_or_end (first_event (search_for flagged ask_p) 5 100 states 0 false)
+
+tells : TellsOverflow (search_for flagged ask_p) 5 states 0
+unfolding first_event is_met unifier
+tells = (flagged_found, (100, refl), inr refl)
