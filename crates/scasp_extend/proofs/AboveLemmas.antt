@@ -1,6 +1,6 @@
 -- Where nothing stands in the way, the model above what a certificate says is a stable model.
-use Rattle.std.proofs.Common.{◌≡◌, ◌∙◌, ◌∷◌, ◌++◌, ℕ, zero, suc, ◌<◌, ◌^◌, Bool, true, false, ◌&&◌, nat_eq, nat_lt, cond, List, [], Option, None, Some, length, refl, ap, sym, arith}
-use Rattle.std.specs.List.{flat_map, list_all}
+use Rattle.std.proofs.Common.{◌≡◌, ◌∙◌, ◌∷◌, ℕ, zero, suc, ◌<◌, ◌^◌, Bool, true, false, nat_lt, cond, List, [], Option, None, Some, length, refl, ap, sym, arith}
+use Rattle.std.specs.List.{list_all}
 use Rattle.std.specs.Option.{option_or}
 use Rattle.std.specs.Prelude.{Result, Ok, Err, IfOk}
 use Rattle.std.proofs.lemmas.Bool.{and_from, and_parts, ltb-true}
@@ -16,7 +16,6 @@ use Rattle.scasp_extend_parts.specs.Causes.{Explains}
 use Rattle.scasp_extend_parts.specs.Obstacles.{given_unmet, grounding_obstacle, line_obstacle, lines_obstacle, overflow_if, too_large_if, unless_closed}
 use Rattle.scasp_extend_parts.specs.declared.errors.ExtendErr.{ExtendErr}
 use Rattle.scasp_extend_parts.specs.declared.errors.ExtendErr.TheVariants.{NotClosed}
-use Rattle.scasp_ground.specs.Bounded.{all_tested}
 use Rattle.scasp_ground.proofs.TestLemmas.{all-hold}
 use Rattle.scasp_law_extension.specs.Above.{IsModelAbove, model_above}
 use Rattle.scasp_law_extension.proofs.AboveLemmas.{levelled-above, same-above}
