@@ -2,10 +2,9 @@
 ghost use Rattle.std.specs.Prelude.{◌≡◌, ◌≤◌, ℕ, List, Ok, IfOk, IfErr, map};
 ghost use Rattle.scasp_name.specs.Texts.{list_names};
 ghost use Rattle.scasp_reader.specs.Programs.Programs.{program_in, reading_of};
-ghost use Rattle.scasp_answers.specs.Files.Texts.{with_names};
 ghost use Rattle.scasp_answers.specs.Files.View.{entry_of};
 ghost use Rattle.scasp_command_inputs.specs.Halts.{IfLine};
-ghost use Rattle.scasp_command_inputs.specs.Inputs.{answers_in, outside, AddsAnswers, IsNoAnswers, IsNoProgram, IsNoProgramBehind, IsProgram, IsProgramBehind, RefusesAnswers, RefusesProgram, RefusesProgramBehind};
+ghost use Rattle.scasp_command_inputs.specs.Inputs.{answers_in, outside, IsAnswers, IsNoAnswers, IsNoProgram, IsProgram, RefusesAnswers, RefusesProgram};
 
 use crate::halt::{Halt, line};
 use crate::refusals::{answers_refusal, program_refusal};
@@ -21,11 +20,14 @@ use scasp_reader_terms::{Count, Fault, Kind, Stop};
 use scasp_syntax::{Nested, Program};
 use std::alloc::Global;
 
-/// The program that the bytes spell behind the names of the table, and the table with its own; or the line of the first fault.
-fn read_text_behind(alloc: Global, bytes: &[u8], table: Names) -> Result<(Program, Names), Halt>
-    ensures ok { IfOk result (λ x. program_in table bytes.now ≡ Ok (reading_of x)) }
-    ensures err { IfErr result (λ halt. IfLine halt (RefusesProgramBehind table bytes.now)) }
+/// The program that the bytes spell, and its table of names; or the line of the first fault.
+pub fn read_text(alloc: Global, bytes: &[u8]) -> Result<(Program, Names), Halt>
+    ensures ok { IfOk result (λ x. program_in list_names bytes.now ≡ Ok (reading_of x)) }
+    ensures err { IfErr result (λ halt. IfLine halt (RefusesProgram bytes.now)) }
 {
+    let Ok(table) = Names::new(alloc) else {
+        return Err(Halt::Memory);
+    };
     match read_program(alloc, bytes, table) {
         Ok((program, names)) => match program.serves_walks(alloc) {
             Ok(()) => Ok((program, names)),
@@ -33,40 +35,6 @@ fn read_text_behind(alloc: Global, bytes: &[u8], table: Names) -> Result<(Progra
         },
         Err(Stop::At(fault)) => Err(program_refusal(alloc, fault)),
         Err(Stop::Memory) => Err(Halt::Memory),
-    }
-}
-
-/// The program that the bytes spell, and its table of names; or the line of the first fault.
-pub fn read_text(alloc: Global, bytes: &[u8]) -> Result<(Program, Names), Halt>
-    ensures ok { IfOk result (λ x. program_in list_names bytes.now ≡ Ok (reading_of x)) }
-    ensures err { IfErr result (λ halt. IfLine halt (RefusesProgram bytes.now)) }
-{
-    match Names::new(alloc) {
-        Ok(table) => read_text_behind(alloc, bytes, table),
-        Err(Memory) => Err(Halt::Memory),
-    }
-}
-
-/// The program in a file behind the names of the table, and the table with its own; or the line that tells why there is none.
-pub fn program_behind<F: Files>(
-    alloc: Global,
-    file: &str,
-    table: Names,
-    files: &mut F,
-) -> Result<(Program, Names), Halt>
-    ensures ok { IfOk result (λ x. IsProgramBehind (F.told files.old file.now) table x.0 x.1) }
-    ensures err { IfErr result (λ halt. IfLine halt (IsNoProgramBehind (outside (F.told files.old) (F.faults files.old) (F.faults files.new)) file.now table)) }
-    ensures stays { (other : List ℕ) → F.told files.new other ≡ F.told files.old other }
-    ensures counts { (other : List ℕ) → F.faults files.old other ≤ F.faults files.new other }
-{
-    match read_file(alloc, files, file, BYTE_LIMIT as u64) {
-        Ok(bytes) => read_text_behind(alloc, bytes.as_slice(), table),
-        Err(ReadErr::Fault) => Err(line(alloc, b"read program\n", Status::Read)),
-        Err(ReadErr::TooLong) => {
-            let (at, kind) = (BYTE_LIMIT as u64, Kind::Limit(Count::Bytes));
-            Err(program_refusal(alloc, Fault { at, kind }))
-        }
-        Err(ReadErr::Memory) => Err(Halt::Memory),
     }
 }
 
@@ -81,36 +49,38 @@ pub fn program_in_file<F: Files>(
     ensures stays { (other : List ℕ) → F.told files.new other ≡ F.told files.old other }
     ensures counts { (other : List ℕ) → F.faults files.old other ≤ F.faults files.new other }
 {
-    match Names::new(alloc) {
-        Ok(table) => program_behind(alloc, file, table, files),
-        Err(Memory) => Err(Halt::Memory),
+    match read_file(alloc, files, file, BYTE_LIMIT as u64) {
+        Ok(bytes) => read_text(alloc, bytes.as_slice()),
+        Err(ReadErr::Fault) => Err(line(alloc, b"read program\n", Status::Read)),
+        Err(ReadErr::TooLong) => {
+            let (at, kind) = (BYTE_LIMIT as u64, Kind::Limit(Count::Bytes));
+            Err(program_refusal(alloc, Fault { at, kind }))
+        }
+        Err(ReadErr::Memory) => Err(Halt::Memory),
     }
 }
 
-/// What the bytes have behind a header, with the names of the table, and the table with their own; or the line of the first fault.
-fn read_blocks(alloc: Global, bytes: &[u8], mut names: Names) -> Result<(Entries, Names), Halt>
-    ensures ok { IfOk result (λ x. answers_in names bytes.now ≡ Ok (map entry_of x.0)) }
-    ensures table { IfOk result (λ x. x.1 ≡ with_names names bytes.now) }
+/// What the bytes have behind a header, with the names of the program before them; or the line of the first fault.
+fn read_blocks(alloc: Global, bytes: &[u8], mut names: Names) -> Result<Entries, Halt>
+    ensures ok { IfOk result (λ entries. answers_in names bytes.now ≡ Ok (map entry_of entries)) }
     ensures err { IfErr result (λ halt. IfLine halt (RefusesAnswers names bytes.now)) }
 {
     match read_answers(alloc, bytes, &mut names) {
-        Ok(entries) => Ok((entries, names)),
+        Ok(entries) => Ok(entries),
         Err(AnswerErr::At(fault)) => Err(answers_refusal(alloc, fault)),
         Err(AnswerErr::Memory) => Err(Halt::Memory),
     }
 }
 
-/// The entries of an answer file, with the names of the program before them, and the table with its own; or the line that tells why
-/// there are none.
+/// The entries of an answer file, with the names of the program before them; or the line that tells why there are none.
 pub fn answers_in_file<F: Files>(
     alloc: Global,
     file: &str,
     names: Names,
     files: &mut F,
-) -> Result<(Entries, Names), Halt>
-    ensures ok { IfOk result (λ x. AddsAnswers (F.told files.old file.now) names (map entry_of x.0) x.1) }
+) -> Result<Entries, Halt>
+    ensures ok { IfOk result (λ entries. IsAnswers (F.told files.old file.now) names (map entry_of entries)) }
     ensures err { IfErr result (λ halt. IfLine halt (IsNoAnswers (outside (F.told files.old) (F.faults files.old) (F.faults files.new)) file.now names)) }
-    ensures stays { (other : List ℕ) → F.told files.new other ≡ F.told files.old other }
     ensures counts { (other : List ℕ) → F.faults files.old other ≤ F.faults files.new other }
 {
     match read_file(alloc, files, file, ANSWER_LIMIT as u64) {
