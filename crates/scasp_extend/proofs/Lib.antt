@@ -1,0 +1,3 @@
+pub mod ObstacleLemmas
+pub mod ModelLemmas
+pub mod AboveLemmas

@@ -1,0 +1,4 @@
+mod Allowing
+mod Closing
+mod Growing
+mod Settling

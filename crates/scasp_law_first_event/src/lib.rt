@@ -1,0 +1,4 @@
+//! Why a search comes to an event.
+#![tactic(auto)]
+
+pub mod laws;

@@ -1,0 +1,2 @@
+mod InstanceLemmas
+mod ModelLemmas

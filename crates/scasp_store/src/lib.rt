@@ -1,0 +1,8 @@
+//! Bindings and given constraints whose changes can be undone, and the question whether they have a valuation with others.
+#![tactic(auto)]
+
+mod asking;
+mod opening;
+mod store;
+
+pub use store::Store;
