@@ -1,2 +1,2 @@
 -- Lemmas of the proofs.
-pub mod PieceLemmas
+pub mod WorkLemmas

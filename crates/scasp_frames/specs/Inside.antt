@@ -1,2 +1,3 @@
 -- What private functions alone speak of.
-pub mod Pieces
+pub mod Taken
+pub mod Turned

@@ -1,3 +1,1 @@
 pub mod Inside
-pub mod Raising
-pub mod Work

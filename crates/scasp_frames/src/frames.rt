@@ -1,26 +1,32 @@
-//! Work in frames.
-ghost use Rattle.std.specs.Prelude.{◌≡◌, ◌-◌, ◌<◌, [], ◌∷◌, ◌++◌, length, map, take, IfOk, OnOk, OnErr};
-ghost use Rattle.scasp_frames.specs.Work.{Takes, has_task};
-ghost use Rattle.scasp_frames.specs.Inside.Pieces.{rest_tasks, tasks_in};
-ghost use Rattle.scasp_search_rules.specs.Successors.Items.{item_raised};
-ghost use Rattle.scasp_search_rules.specs.Successors.Search.{pays, pays_for, waits};
+//! Work of the search.
+ghost use Rattle.std.specs.Prelude.{◌≡◌, [], ◌∷◌, ◌++◌, map, IfOk, OnOk, OnErr};
+ghost use Rattle.scasp_search_rules.specs.Successors.Calls.{head_args};
+ghost use Rattle.scasp_search_rules.specs.Successors.Cases.{failing_at};
+ghost use Rattle.scasp_search_rules.specs.Successors.Equations.{equations};
+ghost use Rattle.scasp_search_rules.specs.Successors.Items.{body_of};
+ghost use Rattle.scasp_search_rules.specs.Successors.Pairs.{pairs};
+ghost use Rattle.scasp_search_rules.specs.Successors.Replacing.{closes};
+ghost use Rattle.scasp_search_rules.specs.Successors.Search.{pays, waits};
 ghost use Rattle.scasp_search_rules.specs.declared.states.state.State.{State};
-ghost use Rattle.scasp_trail.specs.Past.{earlier, latest};
+ghost use Rattle.scasp_search_state.specs.Choices.{TakesTask};
+ghost use Rattle.scasp_search_state.specs.Words.{has_work};
+ghost use Rattle.scasp_trail.specs.Past.{earlier, is_marked, latest};
 
-use crate::frame::{Begun, Frame, begin, has_task, piece_pays, push_tasks};
+use crate::bodies::{apart_from_head, failing_body, head_equations};
+use crate::tasks::{copies, has_next, next_closes, next_pays, put_all, put_shows, take_next};
 use scasp_list::Memory;
-use scasp_search_rules::{Task, Tasks};
-use scasp_syntax::FlatItems;
+use scasp_search_calls::body_of;
+use scasp_search_rules::{Aim, Task, Tasks};
+use scasp_syntax::{Program, Terms};
 use scasp_trail::Trailed;
 use std::alloc::Global;
 use std::marker::Model;
-use std::rc::Rc;
 
-/// What is still to be done, in pieces: a task, or the items of a flat body from a place on, which are shared and not copied.
+/// What is still to be done.
 #[derive(Drop)]
 pub struct Frames {
-    /// The next piece is the last.
-    frames: Trailed<Frame>,
+    /// The next task is the last.
+    tasks: Trailed<Task>,
 }
 
 impl Model for Frames {
@@ -28,13 +34,13 @@ impl Model for Frames {
     ghost use Rattle.std.specs.Coded.{codes};
     ghost use Rattle.scasp_search_rules.specs.declared.states.tasks.Task.{Task};
     ghost use Rattle.scasp_trail.specs.Past.{Past};
-    ghost use Rattle.scasp_frames.specs.Inside.Pieces.{past_tasks};
+    ghost use Rattle.scasp_frames.specs.Inside.Turned.{turned};
 
     ghost Value = { Past Task };
 
     ghost coded = { Prim.hlevel (codes, coded_tms) };
 
-    ghost view = { λ f. past_tasks f.frames };
+    ghost view = { λ f. turned f.tasks };
 }
 
 impl Frames {
@@ -43,39 +49,46 @@ impl Frames {
         ensures { result ≡ record { now = []; before = [] } }
     {
         Frames {
-            frames: Trailed::new(alloc),
+            tasks: Trailed::new(alloc),
         }
     }
 
     /// Whether something is left to do.
-    pub fn has_task(&self) -> bool
-        ensures { result ≡ has_task self.now.now }
+    pub fn has_work(&self) -> bool
+        ensures { result ≡ has_work self.now.now }
     {
-        has_work(self.frames.as_slice())
+        has_next(self.tasks.as_slice())
     }
 
     /// Whether the first task costs a call, in a state where a remainder of the innermost cover waits or not.
     pub fn pays(&self, is_waiting: bool) -> bool
         ensures { (s : State) → waits s.covers ≡ is_waiting → s.work ≡ self.now.now → result ≡ pays s }
     {
-        first_pays(self.frames.as_slice(), is_waiting)
+        next_pays(self.tasks.as_slice(), is_waiting)
+    }
+
+    /// Whether the first task ends a case.
+    pub fn closes(&self) -> bool
+        ensures { result ≡ closes self.now.now }
+    {
+        next_closes(self.tasks.as_slice())
     }
 
     /// Copies of all tasks, the next one first.
     pub fn tasks(&self, alloc: Global) -> Result<Tasks, Memory>
         ensures { IfOk result (λ made. made ≡ self.now.now) }
     {
-        all_tasks(alloc, self.frames.as_slice())
+        copies(alloc, self.tasks.as_slice())
     }
 
     /// Puts the task before all others.
-    #[tactic(auto, using(crate::proofs::PieceLemmas::put_last))]
+    #[tactic(auto, using(crate::proofs::WorkLemmas::last_first))]
     pub fn put(&mut self, task: Task) -> Result<(), Memory>
         ensures now { OnOk result (self.new.now ≡ task ∷ self.old.now) }
         ensures before { self.new.before ≡ self.old.before }
         ensures unchanged { OnErr result (self.new ≡ self.old) }
     {
-        self.frames.push(Frame::Alone(task))?;
+        self.tasks.push(task)?;
         Ok(())
     }
 
@@ -84,33 +97,94 @@ impl Frames {
         ensures now { OnOk result (self.new.now ≡ tasks ++ self.old.now) }
         ensures before { self.new.before ≡ self.old.before }
     {
-        push_all(&mut self.frames, tasks)?;
+        put_all(&mut self.tasks, tasks)?;
         Ok(())
     }
 
-    /// Puts before all others that the first items of a flat body, so many, are to be true, with their variables from `first`
-    /// on.
-    #[tactic(auto, using(crate::proofs::PieceLemmas::body_last))]
-    pub fn put_body(&mut self, items: Rc<FlatItems>, first: u64, count: usize) -> Result<(), Memory>
-        ensures now { OnOk result (self.new.now ≡ map Task.Show (take count (map (item_raised first) items.value)) ++ self.old.now) }
+    /// Puts the flat body of a clause, with its variables from `first` on, before all others.
+    pub fn put_body(
+        &mut self,
+        alloc: Global,
+        program: &Program,
+        clause: u64,
+        first: u64,
+    ) -> Result<(), Memory>
+        ensures now { OnOk result (self.new.now ≡ map Task.Show (body_of program.now clause first) ++ self.old.now) }
+        ensures before { self.new.before ≡ self.old.before }
+    {
+        let items = body_of(alloc, program, clause, first)?;
+        put_shows(&mut self.tasks, items)?;
+        Ok(())
+    }
+
+    /// Puts the items of the flat body of a clause before the one at this place, and that one false, before all others; the
+    /// whole body where it is no longer.
+    pub fn put_failing(
+        &mut self,
+        alloc: Global,
+        program: &Program,
+        clause: u64,
+        first: u64,
+        place: u64,
+    ) -> Result<(), Memory>
+        ensures now { OnOk result (self.new.now ≡ map Task.Show (failing_at place (body_of program.now clause first)) ++ self.old.now) }
+        ensures before { self.new.before ≡ self.old.before }
+    {
+        let items = failing_body(alloc, program, clause, first, place)?;
+        put_shows(&mut self.tasks, items)?;
+        Ok(())
+    }
+
+    /// Puts the equations of these terms with the arguments of the head of a clause before all others.
+    pub fn put_equations(
+        &mut self,
+        alloc: Global,
+        args: &Terms,
+        program: &Program,
+        clause: u64,
+        first: u64,
+    ) -> Result<(), Memory>
+        ensures now { OnOk result (self.new.now ≡ equations args.now (head_args program.now clause first) ++ self.old.now) }
+        ensures before { self.new.before ≡ self.old.before }
+    {
+        let tasks = head_equations(alloc, args, program, clause, first)?;
+        put_all(&mut self.tasks, tasks)?;
+        Ok(())
+    }
+
+    /// Puts before all others that these terms are to differ from the arguments of the head of a rule.
+    #[tactic(auto, using(crate::proofs::WorkLemmas::last_first))]
+    pub fn put_apart(
+        &mut self,
+        alloc: Global,
+        args: &Terms,
+        program: &Program,
+        rule: u64,
+        first: u64,
+    ) -> Result<(), Memory>
+        ensures now { OnOk result (self.new.now ≡ Task.Differ (pairs args.now (head_args program.now rule first)) (Aim.Head rule first) ∷ self.old.now) }
         ensures before { self.new.before ≡ self.old.before }
         ensures unchanged { OnErr result (self.new ≡ self.old) }
     {
-        self.frames.push(Frame::Body {
-            items,
-            first,
-            from: 0,
-            end: count,
-        })?;
+        let task = apart_from_head(alloc, args, program, rule, first)?;
+        self.tasks.push(task)?;
         Ok(())
     }
 
-    /// Takes the first task away, if there is one; of a flat body its copy is made now.
-    pub fn take(&mut self, alloc: Global) -> Result<Option<Task>, Memory>
-        ensures taken { IfOk result (λ task. Takes self.old.now self.new.now task) }
+    /// Takes the first task away, if there is one.
+    #[tactic(auto, using(crate::proofs::WorkLemmas::taken_in))]
+    pub fn take_task(&mut self, alloc: Global) -> Result<Option<Task>, Memory>
+        ensures taken { (s : State) → s.work ≡ self.old.now → IfOk result (λ task. TakesTask s s.work (record s { work = self.new.now }) task) }
         ensures before { self.new.before ≡ self.old.before }
     {
-        take_first(alloc, &mut self.frames)
+        take_next(alloc, &mut self.tasks)
+    }
+
+    /// Whether there is a mark.
+    pub fn is_marked(&self) -> bool
+        ensures { result ≡ is_marked self.now.before }
+    {
+        self.tasks.is_marked()
     }
 
     /// Marks the work as it is now.
@@ -119,108 +193,17 @@ impl Frames {
         ensures before { OnOk result (self.new.before ≡ self.old.now ∷ self.old.before) }
         ensures unchanged { OnErr result (self.new ≡ self.old) }
     {
-        self.frames.mark()?;
+        self.tasks.mark()?;
         Ok(())
     }
 
     /// Makes the work again what it was at the latest mark, which is taken away; without a mark it stays as it is. No memory
     /// is taken.
-    #[tactic(auto, using(crate::proofs::PieceLemmas::tasks_latest, crate::proofs::PieceLemmas::tasks_earlier))]
+    #[tactic(auto, using(crate::proofs::WorkLemmas::turned_latest, crate::proofs::WorkLemmas::turned_earlier))]
     pub fn leave(&mut self)
         ensures now { self.new.now ≡ latest self.old.now self.old.before }
         ensures before { self.new.before ≡ earlier self.old.before }
     {
-        self.frames.leave();
+        self.tasks.leave();
     }
-}
-
-/// Whether a piece has a task.
-fn has_work(frames: &[Frame]) -> bool
-    ensures { result ≡ has_task (tasks_in frames.now) }
-{
-    let mut rest = frames;
-    'pieces: while let Some((last, before)) = rest.split_last() {
-        if has_task(last) {
-            return true;
-        }
-        rest = before;
-    }
-    false
-}
-
-/// Whether the first task costs a call, where a remainder of the innermost cover waits or not.
-fn first_pays(frames: &[Frame], is_waiting: bool) -> bool
-    ensures { (s : State) → waits s.covers ≡ is_waiting → result ≡ pays_for s (tasks_in frames.now) }
-{
-    let mut rest = frames;
-    'pieces: while let Some((last, before)) = rest.split_last() {
-        match piece_pays(last, is_waiting) {
-            Some(pays) => return pays,
-            None => rest = before,
-        }
-    }
-    false
-}
-
-/// Copies of the tasks of the pieces, those of the last piece first.
-fn all_tasks(alloc: Global, frames: &[Frame]) -> Result<Tasks, Memory>
-    ensures { IfOk result (λ made. made ≡ tasks_in frames.now) }
-{
-    let mut tasks = Tasks::new(alloc);
-    let mut rest = frames;
-    'pieces: while let Some((last, before)) = rest.split_last() {
-        push_tasks(alloc, last, &mut tasks)?;
-        rest = before;
-    }
-    Ok(tasks)
-}
-
-/// Puts the tasks before all others.
-fn push_all(frames: &mut Trailed<Frame>, tasks: Tasks) -> Result<(), Memory>
-    ensures now { OnOk result (tasks_in frames.new.now ≡ tasks ++ tasks_in frames.old.now) }
-    ensures before { frames.new.before ≡ frames.old.before }
-{
-    let mut left = tasks.into_vec();
-    'tasks: while let Some(task) = left.pop() {
-        frames.push(Frame::Alone(task))?;
-    }
-    Ok(())
-}
-
-/// Puts what is left of the last piece in its place.
-#[tactic(auto, using(crate::proofs::PieceLemmas::last_changed))]
-fn put_back(frames: &mut Trailed<Frame>, rest: Option<Frame>) -> Result<(), Memory>
-    requires { 0 < length frames.old.now }
-    ensures now { OnOk result (tasks_in frames.new.now ≡ rest_tasks rest ++ tasks_in (take (length frames.old.now - 1) frames.old.now)) }
-    ensures before { frames.new.before ≡ frames.old.before }
-{
-    match rest {
-        Some(frame) => {
-            let last = frames.len() - 1;
-            frames.set(last, frame)?;
-            Ok(())
-        }
-        None => {
-            frames.pop()?;
-            Ok(())
-        }
-    }
-}
-
-/// Takes the first task away, if there is one.
-#[tactic(auto, using(crate::proofs::PieceLemmas::first_taken, crate::proofs::PieceLemmas::all_taken, crate::proofs::PieceLemmas::passed_by))]
-fn take_first(alloc: Global, frames: &mut Trailed<Frame>) -> Result<Option<Task>, Memory>
-    ensures taken { IfOk result (λ task. Takes (tasks_in frames.old.now) (tasks_in frames.new.now) task) }
-    ensures before { frames.new.before ≡ frames.old.before }
-{
-    'pieces: while let Some((last, _before)) = frames.as_slice().split_last() {
-        match begin(alloc, last)? {
-            Some(Begun { task, rest }) => {
-                put_back(frames, rest)?;
-                return Ok(Some(task));
-            }
-            None => frames.pop()?,
-        }
-    }
-    Ok(None)
 }

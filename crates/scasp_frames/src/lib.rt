@@ -1,9 +1,11 @@
-//! Work of the search in frames, whose changes can be undone.
+//! Work of the search whose changes can be undone.
 #![tactic(auto)]
 
-mod frame;
+mod ahead;
+mod bodies;
 mod frames;
-mod raising;
+mod tasks;
+#[cfg(test)]
+mod tests;
 
 pub use frames::Frames;
-pub use raising::{Raised, item_raised};

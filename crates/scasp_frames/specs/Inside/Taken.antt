@@ -1,11 +1,6 @@
--- Tasks, the next one first.
-use Rattle.std.specs.Prelude.{◌≡◌, Bool, true, false, Option, None, Some, List, [], ◌∷◌}
+-- Tasks of which the first is taken.
+use Rattle.std.specs.Prelude.{◌≡◌, Option, None, Some, List, [], ◌∷◌}
 use Rattle.scasp_search_rules.specs.declared.states.tasks.Task.{Task}
-
--- something is left to do
-abbrev pub has_task : List Task → Bool
-has_task [] = false
-has_task (t ∷ ts) = true
 
 -- the first of the tasks is taken away, if there is one
 abbrev pub Takes : List Task → List Task → Option Task → Type 0
