@@ -1,3 +1,4 @@
+pub mod AskingLemmas
 pub mod ClosingLemmas
 pub mod SavedLemmas
 pub mod TaskLemmas

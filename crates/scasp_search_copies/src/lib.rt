@@ -2,9 +2,11 @@
 #![tactic(auto)]
 
 mod ahead;
+mod asking;
 mod closing;
 mod copied;
 mod literals;
+mod saved;
 mod tasks;
 
 pub use copied::Copied;
