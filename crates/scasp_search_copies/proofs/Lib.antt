@@ -1,4 +1,3 @@
-pub mod AskingLemmas
 pub mod ClosingLemmas
 pub mod SavedLemmas
 pub mod TaskLemmas

@@ -3,7 +3,7 @@ use Rattle.std.specs.Prelude.{◌≡◌, None, Some, List, [], ◌∷◌, ◌++�
 use Rattle.std.proofs.Common.{ap, subst, sym}
 use Rattle.std.proofs.lemmas.List.{reverse-append}
 use Rattle.scasp_search_copies.specs.Saved.{point_of}
-use Rattle.scasp_search_copies.specs.declared.saved.Saved.{Saved}
+use Rattle.scasp_search_copies.specs.declared.copied.Saved.{Saved}
 use Rattle.scasp_search_rules.specs.declared.states.state.State.{State}
 use Rattle.scasp_search_state.specs.Choices.{Taken}
 

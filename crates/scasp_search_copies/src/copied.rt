@@ -1,21 +1,17 @@
 //! A state that is changed in place, and copies of those that wait.
-ghost use Rattle.std.specs.Prelude.{◌≡◌, [], IfOk};
-ghost use Rattle.scasp_search_copies.specs.Inside.Mirror.{Mirrors};
+ghost use Rattle.std.specs.Prelude.{◌≡◌, []};
 ghost use Rattle.scasp_search_copies.specs.Saved.{now_of, points_of};
 
 use crate::ahead::{has_work, innermost};
-use crate::asking::{
-    passes_context, passes_given, passes_with, status, store_of, with_binding, with_given,
-};
+use crate::asking::{asked_list, context_list, given_list, status};
 use crate::closing::closed;
 use crate::literals::marked;
-use crate::saved::Saved;
 use crate::tasks::{apart_task, body_tasks, failing_tasks, head_equations, take_task, with_task};
 use scasp_list::Memory;
 use scasp_search_calls::{
     leave_literal, nearest, opposite_constraints, pays, seen, waits, with_cases, with_literal,
 };
-use scasp_search_constraints::{SearchErr, is_constrained, is_number_by, split_at};
+use scasp_search_constraints::{SearchErr, is_constrained, is_number_by, passes, split_at};
 use scasp_search_ends::close_overflows;
 use scasp_search_rules::{
     Bindings, Covers, Kind, Line, Lines, Literals, Made, Repeated, State, Status, Task, Tasks,
@@ -28,36 +24,24 @@ use scasp_search_terms::regions::before;
 use scasp_search_terms::variables::{
     depth_of, is_universal, lower_all, made_at, universals_of, with_new,
 };
-use scasp_store::Store;
-use scasp_syntax::{Con, Cons, DeepCopy, Lit, Program, Term, Terms, VarList, copy};
+use scasp_syntax::{Con, Cons, DeepCopy, Lit, Program, Term, Terms, VarList};
 use scasp_unify::Binding;
 use std::alloc::Global;
-use std::marker::Model;
 use std::mem;
+
+/// A state that waits, and what is left of its successors.
+#[derive(Drop)]
+pub(crate) struct Saved {
+    choice: Choice,
+    state: State,
+}
 
 /// A state that is changed in place, and copies of those that wait.
 #[derive(Drop)]
 pub struct Copied {
     state: State,
-    /// The state's bindings and given constraints once more, as they are asked; None where they are to be put in anew.
-    store: Option<Store>,
     /// The latest last.
     saved: Vec<Saved>,
-}
-
-impl Model for Copied {
-    ghost use Rattle.scasp_search_copies.specs.Inside.Mirror.{MirrorsIf};
-    ghost use Rattle.scasp_search_copies.specs.Saved.{Copies};
-    ghost use Rattle.scasp_syntax.specs.TmCode.{coded_tms};
-    ghost use Rattle.std.specs.Coded.{codes};
-
-    ghost Value = { Copies };
-
-    ghost coded = { Prim.hlevel (codes, coded_tms) };
-
-    ghost view = { λ c. record { state = c.state; saved = c.saved.items } };
-
-    ghost invariant = { λ c. MirrorsIf c.state c.store };
 }
 
 /// A state with nothing in it.
@@ -82,7 +66,6 @@ impl Copied {
     {
         Copied {
             state,
-            store: None,
             saved: Vec::new(alloc),
         }
     }
@@ -97,19 +80,7 @@ impl Copied {
         ensures saved { self.new.saved ≡ self.old.saved }
     {
         let none = nothing(self.alloc());
-        self.store = None;
         mem::replace(&mut self.state, none)
-    }
-
-    /// Takes the store out, or makes one.
-    fn take_store(&mut self) -> Result<Store, Memory>
-        ensures store { IfOk result (λ store. Mirrors self.old.state store) }
-        ensures same { self.new ≡ self.old }
-    {
-        match mem::replace(&mut self.store, None) {
-            Some(store) => Ok(store),
-            None => store_of(self.alloc(), &self.state),
-        }
     }
 }
 
@@ -137,19 +108,13 @@ impl Situation for Copied {
     }
 
     fn make(&mut self, kind: Kind, depth: u64, count: u64) -> Result<(), Memory> {
-        let store = mem::replace(&mut self.store, None);
         let state = self.take_out();
         self.state = with_new(state, kind, depth, count)?;
-        self.store = store;
         Ok(())
     }
 
     fn bind_to(&mut self, x: u64, term: Term) -> Result<(), Memory> {
-        let store = mem::replace(&mut self.store, None);
-        let store = with_binding(self.alloc(), store, x, copy(self.alloc(), &term)?)?;
-        self.state.bound.push(Binding { x, term })?;
-        self.store = store;
-        Ok(())
+        self.state.bound.push(Binding { x, term })
     }
 
     fn lower(&mut self, depth: u64, xs: &[u64]) -> Result<(), Memory> {
@@ -184,42 +149,28 @@ impl Situation for Copied {
     }
 
     fn give(&mut self, constraint: Con) -> Result<(), Memory> {
-        let store = mem::replace(&mut self.store, None);
-        let store = with_given(store, constraint.copy(self.alloc())?)?;
-        self.state.given.push(constraint)?;
-        self.store = store;
-        Ok(())
+        self.state.given.push(constraint)
     }
 
     // ---- questions
 
     fn status(&mut self, alloc: Global, constraint: &Con) -> Result<Status, SearchErr> {
-        let mut store = self.take_store()?;
-        let status = status(alloc, &self.state, &mut store, constraint)?;
-        self.store = Some(store);
-        Ok(status)
+        status(alloc, &self.state, constraint)
     }
 
     fn asks_given(&mut self, alloc: Global) -> Result<bool, SearchErr> {
-        let mut store = self.take_store()?;
-        let passes = passes_given(alloc, &self.state, &mut store)?;
-        self.store = Some(store);
-        Ok(passes)
+        let list = given_list(alloc, &self.state)?;
+        passes(alloc, list.as_slice())
     }
 
     fn asks_context(&mut self, alloc: Global) -> Result<bool, SearchErr> {
-        let mut store = self.take_store()?;
-        let passes = passes_context(alloc, &self.state, &mut store)?;
-        self.store = Some(store);
-        Ok(passes)
+        let list = context_list(alloc, &self.state)?;
+        passes(alloc, list.as_slice())
     }
 
     fn asks_context_with(&mut self, alloc: Global, constraint: &Con) -> Result<bool, SearchErr> {
-        let mut store = self.take_store()?;
-        let copied = constraint.copy(alloc)?;
-        let passes = passes_with(alloc, &self.state, &mut store, true, copied)?;
-        self.store = Some(store);
-        Ok(passes)
+        let list = asked_list(alloc, &self.state, true, constraint.copy(alloc)?)?;
+        passes(alloc, list.as_slice())
     }
 
     // ---- covers
@@ -237,10 +188,8 @@ impl Situation for Copied {
     }
 
     fn open_cover(&mut self, alloc: Global, program: &Program, begun: Begun) -> Result<(), Memory> {
-        let store = mem::replace(&mut self.store, None);
         let state = self.take_out();
         self.state = with_cases(alloc, program, state, begun)?;
-        self.store = store;
         Ok(())
     }
 
@@ -271,26 +220,20 @@ impl Situation for Copied {
     }
 
     fn open_literal(&mut self, alloc: Global, lit: &Lit) -> Result<(), Memory> {
-        let store = mem::replace(&mut self.store, None);
         let state = self.take_out();
         self.state = with_literal(alloc, state, lit)?;
-        self.store = store;
         Ok(())
     }
 
     fn loops_out(&mut self) -> Result<(), Memory> {
-        let store = mem::replace(&mut self.store, None);
         let state = self.take_out();
         self.state = marked(self.alloc(), state)?;
-        self.store = store;
         Ok(())
     }
 
     fn leave_literal(&mut self) -> Result<(), Memory> {
-        let store = mem::replace(&mut self.store, None);
         let state = self.take_out();
         self.state = leave_literal(self.alloc(), state)?;
-        self.store = store;
         Ok(())
     }
 
@@ -308,10 +251,8 @@ impl Situation for Copied {
     }
 
     fn put_all(&mut self, tasks: Tasks) -> Result<(), Memory> {
-        let store = mem::replace(&mut self.store, None);
         let state = self.take_out();
         self.state = before(tasks, state)?;
-        self.store = store;
         Ok(())
     }
 
@@ -392,7 +333,6 @@ impl Situation for Copied {
     fn take(&mut self) -> Result<Option<Choice>, Memory> {
         match self.saved.pop() {
             Some(Saved { choice, state }) => {
-                self.store = None;
                 self.state = state;
                 Ok(Some(choice))
             }

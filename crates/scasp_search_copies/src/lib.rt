@@ -6,7 +6,6 @@ mod asking;
 mod closing;
 mod copied;
 mod literals;
-mod saved;
 mod tasks;
 
 pub use copied::Copied;
