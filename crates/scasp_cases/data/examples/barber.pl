@@ -1,5 +1,6 @@
 % Who shaves whom? The barber shaves each man who does not shave himself. The rule rests on its own negation: whether the
 % barber shaves a man may hang on whether that man shaves himself. Such a rule is checked with each answer.
+% Each query is answered within 50 calls (`--budget 50`).
 
 shaves(paul, paul).
 shaves(barber, M) :- man(M), not shaves(M, M).

@@ -1,4 +1,5 @@
 % What other systems write otherwise: each comment has a form that is refused, and below it stands the form to write here.
+% Each query is answered within 50 calls (`--budget 50`).
 
 % { lit(L) } :- lamp(L).
 lit(L) :- lamp(L), not dark(L).
