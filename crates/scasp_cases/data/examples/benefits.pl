@@ -1,4 +1,5 @@
 % Who has a right to the heating allowance? The sections of an invented act, as clauses.
+% Each query is answered within 50 calls (`--budget 50`).
 
 % Section 1. A resident with an income below 1,200 a month has a right to the allowance, unless section 2 excludes them.
 entitled(P) :- resident(P), income(P, M), M #< 1200, not excluded(P).

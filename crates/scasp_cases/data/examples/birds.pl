@@ -1,4 +1,6 @@
 % Birds fly unless they are known to be abnormal; penguins are, and it is known that they do not fly.
+% Each query ends or is answered within 50 calls (`--budget 50`).
+
 bird(tweety).
 bird(sam).
 penguin(sam).

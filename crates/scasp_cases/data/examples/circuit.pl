@@ -1,4 +1,5 @@
 % Which part of the circuit is broken? A door bell with a lamp: the battery feeds a buzzer, and through a fuse a lamp.
+% Each query ends or is answered within 50 calls (`--budget 50`).
 
 % Each part works or is broken; a diagnosis takes one of the two.
 works(P) :- part(P), not broken(P).

@@ -1,4 +1,5 @@
 % Who is a citizen by birth? The sections of an invented nationality act, as clauses.
+% Each query is answered within 50 calls (`--budget 50`).
 
 % Section 1. A person who is born in the country after 1982 is a citizen if, at the birth, a parent is a citizen or is
 % settled in the country.

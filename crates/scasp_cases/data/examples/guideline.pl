@@ -1,5 +1,6 @@
 % Which drug comes first for a patient with high blood pressure? A guideline with exceptions, much simplified.
 % `-safe(D, P)` says that a danger is known; `not -safe(D, P)`, that none is known.
+% Each query is answered within 50 calls (`--budget 50`).
 
 % Under 55 an ACE inhibitor comes first; from 55 on, a calcium channel blocker, but not with diabetes.
 first(P, ace_inhibitor) :- age(P, A), A #< 55, not -safe(ace_inhibitor, P).

@@ -1,4 +1,5 @@
 % May this be borrowed? The rules of a library.
+% Each query is answered within 150 calls (`--budget 150`).
 
 may_borrow(P, I) :- member(P), item(I, Kind), not blocked(P), not kept_back(P, I, Kind).
 

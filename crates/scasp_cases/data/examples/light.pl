@@ -1,4 +1,5 @@
 % When is the light on? An event calculus: what an event initiates holds until an event terminates it.
+% Each query is answered within 50 calls (`--budget 50`).
 
 holds(F, T) :- happens(E, S), initiates(E, F), S #< T, not clipped(S, F, T).
 clipped(S, F, T) :- happens(E, U), terminates(E, F), S #< U, U #< T.

@@ -1,4 +1,5 @@
 % What is left of a loan? One in a hundred is added each month, and then a rate is paid. All numbers are exact.
+% Each query is answered within 10 calls (`--budget 10`).
 
 % The rest behind N months.
 rest(0, 1000, _).

@@ -1,4 +1,5 @@
 % When do the loaves go into the oven? Two loaves, one oven; times are hours of the morning, as exact fractions.
+% Each query is answered within 10 calls (`--budget 10`).
 
 bakes(rye, 5/4).
 bakes(wheat, 3/4).

@@ -1,4 +1,5 @@
 % When is the wall primed, and when is it painted? Times are hours of the day, as exact fractions.
+% Each query is answered within 10 calls (`--budget 10`).
 
 % The room is free from 8 to 12, and from 13:30 to 17.
 free(8, 12).
