@@ -26,12 +26,13 @@ cases_turned ss =
 around_from : (d : ℕ) (ss : List Scope)
     → map (λ (c : Cover). c.case) (filter (λ (c : Cover). not c.plain) (covers_from d ss)) ≡ map (λ (s : Scope). s.case) (filter (λ (s : Scope). not s.opening.plain) ss)
 around_from d [] = refl
-around_from d (s ∷ ss) = by (not s.opening.plain) (around_from (suc d) ss)
+around_from d (s ∷ ss) =
+    by (not s.opening.plain) (filter (λ (c : Cover). not c.plain) (covers_from (suc d) ss)) (filter (λ (r : Scope). not r.opening.plain) ss) (around_from (suc d) ss)
   where
-    by : (b : Bool) {cs : List Cover} {rs : List Scope} → map (λ (c : Cover). c.case) cs ≡ map (λ (r : Scope). r.case) rs
+    by : (b : Bool) (cs : List Cover) (rs : List Scope) → map (λ (c : Cover). c.case) cs ≡ map (λ (r : Scope). r.case) rs
         → map (λ (c : Cover). c.case) (if b then cover_of d s ∷ cs else cs) ≡ map (λ (r : Scope). r.case) (if b then s ∷ rs else rs)
-    by true e = ap (λ (ks : List ℕ). s.case ∷ ks) e
-    by false e = e
+    by true cs rs e = ap (λ (ks : List ℕ). s.case ∷ ks) e
+    by false cs rs e = e
 
 pub around_turned : (ss : List Scope)
     → map (λ (s : Scope). s.case) (filter (λ (s : Scope). not s.opening.plain) (reverse ss)) ≡ map (λ (c : Cover). c.case) (filter (λ (c : Cover). not c.plain) (reverse (covers_from 1 ss)))
@@ -53,8 +54,9 @@ regions_are ss = regions_from 1 ss
 constraints_from : (d : ℕ) (ss : List Scope)
     → flat_map constraints_of ss ≡ flat_map (λ (c : Cover). c.region ++ flat_map (λ (r : Remainder). r.region) c.waiting) (covers_from d ss)
 constraints_from d [] = refl
-constraints_from d (s ∷ ss) = λ i.
-    (listed s.region ++ flat_map-map (λ (r : Remainder). r.region) remainder_of (chained s.waiting) (~ i)) ++ constraints_from (suc d) ss i
+constraints_from d (s ∷ ss) =
+    let e = sym (flat_map-map (λ (r : Remainder). r.region) remainder_of (chained s.waiting)) in
+    λ i. (listed s.region ++ e i) ++ constraints_from (suc d) ss i
 
 pub any_constrained : (p : Con → Bool) (ss : List Scope)
     → list_any p (flat_map constraints_of ss) ≡ list_any p (flat_map (λ (c : Cover). c.region ++ flat_map (λ (r : Remainder). r.region) c.waiting) (reverse (covers_from 1 ss)))
