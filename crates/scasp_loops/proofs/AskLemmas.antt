@@ -1,9 +1,9 @@
 -- What is asked of the literals.
-use Rattle.std.proofs.Common.{◌≡◌, ◌+◌, ◌≤◌, ℕ, Bool, true, false, not, ◌||◌, if◌then◌else◌, List, [], ◌∷◌, ◌++◌, append_assoc, append-nil, length, filter, map, drop, slice_get, Option, None, Some, arith, refl, ap, sym, ◌∙◌}
+use Rattle.std.proofs.Common.{◌≡◌, ◌+◌, ◌≤◌, ℕ, Bool, true, false, not, ◌&&◌, ◌||◌, nat_eq, if◌then◌else◌, List, [], ◌∷◌, ◌++◌, append_assoc, append-nil, length, filter, map, drop, slice_get, Option, None, Some, arith, refl, ap, sym, ◌∙◌}
 use Rattle.std.proofs.lemmas.List.{at_drop_more, drop_all}
 use Rattle.std.proofs.lemmas.Option.{get_or_from_slice_get, slice_get_within}
 use Rattle.scasp_loops.specs.Held.{literal_of}
-use Rattle.scasp_loops.specs.Inside.Asked.{is_seen, standing}
+use Rattle.scasp_loops.specs.Inside.Asked.{is_alike, is_left_firm, is_seen, standing}
 use Rattle.scasp_loops.specs.Inside.Open.{OpensAt, open_among, open_in}
 use Rattle.scasp_loops.specs.Inside.Zipped.{literals_from}
 use Rattle.scasp_loops.specs.declared.entry.Entry.{Entry}
@@ -17,6 +17,9 @@ use Rattle.scasp_search_rules.specs.declared.states.state.Literal.{Literal}
 use Rattle.scasp_search_rules.specs.declared.states.state.Made.{Made}
 use Rattle.scasp_search_rules.specs.declared.states.state.State.{State}
 use Rattle.scasp_search_state.specs.Words.{first_number}
+use Rattle.scasp_search_rules.specs.Successors.Variables.{meaning}
+use Rattle.scasp_syntax.specs.Same.{same_bool, same_tms}
+use Rattle.scasp_syntax.specs.Values.{all_under}
 use Rattle.scasp_syntax.specs.declared.con.Con.{Con}
 use Rattle.scasp_syntax.specs.declared.atom.Lit.{Lit}
 use Rattle.scasp_unify.specs.declared.bindings.Binding.{Binding}
@@ -81,6 +84,20 @@ none-left : (es : List Entry) (ms : List Marks) (at : ℕ) → length ms ≤ len
 none-left es ms at h w = drop_all at (literals_from 0 es ms) (omega (arith, w, literals_length es ms h))
 
 -- ---- a literal that is seen
+
+-- one of another sign or name is not
+unalike : (v g p q r t : Bool) → (p && q && r) ≡ false → false ≡ (v && (g && (p && (q && r && t))))
+unalike false g p q r t h = refl
+unalike true false p q r t h = refl
+unalike true true false q r t h = refl
+unalike true true true false r t h = refl
+unalike true true true true false t h = refl
+unalike true true true true true t h = absurd (cc h)
+
+pub unseen_apart : (bs : List Binding) (cases : List ℕ) (l : Lit) (e : Entry) (m : Marks) → is_alike e.lit l ≡ false → false ≡ is_seen bs cases l (literal_of 0 e m)
+unseen_apart bs cases l e m h =
+    unalike (is_left_firm cases (literal_of 0 e m)) (not m.is_general) (same_bool e.lit.positive l.positive) (same_bool e.lit.atom.minus l.atom.minus) (nat_eq e.lit.atom.name l.atom.name)
+    (same_tms (all_under (meaning (reading bs)) e.lit.atom.args) (all_under (meaning (reading bs)) l.atom.args)) h
 
 seen-first : (bs : List Binding) (cases : List ℕ) (l : Lit) (seen : Bool) (es : List Entry) (ms : List Marks) (at : ℕ) (e : Entry) (m : Marks) → slice_get es at ≡ Some e → slice_get ms at ≡ Some m
     → is_seen bs cases l (literal_of 0 e m) ≡ seen

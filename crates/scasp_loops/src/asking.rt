@@ -2,7 +2,7 @@
 ghost use Rattle.std.specs.Prelude.{◌≡◌, ◌≤◌, false, filter, length, IfOk};
 ghost use Rattle.std.specs.List.{list_all};
 ghost use Rattle.scasp_loops.specs.Held.{literal_of};
-ghost use Rattle.scasp_loops.specs.Inside.Asked.{is_alike, is_seen};
+ghost use Rattle.scasp_loops.specs.Inside.Asked.{is_alike, is_left_firm, is_seen};
 ghost use Rattle.scasp_loops.specs.Inside.Open.{open_among};
 ghost use Rattle.scasp_loops.specs.Inside.Zipped.{literals_from};
 ghost use Rattle.scasp_readings.specs.Readings.{reading};
@@ -96,7 +96,15 @@ fn is_firm(entry: &Entry, marks: Marks) -> bool
     !(entry.lit.positive && marks.loops)
 }
 
+/// Whether the literal is done, firm and in scope, where these cases are open.
+fn is_left_firm(entry: &Entry, marks: Marks, cases: &[u64]) -> bool
+    ensures { result ≡ is_left_firm cases.now (literal_of 0 entry.now marks) }
+{
+    marks.is_done && is_firm(entry, marks) && is_in_scope(entry, cases)
+}
+
 /// Whether a call sees the literal again, where these cases are open.
+#[tactic(auto, using(crate::proofs::AskLemmas::unseen_apart))]
 fn is_seen(
     alloc: Global,
     bound: &Bound,
@@ -107,7 +115,7 @@ fn is_seen(
 ) -> Result<bool, Memory>
     ensures { IfOk result (λ seen. seen ≡ is_seen bound.now.now cases.now lit.now (literal_of 0 entry.now marks)) }
 {
-    if marks.is_done && is_firm(entry, marks) && is_in_scope(entry, cases) {
+    if is_alike(&entry.lit, lit) && is_left_firm(entry, marks, cases) {
         is_same(alloc, bound, lit, entry, marks)
     } else {
         Ok(false)

@@ -16,9 +16,13 @@ use Rattle.scasp_unify.specs.declared.bindings.Binding.{Binding}
 abbrev pub is_alike : Lit → Lit → Bool
 is_alike l k = same_bool l.positive k.positive && same_bool l.atom.minus k.atom.minus && nat_eq l.atom.name k.atom.name
 
+-- it is done, firm and in scope, where these cases are open
+abbrev pub is_left_firm : List ℕ → Literal → Bool
+is_left_firm cases a = a.is_done && is_firm a && list_all (λ k. among k cases) a.cases
+
 -- a call of l sees the literal again, where these cases are open
 abbrev pub is_seen : List Binding → List ℕ → Lit → Literal → Bool
-is_seen bs cases l a = a.is_done && is_firm a && list_all (λ k. among k cases) a.cases && is_same (reading bs) l a
+is_seen bs cases l a = is_left_firm cases a && is_same (reading bs) l a
 
 -- the state of these variables, bindings and literals
 abbrev pub standing : List Made → List Binding → List Literal → State
