@@ -3,7 +3,7 @@ use Rattle.std.proofs.Common.{◌≡◌, ◌+◌, ◌≤◌, ℕ, Bool, true, fa
 use Rattle.std.proofs.lemmas.List.{at_drop_more, drop_all}
 use Rattle.std.proofs.lemmas.Option.{get_or_from_slice_get, slice_get_within}
 use Rattle.scasp_loops.specs.Held.{literal_of}
-use Rattle.scasp_loops.specs.Inside.Asked.{is_alike, is_left_firm, is_seen, standing}
+use Rattle.scasp_loops.specs.Inside.Asked.{is_alike, is_left_firm, is_seen, only_if, standing}
 use Rattle.scasp_loops.specs.Inside.Open.{OpensAt, open_among, open_in}
 use Rattle.scasp_loops.specs.Inside.Zipped.{literals_from}
 use Rattle.scasp_loops.specs.declared.entry.Entry.{Entry}
@@ -141,19 +141,18 @@ apart-first s l is es ms at e m g k h =
     by true = refl
     by false = refl
 
-pub apart_more : (s : State) (l : Lit) (made : List Con) (c : Con) (es : List Entry) (ms : List Marks) (at : ℕ) (e : Entry) (m : Marks) → slice_get es at ≡ Some e → slice_get ms at ≡ Some m
-    → is_opposite s l (literal_of 0 e m) ≡ true → c ≡ differing l (literal_of 0 e m)
-    → (made ++ c ∷ []) ++ map (differing l) (filter (is_opposite s l) (drop (at + 1) (literals_from 0 es ms)))
+pub apart_next : (s : State) (l : Lit) (made : List Con) (is : Bool) (es : List Entry) (ms : List Marks) (at : ℕ) (e : Entry) (m : Marks) → slice_get es at ≡ Some e → slice_get ms at ≡ Some m
+    → is ≡ is_opposite s l (literal_of 0 e m)
+    → (made ++ only_if is (differing l (literal_of 0 e m))) ++ map (differing l) (filter (is_opposite s l) (drop (at + 1) (literals_from 0 es ms)))
     ≡ made ++ map (differing l) (filter (is_opposite s l) (drop at (literals_from 0 es ms)))
-apart_more s l made c es ms at e m g k h d =
-    append_assoc made (c ∷ []) (apart s l (drop (at + 1) (literals_from 0 es ms)))
-    ∙ ap (λ (x : Con). made ++ (x ∷ apart s l (drop (at + 1) (literals_from 0 es ms)))) d
-    ∙ ap (λ (xs : List Con). made ++ xs) (sym (apart-first s l true es ms at e m g k h))
-
-pub apart_past : (s : State) (l : Lit) (es : List Entry) (ms : List Marks) (at : ℕ) (e : Entry) (m : Marks) → slice_get es at ≡ Some e → slice_get ms at ≡ Some m
-    → is_opposite s l (literal_of 0 e m) ≡ false
-    → map (differing l) (filter (is_opposite s l) (drop (at + 1) (literals_from 0 es ms))) ≡ map (differing l) (filter (is_opposite s l) (drop at (literals_from 0 es ms)))
-apart_past s l es ms at e m g k h = sym (apart-first s l false es ms at e m g k h)
+apart_next s l made is es ms at e m g k h =
+    append_assoc made (only_if is (differing l (literal_of 0 e m))) (apart s l (drop (at + 1) (literals_from 0 es ms)))
+    ∙ ap (λ (xs : List Con). made ++ xs) (by is ∙ sym (apart-first s l is es ms at e m g k (sym h)))
+  where
+    by : (b : Bool) → only_if b (differing l (literal_of 0 e m)) ++ apart s l (drop (at + 1) (literals_from 0 es ms))
+        ≡ (if b then differing l (literal_of 0 e m) ∷ apart s l (drop (at + 1) (literals_from 0 es ms)) else apart s l (drop (at + 1) (literals_from 0 es ms)))
+    by true = refl
+    by false = refl
 
 pub apart_none : (s : State) (l : Lit) (made : List Con) (es : List Entry) (ms : List Marks) (at : ℕ) → length ms ≤ length es → length ms ≤ at
     → made ≡ made ++ map (differing l) (filter (is_opposite s l) (drop at (literals_from 0 es ms)))

@@ -123,6 +123,7 @@ fn is_seen(
 }
 
 /// The number of the earliest literal that a call sees again, where these cases are open.
+#[tactic(auto, using(crate::proofs::AskLemmas::seen_here, crate::proofs::AskLemmas::seen_past, crate::proofs::AskLemmas::seen_none))]
 pub(crate) fn first_seen(
     alloc: Global,
     entries: &[Entry],

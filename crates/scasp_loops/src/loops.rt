@@ -185,6 +185,7 @@ impl Loops {
     }
 
     /// Whether there is a mark.
+    #[tactic(auto, using(crate::proofs::ZipLemmas::marked_each))]
     pub fn is_marked(&self) -> bool
         ensures { result ≡ is_marked self.now.before }
     {

@@ -1,7 +1,7 @@
 //! Literals of the other sign.
-ghost use Rattle.std.specs.Prelude.{◌≡◌, ◌≤◌, [], filter, length, map, IfOk};
+ghost use Rattle.std.specs.Prelude.{◌≡◌, ◌≤◌, [], ◌++◌, filter, length, map, IfOk, OnOk};
 ghost use Rattle.scasp_loops.specs.Held.{literal_of};
-ghost use Rattle.scasp_loops.specs.Inside.Asked.{standing};
+ghost use Rattle.scasp_loops.specs.Inside.Asked.{only_if, standing};
 ghost use Rattle.scasp_loops.specs.Inside.Zipped.{literals_from};
 ghost use Rattle.scasp_search_rules.specs.Successors.Calls.{differing, is_free, is_opposite, opposites};
 ghost use Rattle.scasp_search_rules.specs.Successors.Variables.{has_universal};
@@ -97,7 +97,24 @@ fn differing(alloc: Global, lit: &Lit, entry: &Entry) -> Result<Con, Memory>
     ))
 }
 
+/// Puts that the arguments of the two literals are different behind the constraints of a list, if the two are opposite.
+fn push_differing(
+    alloc: Global,
+    are_opposite: bool,
+    lit: &Lit,
+    entry: &Entry,
+    list: &mut Cons,
+) -> Result<(), Memory>
+    ensures { OnOk result (list.new ≡ list.old ++ only_if are_opposite (differ (list_term (items lit.now.atom.args)) (list_term (items entry.now.lit.atom.args)))) }
+{
+    if are_opposite {
+        list.push(differing(alloc, lit, entry)?)?;
+    }
+    Ok(())
+}
+
 /// That the arguments differ from those of each literal that is opposite.
+#[tactic(auto, using(crate::proofs::AskLemmas::apart_next, crate::proofs::AskLemmas::apart_none))]
 fn all_differing(
     alloc: Global,
     entries: &[Entry],
@@ -113,9 +130,8 @@ fn all_differing(
     let mut at = 0;
     'literals: while at < marks.len() {
         let entry = entry_at(entries, at);
-        if is_opposite(alloc, bound, variables, lit, entry, marks_at(marks, at))? {
-            made.push(differing(alloc, lit, entry)?)?;
-        }
+        let are_opposite = is_opposite(alloc, bound, variables, lit, entry, marks_at(marks, at))?;
+        push_differing(alloc, are_opposite, lit, entry, &mut made)?;
         at += 1;
     }
     Ok(made)
