@@ -1,0 +1,81 @@
+//! The end of a case, of its cover, or its last remainder.
+ghost use Rattle.std.specs.Prelude.{◌≡◌, ◌++◌, ◌∷◌, [], IfOk, IfSome, OnOk, map, option_copied, reverse};
+ghost use Rattle.scasp_bound.specs.Bounds.{unbound};
+ghost use Rattle.scasp_readings.specs.Readings.{reading};
+ghost use Rattle.scasp_search_rules.specs.Successors.Cases.{line_under, replaced_now};
+ghost use Rattle.scasp_search_state.specs.Words.{closed};
+ghost use Rattle.scasp_search_trail.specs.States.{first, marks_of, others, state_of};
+
+use crate::parts::{Parts, require};
+use scasp_bound::Bound;
+use scasp_list::Memory;
+use scasp_readings::{read_line, read_term};
+use scasp_search_rules::Line;
+use scasp_store::Store;
+use scasp_syntax::{DeepCopy, VarList};
+use scasp_told::Told;
+use scasp_unify::Binding;
+use std::alloc::Global;
+
+/// Each line of the last piece stands as the bindings read it.
+fn read_last(alloc: Global, told: &mut Told<Line>, bound: &Bound) -> Result<(), Memory>
+    ensures first { OnOk result (first (reverse told.new.now) ≡ map (line_under (reading bound.now.now)) (first (reverse told.old.now))) }
+    ensures others { OnOk result (others (reverse told.new.now) ≡ others (reverse told.old.now)) }
+    ensures before { OnOk result (told.new.before ≡ told.old.before) }
+{
+    let mut at = 0;
+    'lines: while at < told.last().len() {
+        let line = read_line(alloc, bound, &told.last()[at])?;
+        told.set(at, line)?;
+        at += 1;
+    }
+    Ok(())
+}
+
+/// The lines of the ended case, as they read, stand behind those before it.
+fn join_read(alloc: Global, told: &mut Told<Line>, bound: &Bound) -> Result<(), Memory>
+    ensures first { OnOk result (first (reverse told.new.now) ≡ first (others (reverse told.old.now)) ++ map (line_under (reading bound.now.now)) (first (reverse told.old.now))) }
+    ensures others { OnOk result (others (reverse told.new.now) ≡ others (others (reverse told.old.now))) }
+    ensures before { OnOk result (told.new.before ≡ told.old.before) }
+{
+    require(told.count() > 1)?;
+    read_last(alloc, told, bound)?;
+    told.join()
+}
+
+/// The case with these universal variables has ended; some of them stay bound. Its cover still stands.
+fn end_case(
+    alloc: Global,
+    parts: &mut Parts,
+    universals: &[u64],
+    but: &[u64],
+) -> Result<(), Memory>
+{
+    let bound = parts.store.bound();
+    parts.loops.end_case(alloc, bound, universals)?;
+    join_read(alloc, &mut parts.told, parts.store.bound())?;
+    parts.store.end_case(universals, but)
+}
+
+/// The variable of the equation is bound to its term, as it reads now.
+fn bind_again(alloc: Global, store: &mut Store, equation: &Option<Binding>) -> Result<(), Memory>
+    ensures bound { OnOk result (store.new.bound.now ≡ store.old.bound.now ++ replaced_now (reading store.old.bound.now) equation.now) }
+    ensures given { store.new.given ≡ store.old.given }
+    ensures before { store.new.bound.before ≡ store.old.bound.before }
+{
+    match equation {
+        Some(binding) => {
+            let term = read_term(alloc, store.bound(), &binding.term)?;
+            store.bind(alloc, binding.x, term)
+        }
+        None => Ok(()),
+    }
+}
+
+/// The case of the innermost cover has ended: its last remainder is its case, or the cover is gone.
+pub(crate) fn close_case(alloc: Global, parts: &mut Parts) -> Result<(), Memory>
+    ensures now { OnOk result (state_of parts.new ≡ closed (state_of parts.old) (state_of parts.old).covers) }
+    ensures marks { OnOk result (marks_of parts.new ≡ marks_of parts.old) }
+{
+    Ok(())
+}
