@@ -1,18 +1,19 @@
 //! The end of a case, of its cover, or its last remainder.
-ghost use Rattle.std.specs.Prelude.{◌≡◌, ◌++◌, ◌∷◌, [], IfOk, IfSome, OnOk, map, option_copied, reverse};
+ghost use Rattle.std.specs.Prelude.{◌≡◌, ◌++◌, OnOk, map, reverse};
 ghost use Rattle.scasp_bound.specs.Bounds.{unbound};
 ghost use Rattle.scasp_readings.specs.Readings.{reading};
-ghost use Rattle.scasp_search_rules.specs.Successors.Cases.{line_under, replaced_now};
+ghost use Rattle.scasp_search_rules.specs.Successors.Cases.{kept_literal, line_under, replaced_now};
+ghost use Rattle.scasp_search_rules.specs.declared.states.state.State.{State as ThisState};
 ghost use Rattle.scasp_search_state.specs.Words.{closed};
 ghost use Rattle.scasp_search_trail.specs.States.{first, marks_of, others, state_of};
 
 use crate::parts::{Parts, require};
 use scasp_bound::Bound;
 use scasp_list::Memory;
+use scasp_loops::Loops;
 use scasp_readings::{read_line, read_term};
 use scasp_search_rules::Line;
 use scasp_store::Store;
-use scasp_syntax::{DeepCopy, VarList};
 use scasp_told::Told;
 use scasp_unify::Binding;
 use std::alloc::Global;
@@ -43,18 +44,27 @@ fn join_read(alloc: Global, told: &mut Told<Line>, bound: &Bound) -> Result<(), 
     told.join()
 }
 
-/// The case with these universal variables has ended; some of them stay bound. Its cover still stands.
+/// A case with these universal variables has ended; some of them stay bound.
 fn end_case(
     alloc: Global,
-    parts: &mut Parts,
+    loops: &mut Loops,
+    told: &mut Told<Line>,
+    store: &mut Store,
     universals: &[u64],
     but: &[u64],
 ) -> Result<(), Memory>
+    ensures literals { (s : ThisState) → s.literals ≡ loops.old.now → s.bound ≡ store.old.bound.now → OnOk result (loops.new.now ≡ map (kept_literal s universals.now) s.literals) }
+    ensures lines { OnOk result (first (reverse told.new.now) ≡ first (others (reverse told.old.now)) ++ map (line_under (reading store.old.bound.now)) (first (reverse told.old.now))) }
+    ensures pieces { OnOk result (others (reverse told.new.now) ≡ others (others (reverse told.old.now))) }
+    ensures bound { OnOk result (store.new.bound.now ≡ unbound universals.now but.now store.old.bound.now) }
+    ensures given { OnOk result (store.new.given ≡ store.old.given) }
+    ensures literals_before { OnOk result (loops.new.before ≡ loops.old.before) }
+    ensures lines_before { OnOk result (told.new.before ≡ told.old.before) }
+    ensures bound_before { OnOk result (store.new.bound.before ≡ store.old.bound.before) }
 {
-    let bound = parts.store.bound();
-    parts.loops.end_case(alloc, bound, universals)?;
-    join_read(alloc, &mut parts.told, parts.store.bound())?;
-    parts.store.end_case(universals, but)
+    loops.end_case(alloc, store.bound(), universals)?;
+    join_read(alloc, told, store.bound())?;
+    store.end_case(universals, but)
 }
 
 /// The variable of the equation is bound to its term, as it reads now.
@@ -77,5 +87,24 @@ pub(crate) fn close_case(alloc: Global, parts: &mut Parts) -> Result<(), Memory>
     ensures now { OnOk result (state_of parts.new ≡ closed (state_of parts.old) (state_of parts.old).covers) }
     ensures marks { OnOk result (marks_of parts.new ≡ marks_of parts.old) }
 {
-    Ok(())
+    if parts.scopes.depth() == 0 {
+        return Ok(());
+    }
+    let universals = parts.scopes.universals(alloc)?;
+    let xs = universals.as_slice();
+    let (loops, told, store) = (&mut parts.loops, &mut parts.told, &mut parts.store);
+    match parts.scopes.next() {
+        Some(rest) => {
+            end_case(alloc, loops, told, store, xs, rest.replaced.as_slice())?;
+            bind_again(alloc, store, &rest.equation)?;
+            told.open()?;
+            parts.scopes.take_up(parts.cases)?;
+            parts.cases = parts.cases.checked_add(1).ok_or(Memory)?;
+            Ok(())
+        }
+        None => {
+            end_case(alloc, loops, told, store, xs, &[])?;
+            parts.scopes.close()
+        }
+    }
 }

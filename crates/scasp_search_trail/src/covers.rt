@@ -1,15 +1,15 @@
 //! Covers, literals and lines.
-ghost use Rattle.std.specs.Prelude.{◌≡◌, ◌+◌, ◌∷◌, [], IfOk, OnOk, ◌&&◌, length, nat_eq};
+ghost use Rattle.std.specs.Prelude.{◌≡◌, ◌+◌, ◌∷◌, [], IfOk, OnOk, ◌&&◌, filter, length, nat_eq};
 ghost use Rattle.scasp_search_rules.specs.Successors.Calls.{can_be_seen, head_args, vars_of_clause, with_literal};
-ghost use Rattle.scasp_search_rules.specs.Successors.Cases.{unbound_of};
+ghost use Rattle.scasp_search_rules.specs.Successors.Cases.{with_cover};
 ghost use Rattle.scasp_search_rules.specs.Successors.Items.{with_line};
 ghost use Rattle.scasp_search_rules.specs.Successors.Replacing.{close_overflows};
 ghost use Rattle.scasp_search_state.specs.Words.{first_number, innermost, opened};
 ghost use Rattle.scasp_search_trail.specs.States.{marks_of, state_of};
 ghost use Rattle.scasp_syntax.specs.Tm.{items};
 
-use crate::parts::{Parts, require};
-use scasp_forall::{Opening, Scopes, unbound_from};
+use crate::parts::Parts;
+use scasp_forall::{Opening, unbound_from};
 use scasp_list::Memory;
 use scasp_readings::lines_overflow;
 use scasp_search_calls::{head_args, vars_of_clause};
@@ -112,7 +112,8 @@ pub(crate) fn tell(parts: &mut Parts, line: Line) -> Result<(), Memory>
     ensures now { OnOk result (state_of parts.new ≡ with_line (state_of parts.old) line) }
     ensures marks { OnOk result (marks_of parts.new ≡ marks_of parts.old) }
 {
-    require(parts.told.count() > 0)?;
+    let count = parts.told.count();
+    prove!(count > 0);
     parts.told.put(line)
 }
 

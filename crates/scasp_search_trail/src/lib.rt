@@ -8,6 +8,8 @@ mod partings;
 mod parts;
 mod questions;
 mod splits;
+#[cfg(test)]
+mod tests;
 mod trail;
 
 pub use trail::Trail;

@@ -1,5 +1,5 @@
 //! What the present state says of variables and constraints, and whether lists have valuations.
-ghost use Rattle.std.specs.Prelude.{◌≡◌, [], ◌∷◌, ◌++◌, IfOk, false, filter, flat_map, if◌then◌else◌, not};
+ghost use Rattle.std.specs.Prelude.{◌≡◌, [], ◌∷◌, ◌++◌, IfOk, false, filter, if◌then◌else◌, not, slice_get};
 ghost use Rattle.scasp_hint.specs.Satisfying.{sat};
 ghost use Rattle.scasp_search_constraints.specs.Assuming.Taken.{Gives};
 ghost use Rattle.scasp_search_rules.specs.Successors.Assumptions.{against, along, as_read, asked_for, status};
@@ -10,7 +10,6 @@ ghost use Rattle.scasp_search_rules.specs.Successors.Variables.{is_empty, is_kin
 ghost use Rattle.scasp_search_trail.specs.States.{state_of};
 
 use crate::parts::Parts;
-use scasp_forall::Scopes;
 use scasp_list::Memory;
 use scasp_readings::{con_vars, has_number_test, read_simple, stands_in};
 use scasp_search_constraints::SearchErr;
@@ -75,12 +74,7 @@ pub(crate) fn is_constrained(alloc: Global, parts: &Parts, x: u64) -> Result<boo
 }
 
 /// Whether the test that the variable is a number is given, or stands in a region down to this depth.
-pub(crate) fn is_number_by(
-    alloc: Global,
-    parts: &Parts,
-    depth: u64,
-    x: u64,
-) -> Result<bool, Memory>
+pub(crate) fn is_number_by(alloc: Global, parts: &Parts, depth: u64, x: u64) -> Result<bool, Memory>
     ensures { IfOk result (λ is. is ≡ is_number_by (state_of parts.now) depth x) }
 {
     let bound = parts.store.bound();

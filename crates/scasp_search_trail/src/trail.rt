@@ -5,7 +5,7 @@ ghost use Rattle.scasp_search_trail.specs.States.{now_of, points_of};
 
 use crate::closing::close_case;
 use crate::copying::state_copy;
-use crate::covers::{close_overflows, innermost, open_cover, open_literal, tell};
+use crate::covers::{close_overflows, innermost, open_cover, open_literal, seen, tell};
 use crate::parts::Parts;
 use crate::questions::{
     asks, asks_with, is_constrained, is_number_by, regions, status, universals_of,
@@ -16,7 +16,7 @@ use scasp_readings::read_simple;
 use scasp_search_constraints::SearchErr;
 use scasp_search_rules::{Kind, Line, Made, Repeated, State, Status, Task, Tasks};
 use scasp_search_state::{Begun, Choice, Situation};
-use scasp_syntax::{Con, Cons, Lit, Program, Term, Terms, VarList};
+use scasp_syntax::{Con, Cons, DeepCopy, Lit, Program, Term, Terms, VarList};
 use std::alloc::Global;
 
 /// What a state that waits has beside the marks of its parts: what is left of its successors, and how many cases had begun.
@@ -126,7 +126,7 @@ impl Situation for Trail {
     }
 
     fn asks_context(&mut self, alloc: Global) -> Result<bool, SearchErr> {
-        let more = regions(alloc, &self.parts.scopes)?;
+        let more = regions(alloc, &self.parts)?;
         asks(alloc, &mut self.parts, more.as_slice())
     }
 
@@ -141,7 +141,7 @@ impl Situation for Trail {
     }
 
     fn innermost(&self) -> Option<Begun> {
-        innermost(&self.parts.scopes)
+        innermost(&self.parts)
     }
 
     fn waits(&self) -> bool {
@@ -194,7 +194,7 @@ impl Situation for Trail {
     // ---- lines and work
 
     fn tell(&mut self, line: Line) -> Result<(), Memory> {
-        self.parts.told.put(line)
+        tell(&mut self.parts, line)
     }
 
     fn put(&mut self, task: Task) -> Result<(), Memory> {
