@@ -2,7 +2,8 @@
 use Rattle.std.proofs.Common.{◌≡◌, ◌+◌, ◌≤◌, ℕ, zero, suc, Bool, true, false, ◌||◌, List, [], ◌∷◌, length, map, slice_get, slice_set, Some, arith, refl, ap, sym, ◌∙◌}
 use Rattle.std.specs.List.{list_any}
 use Rattle.std.proofs.lemmas.Bool.{and_parts}
-use Rattle.scasp_loops.specs.Held.{literal_of, reading}
+use Rattle.scasp_loops.specs.Held.{literal_of}
+use Rattle.scasp_readings.specs.Readings.{reading}
 use Rattle.scasp_loops.specs.Inside.Changed.{changed, changed_to, general_if}
 use Rattle.scasp_loops.specs.Inside.Zipped.{literals_from}
 use Rattle.scasp_loops.specs.declared.entry.Entry.{Entry}

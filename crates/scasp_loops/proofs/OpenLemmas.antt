@@ -1,9 +1,9 @@
 -- The innermost literal that is open.
 use Rattle.std.proofs.Common.{◌≡◌, ◌+◌, ◌-◌, ◌<◌, ◌≤◌, ℕ, zero, suc, Bool, true, false, not, ◌&&◌, if◌then◌else◌, List, [], ◌∷◌, ◌++◌, length, filter, reverse, slice_get, take, Option, None, Some, arith, refl, ap, sym, ◌∙◌}
 use Rattle.std.proofs.lemmas.List.{reverse-append, take_all}
-use Rattle.scasp_loops.specs.Held.{holding, left, literal_of, looped_out}
+use Rattle.scasp_loops.specs.Held.{literal_of}
 use Rattle.scasp_loops.specs.Inside.Changed.{changed, done, looped, looped_at}
-use Rattle.scasp_loops.specs.Inside.Open.{OpensAt, moved_if, open_among, open_in}
+use Rattle.scasp_loops.specs.Inside.Open.{OpensAt, holding, left, looped_out, moved_if, open_among, open_in}
 use Rattle.scasp_loops.specs.Inside.Zipped.{literals_from}
 use Rattle.scasp_loops.specs.declared.entry.Entry.{Entry}
 use Rattle.scasp_loops.specs.declared.entry.Marks.{Marks}
@@ -58,7 +58,7 @@ one_open es ms left count m p h d i =
 
 -- ---- all literals
 
-whole : (es : List Entry) (ms : List Marks) (n : ℕ) → n ≡ length ms → length ms ≤ length es → open_in n es ms ≡ open_among (literals_from 0 es ms)
+pub whole : (es : List Entry) (ms : List Marks) (n : ℕ) → n ≡ length ms → length ms ≤ length es → open_in n es ms ≡ open_among (literals_from 0 es ms)
 whole es ms n q h = ap open_among (take_all n (literals_from 0 es ms) (omega (arith, q, literals_length es ms h)))
 
 -- ---- a loop that leads out

@@ -9,7 +9,7 @@ use Rattle.scasp_loops.specs.declared.entry.Entry.{Entry}
 use Rattle.scasp_loops.specs.declared.entry.Marks.{Marks}
 use Rattle.scasp_search_rules.specs.Successors.Calls.{at_number}
 use Rattle.scasp_search_rules.specs.declared.states.state.Literal.{Literal}
-use Rattle.scasp_trail.specs.Past.{earlier, latest}
+use Rattle.scasp_trail.specs.Past.{earlier, is_marked, latest}
 
 -- ---- one item changed
 
@@ -185,3 +185,9 @@ fit_before [] [] f = f
 fit_before [] (ls ∷ mss) f = absurd f
 fit_before (ds ∷ ess) [] f = absurd f
 fit_before (ds ∷ ess) (ls ∷ mss) f = f.1
+
+pub marked_each : (ess : List (List Entry)) (mss : List (List Marks)) → FitEach ess mss → is_marked mss ≡ is_marked (literals_each ess mss)
+marked_each [] [] f = refl
+marked_each [] (ls ∷ mss) f = absurd f
+marked_each (ds ∷ ess) [] f = absurd f
+marked_each (ds ∷ ess) (ls ∷ mss) f = refl

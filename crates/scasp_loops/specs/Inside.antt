@@ -1,4 +1,5 @@
 -- What private functions alone speak of.
+pub mod Asked
 pub mod Changed
 pub mod Open
 pub mod Zipped

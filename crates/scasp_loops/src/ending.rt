@@ -1,10 +1,9 @@
 //! What literals read as at the end of a case.
 ghost use Rattle.std.specs.Prelude.{◌≡◌, ◌<◌, ◌≤◌, length, map, IfOk, OnOk};
 ghost use Rattle.std.specs.List.{list_any};
-ghost use Rattle.scasp_loops.specs.Held.{reading};
 ghost use Rattle.scasp_loops.specs.Inside.Changed.{changed, general_if};
 ghost use Rattle.scasp_loops.specs.Inside.Zipped.{literals_from};
-ghost use Rattle.scasp_search_rules.specs.Successors.Calls.{lit_under};
+ghost use Rattle.scasp_readings.specs.Readings.{reading};
 ghost use Rattle.scasp_search_rules.specs.Successors.Cases.{kept_literal};
 ghost use Rattle.scasp_search_rules.specs.Successors.Reading.{among};
 ghost use Rattle.scasp_unify.specs.Unification.{terms_vars};
@@ -13,36 +12,11 @@ use crate::entry::{Entry, Marks};
 use crate::innermost::{entry_at, marks_at};
 use scasp_bound::Bound;
 use scasp_list::Memory;
+use scasp_readings::{is_among, read_lit};
 use scasp_search_terms::constraints::push_all_vars;
-use scasp_syntax::{Atom, DeepCopy, Lit, Terms, VarList, are_ground};
+use scasp_syntax::{DeepCopy, Terms, VarList, are_ground};
 use scasp_trail::Trailed;
 use std::alloc::Global;
-
-/// The literal as the bindings read it.
-fn read_lit(alloc: Global, bound: &Bound, lit: &Lit) -> Result<Lit, Memory>
-    ensures { IfOk result (λ read. read ≡ lit_under (reading bound.now.now) lit.now) }
-{
-    Ok(Lit {
-        positive: lit.positive,
-        atom: Atom {
-            minus: lit.atom.minus,
-            name: lit.atom.name,
-            args: bound.read_terms(alloc, &lit.atom.args)?,
-        },
-    })
-}
-
-/// Whether the variable is in the list.
-fn is_among(x: u64, xs: &[u64]) -> bool
-    ensures { result ≡ among x xs.now }
-{
-    for y in xs {
-        if x == *y {
-            return true;
-        }
-    }
-    false
-}
 
 /// Whether some variable of the terms is in the list.
 fn has_one_of(alloc: Global, terms: &Terms, xs: &[u64]) -> Result<bool, Memory>

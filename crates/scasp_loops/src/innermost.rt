@@ -1,8 +1,7 @@
 //! Literals that are open, and their marks.
 ghost use Rattle.std.specs.Prelude.{◌≡◌, ◌<◌, ◌≤◌, ◌&&◌, [], length, slice_get, true, MatchOption, Some, OnOk, ⊤};
-ghost use Rattle.scasp_loops.specs.Held.{left, looped_out};
 ghost use Rattle.scasp_loops.specs.Inside.Changed.{changed, done, looped, looped_at};
-ghost use Rattle.scasp_loops.specs.Inside.Open.{OpensAt, moved_if, open_in};
+ghost use Rattle.scasp_loops.specs.Inside.Open.{OpensAt, left, looped_out, moved_if, open_in};
 ghost use Rattle.scasp_loops.specs.Inside.Zipped.{literals_from};
 
 use crate::entry::{Entry, Marks};
@@ -27,7 +26,7 @@ pub(crate) fn marks_at(marks: &[Marks], at: usize) -> Marks
 
 /// The place of the last open literal among the first ones, so many.
 #[tactic(auto, using(crate::proofs::OpenLemmas::one_done, crate::proofs::OpenLemmas::one_open))]
-fn last_open(entries: &[Entry], marks: &[Marks], count: usize) -> Option<usize>
+pub(crate) fn last_open(entries: &[Entry], marks: &[Marks], count: usize) -> Option<usize>
     requires fit { length marks.now ≤ length entries.now }
     requires count { count ≤ length marks.now }
     ensures open { MatchOption result (open_in count entries.now marks.now ≡ []) (λ at. OpensAt entries.now marks.now count at) }

@@ -1,18 +1,24 @@
 //! Literals with their marks and cases.
-ghost use Rattle.std.specs.Prelude.{◌≡◌, ◌<◌, ◌≤◌, [], ◌∷◌, ◌++◌, length, map, slice_get, Some, IfOk, OnOk, OnErr};
+ghost use Rattle.std.specs.Prelude.{◌≡◌, ◌<◌, ◌≤◌, [], ◌∷◌, ◌++◌, false, filter, length, map, slice_get, Some, IfOk, OnOk, OnErr};
 ghost use Rattle.scasp_loops.specs.Inside.Zipped.{StandsAt, literals_from};
-ghost use Rattle.scasp_loops.specs.Held.{entered, left, literal_of, looped_out, reading};
+ghost use Rattle.scasp_loops.specs.Held.{entered, literal_of};
+ghost use Rattle.scasp_search_rules.specs.Successors.Calls.{ancestors, can_be_seen, differing, leave_literal, marked, nearest, open_cases, opposites};
 ghost use Rattle.scasp_search_rules.specs.Successors.Cases.{kept_literal};
-ghost use Rattle.scasp_trail.specs.Past.{earlier, latest};
+ghost use Rattle.scasp_search_rules.specs.declared.states.state.State.{State};
+ghost use Rattle.scasp_search_state.specs.Words.{first_number};
+ghost use Rattle.scasp_trail.specs.Past.{earlier, is_marked, latest};
 
+use crate::asking::{first_seen, nearest_open};
 use crate::ending::end_each;
 use crate::entry::{Entered, Entry, Marks};
 use crate::innermost::{end_last, entry_at, loop_out, marks_at};
+use crate::opposing::apart_from_opposites;
 use scasp_bound::Bound;
 use scasp_list::Memory;
-use scasp_search_rules::{CaseList, Literal, Literals};
-use scasp_syntax::{DeepCopy, Lit};
+use scasp_search_rules::{CaseList, Literal, Literals, Repeated};
+use scasp_syntax::{Cons, DeepCopy, Lit};
 use scasp_trail::Trailed;
+use scasp_variables::Variables;
 use std::alloc::Global;
 use std::marker::Model;
 
@@ -77,6 +83,55 @@ impl Loops {
         copies(alloc, self.entries.as_slice(), self.marks.as_slice())
     }
 
+    /// The nearest literal that is open and is this one, as the bindings read both.
+    #[tactic(auto, using(crate::proofs::AskLemmas::nearest_of))]
+    pub fn nearest(
+        &self,
+        alloc: Global,
+        bound: &Bound,
+        lit: &Lit,
+    ) -> Result<Option<Repeated>, Memory>
+        ensures { (s : State) → s.literals ≡ self.now.now → s.bound ≡ bound.now.now → IfOk result (λ found. found ≡ nearest s lit.now false (ancestors s)) }
+    {
+        let entries = self.entries.as_slice();
+        let found = nearest_open(alloc, entries, self.marks.as_slice(), bound, lit)?;
+        Ok(found)
+    }
+
+    /// The number of the earliest literal that a call of this one sees again, as the bindings read both. These are the cases
+    /// that are open.
+    #[tactic(auto, using(crate::proofs::AskLemmas::seen_of))]
+    pub fn seen(
+        &self,
+        alloc: Global,
+        bound: &Bound,
+        cases: &[u64],
+        lit: &Lit,
+    ) -> Result<Option<u64>, Memory>
+        ensures { (s : State) → s.literals ≡ self.now.now → s.bound ≡ bound.now.now → open_cases s ≡ cases.now → IfOk result (λ found. found ≡ first_number (filter (can_be_seen s lit.now) s.literals)) }
+    {
+        let entries = self.entries.as_slice();
+        let found = first_seen(alloc, entries, self.marks.as_slice(), bound, cases, lit)?;
+        Ok(found)
+    }
+
+    /// That the arguments differ from those of each literal of the other sign, where neither speaks of a universal variable.
+    #[tactic(auto, using(crate::proofs::AskLemmas::opposites_of))]
+    pub fn opposites(
+        &self,
+        alloc: Global,
+        bound: &Bound,
+        variables: &Variables,
+        lit: &Lit,
+    ) -> Result<Cons, Memory>
+        ensures { (s : State) → s.literals ≡ self.now.now → s.bound ≡ bound.now.now → s.made ≡ variables.now.now → IfOk result (λ made. made ≡ map (differing lit.now) (opposites s lit.now)) }
+    {
+        let entries = self.entries.as_slice();
+        let marks = self.marks.as_slice();
+        let made = apart_from_opposites(alloc, entries, marks, bound, variables, lit)?;
+        Ok(made)
+    }
+
     /// One more literal, inside these cases.
     #[tactic(auto, using(crate::proofs::ZipLemmas::one_more, crate::proofs::ZipLemmas::none_more, crate::proofs::ZipLemmas::literals_length))]
     pub fn open(&mut self, lit: Lit, cases: CaseList) -> Result<(), Memory>
@@ -95,32 +150,46 @@ impl Loops {
     }
 
     /// A positive loop leads out of the innermost literal that is open.
+    #[tactic(auto, using(crate::proofs::StateLemmas::looped_of))]
     pub fn loops_out(&mut self) -> Result<(), Memory>
-        ensures now { OnOk result (self.new.now ≡ looped_out self.old.now) }
+        ensures now { (s : State) → s.literals ≡ self.old.now → OnOk result (record s { literals = self.new.now } ≡ marked (ancestors s) s) }
         ensures before { self.new.before ≡ self.old.before }
     {
-        loop_out(self.entries.as_slice(), &mut self.marks)
+        loop_out(self.entries.as_slice(), &mut self.marks)?;
+        Ok(())
     }
 
     /// The innermost literal that is open is done.
+    #[tactic(auto, using(crate::proofs::StateLemmas::left_of))]
     pub fn leave_literal(&mut self) -> Result<(), Memory>
-        ensures now { OnOk result (self.new.now ≡ left self.old.now) }
+        ensures now { (s : State) → s.literals ≡ self.old.now → OnOk result (record s { literals = self.new.now } ≡ leave_literal s) }
         ensures before { self.new.before ≡ self.old.before }
     {
-        end_last(self.entries.as_slice(), &mut self.marks)
+        end_last(self.entries.as_slice(), &mut self.marks)?;
+        Ok(())
     }
 
     /// A case with these universal variables ends: each literal stands as the bindings read it now.
+    #[tactic(auto, using(crate::proofs::StateLemmas::kept_of))]
     pub fn end_case(
         &mut self,
         alloc: Global,
         bound: &Bound,
         universals: &[u64],
     ) -> Result<(), Memory>
-        ensures now { OnOk result (self.new.now ≡ map (kept_literal (reading bound.now.now) universals.now) self.old.now) }
+        ensures now { (s : State) → s.literals ≡ self.old.now → s.bound ≡ bound.now.now → OnOk result (self.new.now ≡ map (kept_literal s universals.now) s.literals) }
         ensures before { self.new.before ≡ self.old.before }
     {
-        end_each(alloc, &mut self.entries, &mut self.marks, bound, universals)
+        end_each(alloc, &mut self.entries, &mut self.marks, bound, universals)?;
+        Ok(())
+    }
+
+    /// Whether there is a mark.
+    #[tactic(auto, using(crate::proofs::ZipLemmas::marked_each))]
+    pub fn is_marked(&self) -> bool
+        ensures { result ≡ is_marked self.now.before }
+    {
+        self.marks.is_marked()
     }
 
     /// Marks the literals as they are now.

@@ -4,7 +4,10 @@ use Rattle.scasp_loops.specs.Held.{literal_of}
 use Rattle.scasp_loops.specs.Inside.Zipped.{literals_from}
 use Rattle.scasp_loops.specs.declared.entry.Entry.{Entry}
 use Rattle.scasp_loops.specs.declared.entry.Marks.{Marks}
+use Rattle.scasp_search_rules.specs.Successors.Calls.{ancestors, leave_literal, marked}
+use Rattle.scasp_search_rules.specs.Successors.Search.{nothing}
 use Rattle.scasp_search_rules.specs.declared.states.state.Literal.{Literal}
+use Rattle.scasp_search_rules.specs.declared.states.state.State.{State}
 
 abbrev pub open_among : List Literal → List Literal
 open_among ls = filter (λ a. not a.is_done) (reverse ls)
@@ -22,3 +25,15 @@ abbrev pub moved_if : Bool → List Literal → Option ℕ
 moved_if false bs = None
 moved_if true [] = None
 moved_if true (b ∷ bs) = if b.lit.positive then Some b.number else None
+
+-- the state that has these literals and nothing else
+abbrev pub holding : List Literal → State
+holding ls = record nothing { literals = ls }
+
+-- the literals where a positive loop leads out of the innermost one that is open
+abbrev pub looped_out : List Literal → List Literal
+looped_out ls = (marked (ancestors (holding ls)) (holding ls)).literals
+
+-- the literals where the innermost one that is open is done
+abbrev pub left : List Literal → List Literal
+left ls = (leave_literal (holding ls)).literals

@@ -1,7 +1,7 @@
 use Rattle.std.proofs.Common.{arith, ◌∙◌}
 use Rattle.scasp_loops.proofs.EndLemmas.{all_kept}
 use Rattle.scasp_loops.proofs.ZipLemmas.{literals_length}
-use Rattle.scasp_loops.specs.Held.{reading}
+use Rattle.scasp_readings.specs.Readings.{reading}
 use Rattle.scasp_loops.specs.Inside.Zipped.{literals_from}
 use Rattle.scasp_search_rules.specs.Successors.Cases.{kept_literal}
 use Rattle.scasp_loops.proofs.ending.end_each.Goals as goal

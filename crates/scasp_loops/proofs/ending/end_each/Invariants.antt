@@ -1,5 +1,5 @@
 use Rattle.std.proofs.Common.{◌≡◌, ◌-◌, length}
-use Rattle.scasp_loops.specs.Held.{reading}
+use Rattle.scasp_readings.specs.Readings.{reading}
 use Rattle.scasp_loops.specs.Inside.Changed.{changed_to}
 use Rattle.scasp_loops.specs.Inside.Zipped.{literals_from}
 use Rattle.scasp_search_rules.specs.Successors.Cases.{kept_literal}

@@ -1,6 +1,6 @@
 use Rattle.std.proofs.Common.{◌≡◌, List, length, subst, sym, ap, ◌≤◌, ◌∙◌}
 use Rattle.scasp_loops.proofs.OpenLemmas.{left_one}
-use Rattle.scasp_loops.specs.Held.{left}
+use Rattle.scasp_loops.specs.Inside.Open.{left}
 use Rattle.scasp_loops.specs.Inside.Changed.{changed, done, looped_at}
 use Rattle.scasp_loops.specs.Inside.Zipped.{literals_from}
 use Rattle.scasp_loops.specs.declared.entry.Marks.{Marks}
