@@ -74,7 +74,7 @@ first_none : (rs : List Remainder) → None ≡ first_of rs → rs ≡ []
 first_none [] e = refl
 first_none (r ∷ rs) e = absurd (cc e)
 
-later : List Remainder → List Remainder
+abbrev later : List Remainder → List Remainder
 later [] = []
 later (r ∷ rs) = rs
 

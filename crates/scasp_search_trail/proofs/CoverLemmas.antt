@@ -27,7 +27,7 @@ covers_length cs ps = lined_length (reverse cs) ps ∙ length-reverse cs
 
 -- ---- the innermost cover
 
-begun_of : Opening → Begun
+abbrev begun_of : Opening → Begun
 begun_of o = record { clause = o.clause; first = o.first; checks_head = o.checks_head }
 
 pub innermost_is : (cs : List Cover) (ps : List (List Line)) (o : Opening) → Some o ≡ opening_in cs
@@ -56,16 +56,16 @@ same_cases (c ∷ cs) ps = ap (λ (ks : List ℕ). c.case ∷ ks) (same_cases cs
 pub cases_around : (cs : List Cover) (ps : List (List Line))
     → map (λ (c : Cover). c.case) (filter (λ (c : Cover). not c.plain) (lined cs ps)) ≡ map (λ (c : Cover). c.case) (filter (λ (c : Cover). not c.plain) cs)
 cases_around [] ps = refl
-cases_around (c ∷ cs) ps = by (not c.plain) (cases_around cs (others ps))
+cases_around (c ∷ cs) ps = by (not c.plain) (filter (λ (d : Cover). not d.plain) (lined cs (others ps))) (filter (λ (d : Cover). not d.plain) cs) (cases_around cs (others ps))
   where
-    by : (b : Bool) {xs ys : List Cover} → map (λ (d : Cover). d.case) xs ≡ map (λ (d : Cover). d.case) ys
+    by : (b : Bool) (xs ys : List Cover) → map (λ (d : Cover). d.case) xs ≡ map (λ (d : Cover). d.case) ys
         → map (λ (d : Cover). d.case) (if b then record c { before = first ps } ∷ xs else xs) ≡ map (λ (d : Cover). d.case) (if b then c ∷ ys else ys)
-    by true e = ap (λ (ks : List ℕ). c.case ∷ ks) e
-    by false e = e
+    by true xs ys e = ap (λ (ks : List ℕ). c.case ∷ ks) e
+    by false xs ys e = e
 
 -- ---- constraints
 
-bare : Cover → Cover
+abbrev bare : Cover → Cover
 bare c = record c { before = [] }
 
 bare_lined : (cs : List Cover) (ps : List (List Line)) → map bare (lined cs ps) ≡ map bare cs
@@ -98,12 +98,12 @@ any_constrained p given cs ps = list_any-append p given (flat_map constraints (l
 regions_down : (d : ℕ) (cs : List Cover) (ps : List (List Line))
     → flat_map (λ (c : Cover). c.region) (filter (λ (c : Cover). nat_le c.depth d) (lined cs ps)) ≡ flat_map (λ (c : Cover). c.region) (filter (λ (c : Cover). nat_le c.depth d) cs)
 regions_down d [] ps = refl
-regions_down d (c ∷ cs) ps = by (nat_le c.depth d) (regions_down d cs (others ps))
+regions_down d (c ∷ cs) ps = by (nat_le c.depth d) (filter (λ (e : Cover). nat_le e.depth d) (lined cs (others ps))) (filter (λ (e : Cover). nat_le e.depth d) cs) (regions_down d cs (others ps))
   where
-    by : (b : Bool) {xs ys : List Cover} → flat_map (λ (e : Cover). e.region) xs ≡ flat_map (λ (e : Cover). e.region) ys
+    by : (b : Bool) (xs ys : List Cover) → flat_map (λ (e : Cover). e.region) xs ≡ flat_map (λ (e : Cover). e.region) ys
         → flat_map (λ (e : Cover). e.region) (if b then record c { before = first ps } ∷ xs else xs) ≡ flat_map (λ (e : Cover). e.region) (if b then c ∷ ys else ys)
-    by true e = ap (λ (zs : List Con). c.region ++ zs) e
-    by false e = e
+    by true xs ys e = ap (λ (zs : List Con). c.region ++ zs) e
+    by false xs ys e = e
 
 pub any_down : (p : Con → Bool) (given : List Con) (d : ℕ) (cs : List Cover) (ps : List (List Line))
     → list_any p (given ++ flat_map (λ (c : Cover). c.region) (filter (λ (c : Cover). nat_le c.depth d) (lined cs ps)))

@@ -93,7 +93,8 @@ one_more xs x = reverse-append xs (x ∷ [])
 join_append : (xs : List (List Line)) (p q : List Line) → join_last (xs ++ p ∷ q ∷ []) ≡ xs ++ (p ++ q) ∷ []
 join_append [] p q = refl
 join_append (x ∷ []) p q = refl
-join_append (x ∷ y ∷ xs) p q = ap (λ (ps : List (List Line)). x ∷ ps) (join_append (y ∷ xs) p q)
+join_append (x ∷ y ∷ []) p q = refl
+join_append (x ∷ y ∷ z ∷ xs) p q = ap (λ (ps : List (List Line)). x ∷ ps) (join_append (y ∷ z ∷ xs) p q)
 
 pub joined : (ps : List (List Line)) → 1 < length ps → reverse (join_last ps) ≡ (first (others (reverse ps)) ++ first (reverse ps)) ∷ others (others (reverse ps))
 joined ps h = by (reverse ps) refl
