@@ -1,18 +1,20 @@
 -- Covers that are kept, behind each change.
-use Rattle.std.proofs.Common.{◌≡◌, ◌+◌, ◌-◌, ◌<◌, ◌≤◌, ℕ, zero, suc, Bool, true, false, nat_eq, if◌then◌else◌, List, [], ◌∷◌, ◌++◌, length, map, take, slice_get, slice_set, Option, None, Some, arith, refl, ap, sym, ◌∙◌}
+use Rattle.std.proofs.Common.{◌≡◌, ◌+◌, ◌-◌, ◌<◌, ◌≤◌, ℕ, zero, suc, Bool, true, false, nat_eq, not, if◌then◌else◌, List, [], ◌∷◌, ◌++◌, length, map, reverse, take, slice_get, slice_set, Option, None, Some, is_some, arith, refl, ap, sym, ◌∙◌}
 use Rattle.std.proofs.lemmas.Bool.Decides.{Decides-eqb}
-use Rattle.std.proofs.lemmas.List.{length-append}
-use Rattle.std.specs.Option.{option_map}
-use Rattle.scasp_forall.specs.Covers.{first_of, is_there, last_cover, next_of, on_last, opening_of, universals_of, waits_in}
+use Rattle.std.proofs.lemmas.List.{length-append, reverse-append, take_all}
+use Rattle.scasp_forall.specs.Covers.{AreNumbered, first_of, next_in, on_last, opening_in, universals_in}
 use Rattle.scasp_forall.specs.Inside.Kept.{cover_of, covers_from, remainder_of}
 use Rattle.scasp_forall.specs.Inside.Listed.{listed}
 use Rattle.scasp_forall.specs.declared.scope.Rest.{Rest}
 use Rattle.scasp_forall.specs.declared.scope.Scope.{Scope}
 use Rattle.scasp_lines_places.specs.Places.Chains.{chained}
+use Rattle.scasp_search_rules.specs.Successors.Replacing.{has_universals}
+use Rattle.scasp_search_rules.specs.Successors.Search.{is_waiting, waits}
 use Rattle.scasp_search_rules.specs.Successors.Splits.{at_depth}
+use Rattle.scasp_search_rules.specs.Successors.Variables.{is_empty}
 use Rattle.scasp_search_rules.specs.declared.states.covers.Cover.{Cover}
 use Rattle.scasp_search_rules.specs.declared.states.covers.Remainder.{Remainder}
-use Rattle.scasp_trail.specs.Past.{earlier, latest}
+use Rattle.scasp_trail.specs.Past.{earlier, is_marked, latest}
 
 length-from : (d : ℕ) (ss : List Scope) → length (covers_from d ss) ≡ length ss
 length-from d [] = refl
@@ -20,6 +22,13 @@ length-from d (s ∷ ss) = ap suc (length-from (suc d) ss)
 
 pub covers_length : (ss : List Scope) → length (covers_from 1 ss) ≡ length ss
 covers_length ss = length-from 1 ss
+
+numbered_from : (d : ℕ) (ss : List Scope) → AreNumbered d (covers_from d ss)
+numbered_from d [] = tt
+numbered_from d (s ∷ ss) = (refl, numbered_from (suc d) ss)
+
+pub numbered : (ss : List Scope) → AreNumbered 1 (covers_from 1 ss)
+numbered ss = numbered_from 1 ss
 
 -- ---- one cover more, and one fewer
 
@@ -39,6 +48,23 @@ taken_from d (suc n) (s ∷ ss) = ap (λ cs. cover_of d s ∷ cs) (taken_from (s
 
 pub covers_taken : (n : ℕ) (ss : List Scope) → covers_from 1 (take n ss) ≡ take n (covers_from 1 ss)
 covers_taken n ss = taken_from 1 n ss
+
+place_from : (d j n : ℕ) (ss : List Scope) (s : Scope) → d + n ≡ j → slice_get ss n ≡ Some s → take (suc n) (covers_from d ss) ≡ take n (covers_from d ss) ++ cover_of j s ∷ []
+place_from d j n [] s q g = absurd (cc g)
+place_from d j zero (r ∷ ss) s q g =
+    let p : d ≡ j = omega (arith, q) in
+    let e : r ≡ s = cc g in
+    λ i. cover_of (p i) (e i) ∷ []
+place_from d j (suc n) (r ∷ ss) s q g = ap (λ cs. cover_of d r ∷ cs) (place_from (suc d) j n ss s (omega (arith, q)) g)
+
+-- one cover more is copied
+pub taken_more : (n m j : ℕ) (ss : List Scope) (s : Scope) → m ≡ n + 1 → j ≡ n + 1 → slice_get ss n ≡ Some s → take m (covers_from 1 ss) ≡ take n (covers_from 1 ss) ++ cover_of j s ∷ []
+taken_more n m j ss s e q g =
+    let p : m ≡ suc n = omega (arith, e) in
+    ap (λ k. take k (covers_from 1 ss)) p ∙ place_from 1 j n ss s (omega (arith, q)) g
+
+pub all_taken : (n : ℕ) (ss : List Scope) → length ss ≤ n → take n (covers_from 1 ss) ≡ covers_from 1 ss
+all_taken n ss h = take_all n (covers_from 1 ss) (omega (arith, h, covers_length ss))
 
 -- ---- the cover of a depth
 
@@ -95,44 +121,55 @@ changed_at j f ss s t p g h = changed_from 1 j (j - 1) f ss s t (omega (arith, p
 
 -- ---- the innermost cover
 
-pub no_last : (ss : List Scope) → length ss ≡ 0 → last_cover (covers_from 1 ss) ≡ None
-no_last [] h = refl
-no_last (s ∷ ss) h = absurd (omega (arith, h))
+pub none_last : (ss : List Scope) → length ss ≡ 0 → reverse (covers_from 1 ss) ≡ []
+none_last [] h = refl
+none_last (s ∷ ss) h = absurd (omega (arith, h))
 
-last_from : (d j : ℕ) (ss : List Scope) (s : Scope) → d + length ss ≡ j → last_cover (covers_from d (ss ++ s ∷ [])) ≡ Some (cover_of j s)
-last_from d j [] s q = let p : d ≡ j = omega (arith, q) in ap (λ (k : ℕ). Some (cover_of k s)) p
-last_from d j (r ∷ []) s q = let p : suc d ≡ j = omega (arith, q) in ap (λ (k : ℕ). Some (cover_of k s)) p
-last_from d j (r ∷ q' ∷ ss) s q = last_from (suc d) j (q' ∷ ss) s (omega (arith, q))
+pub last_is : (ss before : List Scope) (s : Scope) → ss ≡ before ++ s ∷ [] → reverse (covers_from 1 ss) ≡ cover_of (1 + length before) s ∷ reverse (covers_from 1 before)
+last_is ss before s e =
+    let n : ℕ = 1 + length before in
+    ap (λ rs. reverse (covers_from 1 rs)) e ∙ ap reverse (more_from 1 n before s refl) ∙ reverse-append (covers_from 1 before) (cover_of n s ∷ [])
 
-pub last_is : (ss before : List Scope) (s : Scope) → ss ≡ before ++ s ∷ [] → last_cover (covers_from 1 ss) ≡ Some (cover_of (1 + length before) s)
-last_is ss before s e = ap (λ rs. last_cover (covers_from 1 rs)) e ∙ last_from 1 (1 + length before) before s refl
+pub no_opening : (ss : List Scope) → length ss ≡ 0 → None ≡ opening_in (reverse (covers_from 1 ss))
+no_opening ss h = sym (ap opening_in (none_last ss h))
 
-pub no_opening : (ss : List Scope) → length ss ≡ 0 → None ≡ option_map opening_of (last_cover (covers_from 1 ss))
-no_opening ss h = sym (ap (option_map opening_of) (no_last ss h))
+pub opening_is : (ss before : List Scope) (s : Scope) → ss ≡ before ++ s ∷ [] → Some s.opening ≡ opening_in (reverse (covers_from 1 ss))
+opening_is ss before s e = sym (ap opening_in (last_is ss before s e))
 
-pub opening_is : (ss before : List Scope) (s : Scope) → ss ≡ before ++ s ∷ [] → Some s.opening ≡ option_map opening_of (last_cover (covers_from 1 ss))
-opening_is ss before s e = sym (ap (option_map opening_of) (last_is ss before s e))
+pub no_universals : (ss : List Scope) → length ss ≡ 0 → [] ≡ universals_in (reverse (covers_from 1 ss))
+no_universals ss h = sym (ap universals_in (none_last ss h))
 
-pub no_universals : (ss : List Scope) → length ss ≡ 0 → [] ≡ universals_of (last_cover (covers_from 1 ss))
-no_universals ss h = sym (ap universals_of (no_last ss h))
+pub universals_are : (ss before : List Scope) (s : Scope) → ss ≡ before ++ s ∷ [] → listed s.universals ≡ universals_in (reverse (covers_from 1 ss))
+universals_are ss before s e = sym (ap universals_in (last_is ss before s e))
 
-pub universals_are : (ss before : List Scope) (s : Scope) → ss ≡ before ++ s ∷ [] → listed s.universals ≡ universals_of (last_cover (covers_from 1 ss))
-universals_are ss before s e = sym (ap universals_of (last_is ss before s e))
+pub none_universal : (ss : List Scope) → length ss ≡ 0 → false ≡ has_universals (reverse (covers_from 1 ss))
+none_universal ss h = sym (ap has_universals (none_last ss h))
 
-pub no_rest : (ss : List Scope) → length ss ≡ 0 → None ≡ next_of (last_cover (covers_from 1 ss))
-no_rest ss h = sym (ap next_of (no_last ss h))
+pub some_universal : (ss before : List Scope) (s : Scope) → ss ≡ before ++ s ∷ [] → not (is_empty (listed s.universals)) ≡ has_universals (reverse (covers_from 1 ss))
+some_universal ss before s e = sym (ap has_universals (last_is ss before s e))
 
-pub rest_none : (ss before : List Scope) (s : Scope) → ss ≡ before ++ s ∷ [] → chained s.waiting ≡ [] → None ≡ next_of (last_cover (covers_from 1 ss))
-rest_none ss before s e w = sym (ap next_of (last_is ss before s e) ∙ ap (λ (rs : List Rest). first_of (map remainder_of rs)) w)
+pub no_rest : (ss : List Scope) → length ss ≡ 0 → None ≡ next_in (reverse (covers_from 1 ss))
+no_rest ss h = sym (ap next_in (none_last ss h))
 
-pub rest_is : (ss before : List Scope) (s : Scope) (r : Rest) (rs : List Rest) → ss ≡ before ++ s ∷ [] → chained s.waiting ≡ r ∷ rs → Some (remainder_of r) ≡ next_of (last_cover (covers_from 1 ss))
-rest_is ss before s r rs e w = sym (ap next_of (last_is ss before s e) ∙ ap (λ (qs : List Rest). first_of (map remainder_of qs)) w)
+pub rest_none : (ss before : List Scope) (s : Scope) → ss ≡ before ++ s ∷ [] → chained s.waiting ≡ [] → None ≡ next_in (reverse (covers_from 1 ss))
+rest_none ss before s e w = sym (ap next_in (last_is ss before s e) ∙ ap (λ (rs : List Rest). first_of (map remainder_of rs)) w)
 
-pub is_waiting : (c : Option Cover) (r : Remainder) → Some r ≡ next_of c → true ≡ waits_in c
-is_waiting c r e = ap is_there e
+pub rest_is : (ss before : List Scope) (s : Scope) (r : Rest) (rs : List Rest) → ss ≡ before ++ s ∷ [] → chained s.waiting ≡ r ∷ rs → Some (remainder_of r) ≡ next_in (reverse (covers_from 1 ss))
+rest_is ss before s r rs e w = sym (ap next_in (last_is ss before s e) ∙ ap (λ (qs : List Rest). first_of (map remainder_of qs)) w)
 
-pub none_waiting : (c : Option Cover) → None ≡ next_of c → false ≡ waits_in c
-none_waiting c e = ap is_there e
+next_waits : (cs : List Cover) → is_some (next_in cs) ≡ waits cs
+next_waits [] = refl
+next_waits (c ∷ cs) = by c.waiting
+  where
+    by : (rs : List Remainder) → is_some (first_of rs) ≡ is_waiting rs
+    by [] = refl
+    by (r ∷ rs) = refl
+
+pub some_waiting : (cs : List Cover) (r : Remainder) → Some r ≡ next_in cs → true ≡ waits cs
+some_waiting cs r e = ap is_some e ∙ next_waits cs
+
+pub none_waiting : (cs : List Cover) → None ≡ next_in cs → false ≡ waits cs
+none_waiting cs e = ap is_some e ∙ next_waits cs
 
 on_last_from : (d n : ℕ) (f : Cover → Cover) (ss : List Scope) (s t : Scope) → n ≡ length ss → ((k : ℕ) → cover_of k t ≡ f (cover_of k s))
     → covers_from d (slice_set (ss ++ s ∷ []) n t) ≡ on_last f (covers_from d (ss ++ s ∷ []))
@@ -172,3 +209,7 @@ covers_latest ss (rs ∷ sss) = refl
 pub covers_earlier : (sss : List (List Scope)) → map (covers_from 1) (earlier sss) ≡ earlier (map (covers_from 1) sss)
 covers_earlier [] = refl
 covers_earlier (rs ∷ sss) = refl
+
+pub still_marked : (sss : List (List Scope)) → is_marked (map (covers_from 1) sss) ≡ is_marked sss
+still_marked [] = refl
+still_marked (rs ∷ sss) = refl

@@ -1,5 +1,5 @@
 -- Open covers, the outermost first, and how they change. The lines before their cases are kept elsewhere.
-use Rattle.std.specs.Prelude.{ℕ, Bool, true, false, Option, None, Some, List, [], ◌∷◌}
+use Rattle.std.specs.Prelude.{◌≡◌, ℕ, suc, Option, None, Some, List, [], ◌∷◌, ⊤}
 use Rattle.scasp_forall.specs.declared.scope.Opening.{Opening}
 use Rattle.scasp_search_rules.specs.Successors.Cases.{remaining}
 use Rattle.scasp_search_rules.specs.Successors.Splits.{cover_parted}
@@ -41,32 +41,29 @@ on_last f [] = []
 on_last f (c ∷ []) = f c ∷ []
 on_last f (c ∷ d ∷ cs) = c ∷ on_last f (d ∷ cs)
 
--- ---- the innermost cover
+-- the depth of each of these covers is its place, from n on
+abbrev pub AreNumbered : ℕ → List Cover → Type 0
+AreNumbered n [] = ⊤
+AreNumbered n (c ∷ cs) = (c.depth ≡ n) × AreNumbered (suc n) cs
 
-abbrev pub last_cover : List Cover → Option Cover
-last_cover [] = None
-last_cover (c ∷ []) = Some c
-last_cover (c ∷ d ∷ cs) = last_cover (d ∷ cs)
+-- ---- the first of some covers
 
 abbrev pub opening_of : Cover → Opening
 opening_of c = record { clause = c.clause; first = c.first; checks_head = c.checks_head; plain = c.plain }
+
+abbrev pub opening_in : List Cover → Option Opening
+opening_in [] = None
+opening_in (c ∷ cs) = Some (opening_of c)
 
 abbrev pub first_of : List Remainder → Option Remainder
 first_of [] = None
 first_of (r ∷ rs) = Some r
 
 -- the last remainder that waits
-abbrev pub next_of : Option Cover → Option Remainder
-next_of None = None
-next_of (Some c) = first_of c.waiting
+abbrev pub next_in : List Cover → Option Remainder
+next_in [] = None
+next_in (c ∷ cs) = first_of c.waiting
 
-abbrev pub is_there : Option Remainder → Bool
-is_there None = false
-is_there (Some r) = true
-
-abbrev pub waits_in : Option Cover → Bool
-waits_in c = is_there (next_of c)
-
-abbrev pub universals_of : Option Cover → List ℕ
-universals_of None = []
-universals_of (Some c) = c.universals
+abbrev pub universals_in : List Cover → List ℕ
+universals_in [] = []
+universals_in (c ∷ cs) = c.universals

@@ -1,12 +1,15 @@
 //! Lists that share what is before their last item.
-ghost use Rattle.std.specs.Prelude.{◌≡◌, ◌++◌, filter, IfOk};
+ghost use Rattle.std.specs.Prelude.{◌≡◌, ◌++◌, filter, not, IfOk};
+ghost use Rattle.std.specs.List.{list_any};
 ghost use Rattle.scasp_forall.specs.Inside.Listed.{listed};
+ghost use Rattle.scasp_search_rules.specs.Successors.Reading.{count_from};
 ghost use Rattle.scasp_search_rules.specs.Successors.Splits.{is_bound_in};
 
 use scasp_bound::Bound;
 use scasp_lines_places::Chain;
-use scasp_list::Memory;
-use scasp_syntax::VarList;
+use scasp_list::{Memory, Sequence};
+use scasp_readings::ConTest;
+use scasp_syntax::{Con, DeepCopy, VarList};
 use std::alloc::Global;
 
 /// The list with these variables behind it.
@@ -21,30 +24,41 @@ pub(crate) fn with_vars(alloc: Global, chain: &Chain<u64>, xs: &[u64]) -> Result
     Ok(made)
 }
 
-/// The variables of the list.
+/// Copies of the items.
 #[tactic(auto, using(crate::proofs::ListLemmas::turned))]
-pub(crate) fn list_of(alloc: Global, chain: &Chain<u64>) -> Result<VarList, Memory>
+pub(crate) fn list_of<T: DeepCopy + Drop>(
+    alloc: Global,
+    chain: &Chain<T>,
+) -> Result<Sequence<T>, Memory>
     ensures { IfOk result (λ made. made ≡ listed chain.now) }
 {
     let mut made = Vec::new(alloc);
     let mut rest = chain;
-    'items: while let Some((x, others)) = rest.first() {
-        made.push(*x)?;
+    'items: while let Some((item, others)) = rest.first() {
+        made.push(item.copy(alloc)?)?;
         rest = others;
     }
     made.reverse();
-    Ok(VarList::from(made))
+    Ok(Sequence::from(made))
 }
 
-/// Whether the variable is bound.
-#[tactic(auto, using(crate::proofs::ListLemmas::one_bound, crate::proofs::ListLemmas::none_bound))]
-fn is_bound(bound: &Bound, x: u64) -> bool
-    ensures { result ≡ is_bound_in bound.now.now x }
+/// Whether one of the constraints passes.
+#[tactic(auto, using(crate::proofs::ListLemmas::any_reverse))]
+pub(crate) fn any_of<T: ConTest>(
+    alloc: Global,
+    test: &T,
+    chain: &Chain<Con>,
+) -> Result<bool, Memory>
+    ensures { IfOk result (λ answer. answer ≡ list_any (T.holds test.now) (listed chain.now)) }
 {
-    match bound.find(x) {
-        Some(_) => true,
-        None => false,
+    let mut rest = chain;
+    'items: while let Some((constraint, others)) = rest.first() {
+        if test.passes(alloc, constraint)? {
+            return Ok(true);
+        }
+        rest = others;
     }
+    Ok(false)
 }
 
 /// Those of the variables that are bound, in order.
@@ -53,8 +67,23 @@ pub(crate) fn bound_among(alloc: Global, bound: &Bound, xs: &[u64]) -> Result<Va
 {
     let mut found = VarList::new(alloc);
     for x in xs {
-        if is_bound(bound, *x) {
+        if bound.is_bound(*x) {
             found.push(*x)?;
+        }
+    }
+    Ok(found)
+}
+
+/// Those of so many variables, from `first` on, that are not bound.
+#[tactic(auto, using(crate::proofs::ListLemmas::one_unbound, crate::proofs::ListLemmas::one_skipped))]
+pub fn unbound_from(alloc: Global, bound: &Bound, first: u64, count: u64) -> Result<VarList, Memory>
+    ensures { IfOk result (λ xs. xs ≡ filter (λ x. not (is_bound_in bound.now.now x)) (count_from first count)) }
+{
+    let mut found = VarList::new(alloc);
+    for place in 0..count {
+        let x = first.checked_add(place).ok_or(Memory)?;
+        if !bound.is_bound(x) {
+            found.push(x)?;
         }
     }
     Ok(found)

@@ -2,8 +2,13 @@
 #![tactic(auto)]
 
 mod chains;
+mod listing;
+mod regions;
 mod scope;
 mod scopes;
+#[cfg(test)]
+mod tests;
 
+pub use chains::unbound_from;
 pub use scope::{Opening, Rest};
 pub use scopes::Scopes;

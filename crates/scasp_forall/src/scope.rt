@@ -1,5 +1,5 @@
 //! An open cover as it is kept.
-ghost use Rattle.std.specs.Prelude.{◌≡◌, ℕ, [], ◌∷◌, ◌++◌, filter, IfOk, MatchOption};
+ghost use Rattle.std.specs.Prelude.{◌≡◌, ◌<◌, ℕ, [], ◌∷◌, ◌++◌, filter, length, slice_get, Some, IfOk, MatchOption};
 ghost use Rattle.scasp_forall.specs.Covers.{new_cover, parted_alone, resumed};
 ghost use Rattle.scasp_forall.specs.Inside.Kept.{cover_of, remainder_of};
 ghost use Rattle.scasp_forall.specs.Inside.Listed.{listed};
@@ -131,4 +131,12 @@ pub(crate) fn taken_up(scope: &Scope, case: u64) -> Result<Option<Scope>, Memory
         })),
         None => Ok(None),
     }
+}
+
+/// The cover at the place.
+pub(crate) fn scope_at(scopes: &[Scope], at: usize) -> &Scope
+    requires { at < length scopes.now }
+    ensures { slice_get scopes.now at ≡ Some result.now }
+{
+    &scopes[at]
 }

@@ -1,16 +1,28 @@
 //! Covers with regions and remainders.
-ghost use Rattle.std.specs.Prelude.{◌≡◌, ◌+◌, ◌-◌, ◌<◌, [], ◌∷◌, ◌++◌, length, slice_get, take, option_copied, option_map, Some, IfOk, OnOk, OnErr};
-ghost use Rattle.scasp_forall.specs.Covers.{last_cover, new_cover, next_of, on_last, opening_of, parted_alone, resumed, universals_of, waits_in};
+ghost use Rattle.std.specs.Prelude.{◌≡◌, ◌+◌, ◌-◌, [], ◌∷◌, ◌++◌, filter, length, map, nat_le, not, reverse, take, option_copied, option_map, IfOk, OnOk, OnErr};
+ghost use Rattle.std.specs.List.{flat_map, list_any};
+ghost use Rattle.scasp_forall.specs.Covers.{AreNumbered, new_cover, next_in, on_last, opening_in, parted_alone, resumed, universals_in};
 ghost use Rattle.scasp_forall.specs.Inside.Kept.{covers_from, remainder_of};
-ghost use Rattle.scasp_search_rules.specs.Successors.Splits.{at_depth};
-ghost use Rattle.scasp_trail.specs.Past.{earlier, latest};
+ghost use Rattle.scasp_forall.specs.Inside.Listed.{listed};
+ghost use Rattle.scasp_readings.specs.Readings.{reading};
+ghost use Rattle.scasp_search_rules.specs.Successors.Reading.{among, con_vars};
+ghost use Rattle.scasp_search_rules.specs.Successors.Replacing.{has_universals};
+ghost use Rattle.scasp_search_rules.specs.Successors.Search.{waits};
+ghost use Rattle.scasp_search_rules.specs.Successors.Splits.{at_depth, is_number_test};
+ghost use Rattle.scasp_search_rules.specs.Successors.Variables.{is_empty};
+ghost use Rattle.scasp_trail.specs.Past.{earlier, is_marked, latest};
+ghost use Rattle.scasp_unify.specs.Solving.{sub_of};
 
 use crate::chains::list_of;
-use crate::scope::{Opening, Rest, Scope, opened, part, taken_up};
+use crate::listing::{cases_around, copies, open_cases};
+use crate::regions::{any_of_covers, any_of_regions, down_to, push_regions};
+use crate::scope::{Opening, Rest, Scope, opened, part, scope_at, taken_up};
 use scasp_bound::Bound;
+use scasp_lines_places::Chain;
 use scasp_list::Memory;
-use scasp_search_rules::Parting;
-use scasp_syntax::VarList;
+use scasp_readings::{Has, TestsNumber};
+use scasp_search_rules::{CaseList, Covers, Parting};
+use scasp_syntax::{Cons, VarList};
 use scasp_trail::Trailed;
 use std::alloc::Global;
 use std::marker::Model;
@@ -46,41 +58,111 @@ impl Scopes {
         }
     }
 
-    /// How many covers are open.
-    #[tactic(auto, using(crate::proofs::CoverLemmas::covers_length))]
+    /// How many covers are open. The depth of each is its place, from 1.
+    #[tactic(auto, using(crate::proofs::CoverLemmas::covers_length, crate::proofs::CoverLemmas::numbered))]
     pub fn depth(&self) -> usize
-        ensures { result ≡ length self.now.now }
+        ensures count { result ≡ length self.now.now }
+        ensures numbered { AreNumbered 1 self.now.now }
     {
         self.scopes.len()
     }
 
+    // ---- the innermost cover
+
     /// The clause of the innermost cover.
     pub fn opening(&self) -> Option<Opening>
-        ensures { result ≡ option_map opening_of (last_cover self.now.now) }
+        ensures { result ≡ opening_in (reverse self.now.now) }
     {
         last_opening(self.scopes.as_slice())
     }
 
     /// Whether a remainder of the innermost cover waits.
     pub fn waits(&self) -> bool
-        ensures { result ≡ waits_in (last_cover self.now.now) }
+        ensures { result ≡ waits (reverse self.now.now) }
     {
         last_waits(self.scopes.as_slice())
     }
 
+    /// Whether the innermost cover has universal variables.
+    pub fn has_universals(&self) -> bool
+        ensures { result ≡ has_universals (reverse self.now.now) }
+    {
+        last_has_universals(self.scopes.as_slice())
+    }
+
     /// The last remainder of the innermost cover, if one waits.
     pub fn next(&self) -> Option<&Rest>
-        ensures { option_map remainder_of (option_copied result) ≡ next_of (last_cover self.now.now) }
+        ensures { option_map remainder_of (option_copied result) ≡ next_in (reverse self.now.now) }
     {
         last_rest(self.scopes.as_slice())
     }
 
     /// The universal variables of the innermost cover.
     pub fn universals(&self, alloc: Global) -> Result<VarList, Memory>
-        ensures { IfOk result (λ xs. xs ≡ universals_of (last_cover self.now.now)) }
+        ensures { IfOk result (λ xs. xs ≡ universals_in (reverse self.now.now)) }
     {
         last_universals(alloc, self.scopes.as_slice())
     }
+
+    // ---- all covers
+
+    /// The numbers of the cases that are open, that of the innermost cover first.
+    #[tactic(auto, using(crate::proofs::OrderLemmas::cases_turned))]
+    pub fn open_cases(&self, alloc: Global) -> Result<CaseList, Memory>
+        ensures { IfOk result (λ made. made ≡ map (λ c. c.case) (reverse self.now.now)) }
+    {
+        open_cases(alloc, self.scopes.as_slice())
+    }
+
+    /// Those that are of no plain cover.
+    #[tactic(auto, using(crate::proofs::OrderLemmas::around_turned))]
+    pub fn cases_around(&self, alloc: Global) -> Result<CaseList, Memory>
+        ensures { IfOk result (λ made. made ≡ map (λ c. c.case) (filter (λ c. not c.plain) (reverse self.now.now))) }
+    {
+        cases_around(alloc, self.scopes.as_slice())
+    }
+
+    /// Puts the constraints of the regions behind those of a list, the outermost first.
+    #[tactic(auto, using(crate::proofs::OrderLemmas::regions_are))]
+    pub fn push_regions(&self, alloc: Global, list: &mut Cons) -> Result<(), Memory>
+        ensures { OnOk result (list.new ≡ list.old ++ flat_map (λ c. c.region) self.now.now) }
+    {
+        push_regions(alloc, self.scopes.as_slice(), list)
+    }
+
+    /// Whether the variable stands in a constraint of a region or of a remainder, as the bindings read it.
+    #[tactic(auto, using(crate::proofs::OrderLemmas::any_constrained))]
+    pub fn is_constrained(&self, alloc: Global, bound: &Bound, x: u64) -> Result<bool, Memory>
+        ensures { IfOk result (λ stands. stands ≡ list_any (λ c. among x (con_vars (sub_of bound.now.now) c))
+            (flat_map (λ c. c.region ++ flat_map (λ r. r.region) c.waiting) (reverse self.now.now))) }
+    {
+        any_of_covers(alloc, &Has { bound, x }, self.scopes.as_slice())
+    }
+
+    /// Whether the test that the variable is a number stands in a region down to this depth, as the bindings read it.
+    #[tactic(auto, using(crate::proofs::OrderLemmas::any_down_to))]
+    pub fn is_number_by(
+        &self,
+        alloc: Global,
+        bound: &Bound,
+        depth: u64,
+        x: u64,
+    ) -> Result<bool, Memory>
+        ensures { IfOk result (λ is. is ≡ list_any (is_number_test (reading bound.now.now) x)
+            (flat_map (λ c. c.region) (filter (λ c. nat_le c.depth depth) (reverse self.now.now)))) }
+    {
+        let scopes = down_to(self.scopes.as_slice(), depth);
+        any_of_regions(alloc, &TestsNumber { bound, x }, scopes)
+    }
+
+    /// Copies of the covers.
+    pub fn covers(&self, alloc: Global) -> Result<Covers, Memory>
+        ensures { IfOk result (λ made. made ≡ self.now.now) }
+    {
+        copies(alloc, self.scopes.as_slice())
+    }
+
+    // ---- changes
 
     /// One more cover, inside the others, with these universal variables; its case has this number.
     #[tactic(auto, using(crate::proofs::CoverLemmas::one_more))]
@@ -135,6 +217,14 @@ impl Scopes {
         Ok(())
     }
 
+    /// Whether there is a mark.
+    #[tactic(auto, using(crate::proofs::CoverLemmas::still_marked))]
+    pub fn is_marked(&self) -> bool
+        ensures { result ≡ is_marked self.now.before }
+    {
+        self.scopes.is_marked()
+    }
+
     /// Marks the covers as they are now.
     pub fn mark(&mut self) -> Result<(), Memory>
         ensures now { self.new.now ≡ self.old.now }
@@ -159,7 +249,7 @@ impl Scopes {
 /// The clause of the last cover.
 #[tactic(auto, using(crate::proofs::CoverLemmas::no_opening, crate::proofs::CoverLemmas::opening_is))]
 fn last_opening(scopes: &[Scope]) -> Option<Opening>
-    ensures { result ≡ option_map opening_of (last_cover (covers_from 1 scopes.now)) }
+    ensures { result ≡ opening_in (reverse (covers_from 1 scopes.now)) }
 {
     match scopes.split_last() {
         Some((last, _before)) => Some(last.opening),
@@ -168,9 +258,9 @@ fn last_opening(scopes: &[Scope]) -> Option<Opening>
 }
 
 /// Whether a remainder of the last cover waits.
-#[tactic(auto, using(crate::proofs::CoverLemmas::is_waiting, crate::proofs::CoverLemmas::none_waiting))]
+#[tactic(auto, using(crate::proofs::CoverLemmas::some_waiting, crate::proofs::CoverLemmas::none_waiting))]
 fn last_waits(scopes: &[Scope]) -> bool
-    ensures { result ≡ waits_in (last_cover (covers_from 1 scopes.now)) }
+    ensures { result ≡ waits (reverse (covers_from 1 scopes.now)) }
 {
     match last_rest(scopes) {
         Some(_) => true,
@@ -181,7 +271,7 @@ fn last_waits(scopes: &[Scope]) -> bool
 /// The last remainder of the last cover, if one waits.
 #[tactic(auto, using(crate::proofs::CoverLemmas::no_rest, crate::proofs::CoverLemmas::rest_none, crate::proofs::CoverLemmas::rest_is))]
 fn last_rest(scopes: &[Scope]) -> Option<&Rest>
-    ensures { option_map remainder_of (option_copied result) ≡ next_of (last_cover (covers_from 1 scopes.now)) }
+    ensures { option_map remainder_of (option_copied result) ≡ next_in (reverse (covers_from 1 scopes.now)) }
 {
     let Some((last, _before)) = scopes.split_last() else {
         return None;
@@ -192,10 +282,32 @@ fn last_rest(scopes: &[Scope]) -> Option<&Rest>
     }
 }
 
+/// Whether there is a variable.
+#[tactic(auto, using(crate::proofs::ListLemmas::some_variable, crate::proofs::ListLemmas::no_variable))]
+fn has_item(chain: &Chain<u64>) -> bool
+    ensures { result ≡ not (is_empty (listed chain.now)) }
+{
+    match chain.first() {
+        Some(_) => true,
+        None => false,
+    }
+}
+
+/// Whether the last cover has universal variables.
+#[tactic(auto, using(crate::proofs::CoverLemmas::none_universal, crate::proofs::CoverLemmas::some_universal))]
+fn last_has_universals(scopes: &[Scope]) -> bool
+    ensures { result ≡ has_universals (reverse (covers_from 1 scopes.now)) }
+{
+    match scopes.split_last() {
+        Some((last, _before)) => has_item(&last.universals),
+        None => false,
+    }
+}
+
 /// The universal variables of the last cover.
 #[tactic(auto, using(crate::proofs::CoverLemmas::no_universals, crate::proofs::CoverLemmas::universals_are))]
 fn last_universals(alloc: Global, scopes: &[Scope]) -> Result<VarList, Memory>
-    ensures { IfOk result (λ xs. xs ≡ universals_of (last_cover (covers_from 1 scopes.now))) }
+    ensures { IfOk result (λ xs. xs ≡ universals_in (reverse (covers_from 1 scopes.now))) }
 {
     match scopes.split_last() {
         Some((last, _before)) => list_of(alloc, &last.universals),
@@ -226,14 +338,6 @@ fn split_in(
     let made = part(alloc, scope_at(scopes.as_slice(), at), parting, bound)?;
     scopes.set(at, made)?;
     Ok(())
-}
-
-/// The cover at the place.
-fn scope_at(scopes: &[Scope], at: usize) -> &Scope
-    requires { at < length scopes.now }
-    ensures { slice_get scopes.now at ≡ Some result.now }
-{
-    &scopes[at]
 }
 
 /// The last remainder of the last cover, if one waits, becomes its case.

@@ -3,7 +3,7 @@ use Rattle.scasp_lines_places.specs.Places.Chains.{chained}
 use Rattle.scasp_forall.proofs.chains.list_of.Given as goal
 
 abbrev pub invariant-items : goal.invariant-items
-invariant-items l = l.made.items ++ chained l.rest ≡ chained l.chain
+invariant-items g l = l.made.items ++ chained l.rest ≡ chained l.chain
 
 abbrev pub decreases-items : goal.decreases-items
-decreases-items l = length (chained l.rest)
+decreases-items g l = length (chained l.rest)
