@@ -133,12 +133,12 @@ taken k l m n c cs r rs e w h g =
     let a : Cover = record c { before = first ps } in
     let t : State = ended_case s a r.replaced in
     let covers : reverse n.covers ≡ remaining c r rs k c.before ∷ cs =
-        ap reverse g.covers ∙ changed_last (resumed k) l.covers c cs e ∙ ap (λ (qs : List Remainder). resumed_by k c qs ∷ cs) w in
+    ap reverse g.covers ∙ changed_last (resumed k) l.covers c cs e ∙ ap (λ (qs : List Remainder). resumed_by k c qs ∷ cs) w in
     let told = h.lines ∙ ap (λ (ls : List Line). first ps ++ ls) (lines_read s (first (reverse l.pieces))) in
     let pieces : reverse n.pieces ≡ [] ∷ reverse m.pieces = ap reverse g.pieces ∙ one_more m.pieces [] in
     let o = h.others in
     let bound : n.bound ≡ t.bound ++ replaced_now t r.equation =
-        g.bound ∙ ap (λ (bs : List Binding). bs ++ replaced_now (reading bs) r.equation) h.bound ∙ ap (λ (bs : List Binding). t.bound ++ bs) (replaced_read t r.equation) in
+    g.bound ∙ ap (λ (bs : List Binding). bs ++ replaced_now (reading bs) r.equation) h.bound ∙ ap (λ (bs : List Binding). t.bound ++ bs) (replaced_read t r.equation) in
     (λ i. record {
       made = (g.made ∙ h.made) i;
       bound = bound i;

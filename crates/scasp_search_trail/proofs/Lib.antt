@@ -1,4 +1,5 @@
 pub mod ClosingLemmas
+pub mod CopyLemmas
 pub mod CoverLemmas
 pub mod LineLemmas
 pub mod MarkLemmas

@@ -89,10 +89,13 @@ parted_among p b d (c ∷ cs) (x ∷ ps) h z l q = by (nat_eq c.depth d) refl (�
   where
     f : Cover → Cover
     f a = parted_alone p b a
+
     g : Cover → Cover
     g a = cover_parted p b a
+
     a : Cover
     a = record c { before = x }
+
     by : (t : Bool) → nat_eq c.depth d ≡ t
         → (d ≤ length cs → lined (at_depth d (parted_alone p b) cs) (grown_at (length cs - d) (told_by p) ps) ≡ at_depth d (cover_parted p b) (lined cs ps))
         → lined ((if t then f c else c) ∷ at_depth d f cs) (grown_at (length (c ∷ cs) - d) (told_by p) (x ∷ ps)) ≡ (if t then g a else a) ∷ at_depth d g (lined cs ps)

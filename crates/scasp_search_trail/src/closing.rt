@@ -1,11 +1,12 @@
 //! The end of a case, of its cover, or its last remainder.
-ghost use Rattle.std.specs.Prelude.{◌≡◌, ◌++◌, OnOk, map, reverse};
+ghost use Rattle.std.specs.Prelude.{◌≡◌, ◌<◌, ◌++◌, OnOk, Some, length, map, reverse, slice_get};
 ghost use Rattle.scasp_bound.specs.Bounds.{unbound};
 ghost use Rattle.scasp_readings.specs.Readings.{reading};
 ghost use Rattle.scasp_search_rules.specs.Successors.Cases.{kept_literal, line_under, replaced_now};
 ghost use Rattle.scasp_search_rules.specs.declared.states.state.State.{State as ThisState};
 ghost use Rattle.scasp_search_state.specs.Words.{closed};
 ghost use Rattle.scasp_search_trail.specs.States.{first, marks_of, others, state_of};
+ghost use Rattle.scasp_told.specs.Pieces.{last_of};
 
 use crate::parts::{Parts, require};
 use scasp_bound::Bound;
@@ -18,15 +19,24 @@ use scasp_told::Told;
 use scasp_unify::Binding;
 use std::alloc::Global;
 
+/// The line at the place of the last piece.
+fn line_at(told: &Told<Line>, at: usize) -> &Line
+    requires { at < length (last_of told.now.now) }
+    ensures { slice_get (last_of told.now.now) at ≡ Some result.now }
+{
+    &told.last()[at]
+}
+
 /// Each line of the last piece stands as the bindings read it.
+#[tactic(auto, using(crate::proofs::CopyLemmas::read_more, crate::proofs::CopyLemmas::all_read, crate::proofs::CopyLemmas::set_of_last, crate::proofs::CopyLemmas::set_others))]
 fn read_last(alloc: Global, told: &mut Told<Line>, bound: &Bound) -> Result<(), Memory>
-    ensures first { OnOk result (first (reverse told.new.now) ≡ map (line_under (reading bound.now.now)) (first (reverse told.old.now))) }
+    ensures last { OnOk result (last_of told.new.now ≡ map (line_under (reading bound.now.now)) (last_of told.old.now)) }
     ensures others { OnOk result (others (reverse told.new.now) ≡ others (reverse told.old.now)) }
     ensures before { OnOk result (told.new.before ≡ told.old.before) }
 {
     let mut at = 0;
     'lines: while at < told.last().len() {
-        let line = read_line(alloc, bound, &told.last()[at])?;
+        let line = read_line(alloc, bound, line_at(told, at))?;
         told.set(at, line)?;
         at += 1;
     }
@@ -34,6 +44,7 @@ fn read_last(alloc: Global, told: &mut Told<Line>, bound: &Bound) -> Result<(), 
 }
 
 /// The lines of the ended case, as they read, stand behind those before it.
+#[tactic(auto, using(crate::proofs::LineLemmas::last_first, crate::proofs::LineLemmas::joined))]
 fn join_read(alloc: Global, told: &mut Told<Line>, bound: &Bound) -> Result<(), Memory>
     ensures first { OnOk result (first (reverse told.new.now) ≡ first (others (reverse told.old.now)) ++ map (line_under (reading bound.now.now)) (first (reverse told.old.now))) }
     ensures others { OnOk result (others (reverse told.new.now) ≡ others (others (reverse told.old.now))) }
@@ -83,6 +94,7 @@ fn bind_again(alloc: Global, store: &mut Store, equation: &Option<Binding>) -> R
 }
 
 /// The case of the innermost cover has ended: its last remainder is its case, or the cover is gone.
+#[tactic(auto, using(crate::proofs::ClosingLemmas::none_closed))]
 pub(crate) fn close_case(alloc: Global, parts: &mut Parts) -> Result<(), Memory>
     ensures now { OnOk result (state_of parts.new ≡ closed (state_of parts.old) (state_of parts.old).covers) }
     ensures marks { OnOk result (marks_of parts.new ≡ marks_of parts.old) }

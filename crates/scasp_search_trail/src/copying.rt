@@ -21,6 +21,7 @@ fn copies<T: DeepCopy + Drop>(alloc: Global, items: &[T]) -> Result<Sequence<T>,
 }
 
 /// The lines of the last of so many pieces.
+#[tactic(auto, using(crate::proofs::CopyLemmas::none_taken, crate::proofs::CopyLemmas::first_taken))]
 fn lines_of(alloc: Global, told: &Told<Line>, count: usize) -> Result<Lines, Memory>
     requires { count ≤ length told.now.now }
     ensures { IfOk result (λ made. made ≡ first (reverse (take count told.now.now))) }
@@ -32,6 +33,7 @@ fn lines_of(alloc: Global, told: &Told<Line>, count: usize) -> Result<Lines, Mem
 }
 
 /// The covers, the innermost first, with the lines before their cases.
+#[tactic(auto, using(crate::proofs::CopyLemmas::lined_begins, crate::proofs::CopyLemmas::lined_more, crate::proofs::CopyLemmas::lined_ends))]
 fn with_lines(alloc: Global, covers: Covers, told: &Told<Line>) -> Result<Covers, Memory>
     ensures { IfOk result (λ made. made ≡ lined (reverse covers) (others (reverse told.now.now))) }
 {
@@ -48,6 +50,7 @@ fn with_lines(alloc: Global, covers: Covers, told: &Told<Line>) -> Result<Covers
 }
 
 /// A copy of the state.
+#[tactic(auto, using(crate::proofs::LineLemmas::last_first))]
 pub(crate) fn state_copy(alloc: Global, parts: &Parts) -> Result<State, Memory>
     ensures { IfOk result (λ copied. copied ≡ state_of parts.now) }
 {

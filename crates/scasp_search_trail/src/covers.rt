@@ -21,6 +21,7 @@ use std::alloc::Global;
 // ---- covers
 
 /// The clause of the innermost cover.
+#[tactic(auto, using(crate::proofs::CoverLemmas::innermost_is, crate::proofs::CoverLemmas::innermost_none))]
 pub(crate) fn innermost(parts: &Parts) -> Option<Begun>
     ensures { result ≡ innermost (state_of parts.now).covers }
 {
@@ -45,6 +46,7 @@ fn is_plain(alloc: Global, program: &Program, clause: u64, first: u64) -> Result
 }
 
 /// The cover of the clause is the innermost one, with these universal variables.
+#[tactic(auto, using(crate::proofs::LineLemmas::one_more, crate::proofs::CoverLemmas::covers_length))]
 fn open_with(
     alloc: Global,
     parts: &mut Parts,
@@ -87,6 +89,7 @@ pub(crate) fn open_cover(
 // ---- literals
 
 /// The number of the earliest literal that a call of this one sees again.
+#[tactic(auto, using(crate::proofs::CoverLemmas::same_cases))]
 pub(crate) fn seen(alloc: Global, parts: &Parts, lit: &Lit) -> Result<Option<u64>, Memory>
     ensures { IfOk result (λ found. found ≡ first_number (filter (can_be_seen (state_of parts.now) lit.now) (state_of parts.now).literals)) }
 {
@@ -97,6 +100,7 @@ pub(crate) fn seen(alloc: Global, parts: &Parts, lit: &Lit) -> Result<Option<u64
 }
 
 /// One more literal, inside the cases that are open.
+#[tactic(auto, using(crate::proofs::CoverLemmas::cases_around))]
 pub(crate) fn open_literal(alloc: Global, parts: &mut Parts, lit: &Lit) -> Result<(), Memory>
     ensures now { OnOk result (state_of parts.new ≡ with_literal (state_of parts.old) lit.now) }
     ensures marks { OnOk result (marks_of parts.new ≡ marks_of parts.old) }
@@ -108,6 +112,7 @@ pub(crate) fn open_literal(alloc: Global, parts: &mut Parts, lit: &Lit) -> Resul
 // ---- lines
 
 /// One more line of the innermost case.
+#[tactic(auto, using(crate::proofs::LineLemmas::told_more))]
 pub(crate) fn tell(parts: &mut Parts, line: Line) -> Result<(), Memory>
     ensures now { OnOk result (state_of parts.new ≡ with_line (state_of parts.old) line) }
     ensures marks { OnOk result (marks_of parts.new ≡ marks_of parts.old) }
@@ -118,6 +123,7 @@ pub(crate) fn tell(parts: &mut Parts, line: Line) -> Result<(), Memory>
 }
 
 /// Whether the end of a case with universal variables comes next, and the bindings cannot replace a row of its lines.
+#[tactic(auto, using(crate::proofs::CoverLemmas::same_universals, crate::proofs::LineLemmas::last_first))]
 pub(crate) fn close_overflows(alloc: Global, parts: &Parts) -> Result<bool, Memory>
     ensures { IfOk result (λ overflows. overflows ≡ close_overflows (state_of parts.now) (state_of parts.now).work) }
 {

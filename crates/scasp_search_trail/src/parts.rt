@@ -73,6 +73,7 @@ impl Parts {
 
     /// Makes each part again what it was at its latest mark, which is taken away. A part without a mark, which never is, is told as
     /// want of memory.
+    #[tactic(auto, using(crate::proofs::MarkLemmas::marked_latest))]
     pub(crate) fn leave(&mut self) -> Result<(), Memory>
         ensures lists { OnOk result (lists_of self.new ≡ last_marked (marks_of self.old)) }
         ensures marks { OnOk result (marks_of self.new ≡ marked_before (marks_of self.old)) }

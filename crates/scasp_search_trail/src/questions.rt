@@ -63,6 +63,7 @@ fn is_empty(xs: &[u64]) -> bool
 // ---- constraints that hold
 
 /// Whether the variable stands in a given constraint, in one of a region or in one of a remainder.
+#[tactic(auto, using(crate::proofs::CoverLemmas::any_constrained))]
 pub(crate) fn is_constrained(alloc: Global, parts: &Parts, x: u64) -> Result<bool, Memory>
     ensures { IfOk result (λ stands. stands ≡ is_constrained (state_of parts.now) x) }
 {
@@ -74,6 +75,7 @@ pub(crate) fn is_constrained(alloc: Global, parts: &Parts, x: u64) -> Result<boo
 }
 
 /// Whether the test that the variable is a number is given, or stands in a region down to this depth.
+#[tactic(auto, using(crate::proofs::CoverLemmas::any_down))]
 pub(crate) fn is_number_by(alloc: Global, parts: &Parts, depth: u64, x: u64) -> Result<bool, Memory>
     ensures { IfOk result (λ is. is ≡ is_number_by (state_of parts.now) depth x) }
 {
@@ -87,6 +89,7 @@ pub(crate) fn is_number_by(alloc: Global, parts: &Parts, depth: u64, x: u64) -> 
 // ---- lists that are asked
 
 /// The constraints of the regions, the outermost first.
+#[tactic(auto, using(crate::proofs::CoverLemmas::same_regions))]
 pub(crate) fn regions(alloc: Global, parts: &Parts) -> Result<Cons, Memory>
     ensures { IfOk result (λ made. made ≡ regions (state_of parts.now).covers) }
 {

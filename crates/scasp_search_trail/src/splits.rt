@@ -40,6 +40,7 @@ fn split_line(alloc: Global, parting: &Parting) -> Result<Line, Memory>
 }
 
 /// The case of the cover of this depth is parted, and the line that tells of it stands before the case.
+#[tactic(auto, using(crate::proofs::SplitLemmas::none_parted, crate::proofs::SplitLemmas::one_parted, crate::proofs::LineLemmas::grown_first))]
 fn split_cover(
     alloc: Global,
     scopes: &mut Scopes,

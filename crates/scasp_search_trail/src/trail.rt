@@ -136,6 +136,7 @@ impl Situation for Trail {
 
     // ---- covers
 
+    #[tactic(auto, using(crate::proofs::CoverLemmas::covers_length))]
     fn depth(&self) -> u64 {
         self.parts.scopes.depth() as u64
     }
@@ -144,6 +145,7 @@ impl Situation for Trail {
         innermost(&self.parts)
     }
 
+    #[tactic(auto, using(crate::proofs::CoverLemmas::still_waits))]
     fn waits(&self) -> bool {
         self.parts.scopes.waits()
     }
@@ -260,6 +262,7 @@ impl Situation for Trail {
         self.parts.frames.has_work()
     }
 
+    #[tactic(auto, using(crate::proofs::CoverLemmas::still_waits))]
     fn pays(&self) -> bool {
         self.parts.frames.pays(self.parts.scopes.waits())
     }
@@ -270,6 +273,7 @@ impl Situation for Trail {
 
     // ---- points
 
+    #[tactic(auto, using(crate::proofs::MarkLemmas::saved_last))]
     fn save(&mut self, choice: Choice) -> Result<(), Memory> {
         let cases = self.parts.cases;
         self.parts.mark()?;
@@ -277,6 +281,7 @@ impl Situation for Trail {
         Ok(())
     }
 
+    #[tactic(auto, using(crate::proofs::MarkLemmas::none_saved, crate::proofs::MarkLemmas::last_taken))]
     fn take(&mut self) -> Result<Option<Choice>, Memory> {
         match self.saved.pop() {
             Some(Saved { choice, cases }) => {
