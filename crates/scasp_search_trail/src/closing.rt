@@ -3,7 +3,6 @@ ghost use Rattle.std.specs.Prelude.{◌≡◌, ◌<◌, ◌++◌, OnOk, Some, le
 ghost use Rattle.scasp_bound.specs.Bounds.{unbound};
 ghost use Rattle.scasp_readings.specs.Readings.{reading};
 ghost use Rattle.scasp_search_rules.specs.Successors.Cases.{kept_literal, line_under, replaced_now};
-ghost use Rattle.scasp_search_rules.specs.declared.states.state.State.{State as ThisState};
 ghost use Rattle.scasp_search_state.specs.Words.{closed};
 ghost use Rattle.scasp_search_trail.specs.States.{first, marks_of, others, state_of};
 ghost use Rattle.scasp_told.specs.Pieces.{last_of};
@@ -64,7 +63,7 @@ fn end_case(
     universals: &[u64],
     but: &[u64],
 ) -> Result<(), Memory>
-    ensures literals { (s : ThisState) → s.literals ≡ loops.old.now → s.bound ≡ store.old.bound.now → OnOk result (loops.new.now ≡ map (kept_literal s universals.now) s.literals) }
+    ensures literals { OnOk result (loops.new.now ≡ map (kept_literal (reading store.old.bound.now) universals.now) loops.old.now) }
     ensures lines { OnOk result (first (reverse told.new.now) ≡ first (others (reverse told.old.now)) ++ map (line_under (reading store.old.bound.now)) (first (reverse told.old.now))) }
     ensures pieces { OnOk result (others (reverse told.new.now) ≡ others (others (reverse told.old.now))) }
     ensures bound { OnOk result (store.new.bound.now ≡ unbound universals.now but.now store.old.bound.now) }

@@ -127,7 +127,7 @@ pub(crate) fn asks_with(
     last: Con,
 ) -> Result<bool, SearchErr>
     ensures answer { Gives result (sat (asked_with (state_of parts.old) ((if by_context then context (state_of parts.old) else (state_of parts.old).given) ++ last ∷ []))) (asked_with (state_of parts.old) ((if by_context then context (state_of parts.old) else (state_of parts.old).given) ++ last ∷ []) ∷ []) }
-    ensures same { IfOk result (λ _. parts.new ≡ parts.old) }
+    ensures same { parts.new ≡ parts.old }
 {
     let more = more_of(alloc, parts, by_context, last)?;
     asks(alloc, parts, more.as_slice())
@@ -144,7 +144,7 @@ fn passes_against(
 ) -> Result<bool, SearchErr>
     requires { is_general ≡ not (is_empty (universals_of (state_of parts.old) constraint.now)) }
     ensures answer { Gives result (sat (against (state_of parts.old) constraint.now)) (against (state_of parts.old) constraint.now ∷ []) }
-    ensures same { IfOk result (λ _. parts.new ≡ parts.old) }
+    ensures same { parts.new ≡ parts.old }
 {
     let negation = negated(alloc, parts.variables.next_variable(), constraint)?;
     asks_with(alloc, parts, is_general, negation)
@@ -159,7 +159,7 @@ fn passes_along(
 ) -> Result<bool, SearchErr>
     requires { is_general ≡ not (is_empty (universals_of (state_of parts.old) constraint.now)) }
     ensures answer { Gives result (sat (along (state_of parts.old) constraint.now)) (along (state_of parts.old) constraint.now ∷ []) }
-    ensures same { IfOk result (λ _. parts.new ≡ parts.old) }
+    ensures same { parts.new ≡ parts.old }
 {
     asks_with(alloc, parts, is_general, constraint.copy(alloc)?)
 }
@@ -168,7 +168,7 @@ fn passes_along(
 fn judged(alloc: Global, parts: &mut Parts, constraint: &Con) -> Result<Status, SearchErr>
     requires { holds_always (as_read (state_of parts.old) constraint.now) ≡ false }
     ensures status { Gives result (status sat (state_of parts.old) constraint.now) (asked_for sat (state_of parts.old) constraint.now) }
-    ensures same { IfOk result (λ _. parts.new ≡ parts.old) }
+    ensures same { parts.new ≡ parts.old }
 {
     let is_general = is_general(alloc, parts, constraint)?;
     if !passes_against(alloc, parts, constraint, is_general)? {
@@ -200,7 +200,7 @@ pub(crate) fn status(
     constraint: &Con,
 ) -> Result<Status, SearchErr>
     ensures status { Gives result (status sat (state_of parts.old) constraint.now) (asked_for sat (state_of parts.old) constraint.now) }
-    ensures same { IfOk result (λ _. parts.new ≡ parts.old) }
+    ensures same { parts.new ≡ parts.old }
 {
     if reads_as_true(alloc, parts, constraint)? {
         Ok(Status::Entailed)
