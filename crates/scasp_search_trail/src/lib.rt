@@ -8,8 +8,6 @@ mod partings;
 mod parts;
 mod questions;
 mod splits;
-#[cfg(test)]
-mod tests;
 mod trail;
 
 pub use trail::Trail;
