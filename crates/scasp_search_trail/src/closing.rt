@@ -103,18 +103,31 @@ pub(crate) fn close_case(alloc: Global, parts: &mut Parts) -> Result<(), Memory>
     }
     let universals = parts.scopes.universals(alloc)?;
     let xs = universals.as_slice();
-    let (loops, told, store) = (&mut parts.loops, &mut parts.told, &mut parts.store);
     match parts.scopes.next() {
         Some(rest) => {
-            end_case(alloc, loops, told, store, xs, rest.replaced.as_slice())?;
-            bind_again(alloc, store, &rest.equation)?;
-            told.open()?;
+            end_case(
+                alloc,
+                &mut parts.loops,
+                &mut parts.told,
+                &mut parts.store,
+                xs,
+                rest.replaced.as_slice(),
+            )?;
+            bind_again(alloc, &mut parts.store, &rest.equation)?;
+            parts.told.open()?;
             parts.scopes.take_up(parts.cases)?;
             parts.cases = parts.cases.checked_add(1).ok_or(Memory)?;
             Ok(())
         }
         None => {
-            end_case(alloc, loops, told, store, xs, &[])?;
+            end_case(
+                alloc,
+                &mut parts.loops,
+                &mut parts.told,
+                &mut parts.store,
+                xs,
+                &[],
+            )?;
             parts.scopes.close()
         }
     }

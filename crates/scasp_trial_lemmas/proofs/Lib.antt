@@ -1,0 +1,5 @@
+pub mod ClosingLemmas
+pub mod CoverLemmas
+pub mod LineLemmas
+pub mod MapLemmas
+pub mod SplitLemmas

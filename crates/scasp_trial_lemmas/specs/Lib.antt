@@ -1,0 +1,4 @@
+pub mod Covers
+pub mod Readings
+pub mod States
+pub mod Words
