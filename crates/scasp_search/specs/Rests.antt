@@ -4,8 +4,8 @@ use Rattle.scasp_cert.specs.Certificate.{certificate_of}
 use Rattle.scasp_cert.specs.declared.certificate.Cert.{Cert}
 use Rattle.scasp_search.specs.declared.search.Search.{Search}
 use Rattle.scasp_search_constraints.specs.declared.assuming.step.SearchErr.{SearchErr}
-use Rattle.scasp_search_copies.specs.Saved.{now_of, points_of}
 use Rattle.scasp_search_state.specs.Choices.{states}
+use Rattle.scasp_search_trail.specs.States.{now_of, points_of}
 use Rattle.scasp_search_walk.specs.Slices.{Comes, Gives, Keeps}
 use Rattle.scasp_search_walk.specs.declared.events.Advance.{Advance}
 use Rattle.scasp_written.specs.Written.Rests.{Rest, machine, problem_in}

@@ -1,18 +1,40 @@
 //! The search as an object.
+ghost use Rattle.std.specs.Prelude.{◌≡◌, [], IfOk};
+ghost use Rattle.scasp_search_rules.specs.Successors.Search.{start};
+ghost use Rattle.scasp_search_trail.specs.States.{now_of, points_of};
+
 use crate::events::Advance;
 use scasp_list::Memory;
+use scasp_nmr::CheckItems;
 use scasp_search_constraints::SearchErr;
-use scasp_search_copies::Copied;
+use scasp_search_rules::{Kind, Tasks};
+use scasp_search_state::Situation;
 use scasp_search_suspended::Suspended;
+use scasp_search_trail::Trail;
 use scasp_search_walk::{Walk, advance_by};
-use scasp_syntax::Program;
+use scasp_syntax::{Program, Query};
 use scasp_written::{goal_of, start_of};
 use std::alloc::Global;
+use std::mem;
 
 /// The search for answers to a query, between two slices.
 #[derive(Drop)]
 pub struct Search {
-    pub(crate) walk: Walk<Suspended<Copied>>,
+    pub(crate) walk: Walk<Suspended<Trail>>,
+}
+
+/// Where the search for answers to the query begins; no state waits.
+#[tactic(auto, using(crate::proofs::StartLemmas::starts))]
+fn begun(alloc: Global, query: &Query, checks: &CheckItems) -> Result<Trail, Memory>
+    ensures now { IfOk result (λ at. now_of at ≡ start query.now checks.now) }
+    ensures points { IfOk result (λ at. points_of at ≡ []) }
+{
+    let mut state = start_of(alloc, query, checks)?;
+    let work = mem::replace(&mut state.work, Tasks::new(alloc));
+    let mut at = Trail::new(alloc);
+    at.make(Kind::Existential, 0, query.names.len() as u64)?;
+    at.put_all(work)?;
+    Ok(at)
 }
 
 impl Search {
@@ -44,13 +66,13 @@ impl Search {
             unreachable!()
         };
         let goal = goal_of(alloc, program, query, asked.names.len() as u64, fresh)?;
-        let state = start_of(alloc, asked, &goal.checks)?;
+        let at = begun(alloc, asked, &goal.checks)?;
         Ok(Search {
             walk: Walk {
                 front: Suspended {
                     alloc,
                     goal,
-                    at: Copied::new(alloc, state),
+                    at,
                     is_ahead: true,
                 },
                 budget,
