@@ -1,5 +1,5 @@
 -- Covers that are kept, behind each change.
-use Rattle.std.proofs.Common.{◌≡◌, ◌+◌, ◌-◌, ◌<◌, ◌≤◌, ℕ, zero, suc, Bool, true, false, nat_eq, not, if◌then◌else◌, List, [], ◌∷◌, ◌++◌, length, map, reverse, take, slice_get, slice_set, Option, None, Some, is_some, arith, refl, ap, sym, ◌∙◌}
+use Rattle.std.proofs.Common.{◌≡◌, ◌+◌, ◌-◌, ◌<◌, ◌≤◌, ℕ, zero, suc, Bool, true, false, nat_eq, not, if◌then◌else◌, List, [], ◌∷◌, ◌++◌, length, map, reverse, take, slice_get, slice_set, None, Some, is_some, arith, refl, ap, sym, ◌∙◌}
 use Rattle.std.proofs.lemmas.Bool.Decides.{Decides-eqb}
 use Rattle.std.proofs.lemmas.List.{length-append, reverse-append, take_all}
 use Rattle.scasp_forall.specs.Covers.{AreNumbered, first_of, next_in, on_last, opening_in, universals_in}

@@ -75,20 +75,15 @@ counted : (k n : ℕ) → count_from k (suc n) ≡ count_from k n ++ (k + n) ∷
 counted k zero = ap (λ j. j ∷ []) (omega arith)
 counted k (suc n) = let e : suc k + n ≡ k + suc n = omega arith in ap (λ js. k ∷ js) (counted (suc k) n ∙ ap (λ j. count_from (suc k) n ++ j ∷ []) e)
 
--- one variable more, by whether it is kept
-counted_by : (p : ℕ → Bool) (k n m : ℕ) → m ≡ n + 1 → filter p (count_from k m) ≡ filter p (count_from k n) ++ (if p (k + n) then (k + n) ∷ [] else [])
-counted_by p k n m e =
+-- one variable more, unless it is bound
+pub counted_more : (bs : List Binding) (k n m x : ℕ) → m ≡ n + 1 → x ≡ k + n
+    → filter (λ y. not (is_bound_in bs y)) (count_from k m) ≡ filter (λ y. not (is_bound_in bs y)) (count_from k n) ++ (if is_bound_in bs x then [] else x ∷ [])
+counted_more bs k n m x e h =
+    let p : ℕ → Bool = λ y. not (is_bound_in bs y) in
     let q : m ≡ suc n = omega (arith, e) in
-    ap (λ j. filter p (count_from k j)) q ∙ ap (filter p) (counted k n) ∙ filter-append p (count_from k n) ((k + n) ∷ [])
-
-pub one_unbound : (bs : List Binding) (k n m : ℕ) → m ≡ n + 1 → is_bound_in bs (k + n) ≡ false
-    → filter (λ x. not (is_bound_in bs x)) (count_from k m) ≡ filter (λ x. not (is_bound_in bs x)) (count_from k n) ++ (k + n) ∷ []
-one_unbound bs k n m e h =
-    let p : ℕ → Bool = λ x. not (is_bound_in bs x) in
-    counted_by p k n m e ∙ ap (λ (b : Bool). filter p (count_from k n) ++ (if not b then (k + n) ∷ [] else [])) h
-
-pub one_skipped : (bs : List Binding) (k n m : ℕ) → m ≡ n + 1 → is_bound_in bs (k + n) ≡ true
-    → filter (λ x. not (is_bound_in bs x)) (count_from k m) ≡ filter (λ x. not (is_bound_in bs x)) (count_from k n)
-one_skipped bs k n m e h =
-    let p : ℕ → Bool = λ x. not (is_bound_in bs x) in
-    counted_by p k n m e ∙ ap (λ (b : Bool). filter p (count_from k n) ++ (if not b then (k + n) ∷ [] else [])) h ∙ append-nil (filter p (count_from k n))
+    ap (λ j. filter p (count_from k j)) q ∙ ap (filter p) (counted k n ∙ ap (λ j. count_from k n ++ j ∷ []) (sym h)) ∙ filter-append p (count_from k n) (x ∷ [])
+    ∙ ap (λ ys. filter p (count_from k n) ++ ys) (by (is_bound_in bs x))
+  where
+    by : (b : Bool) → (if not b then x ∷ [] else []) ≡ (if b then [] else x ∷ [])
+    by true = refl
+    by false = refl

@@ -1,5 +1,5 @@
 //! Lists that share what is before their last item.
-ghost use Rattle.std.specs.Prelude.{◌≡◌, ◌++◌, filter, not, IfOk};
+ghost use Rattle.std.specs.Prelude.{◌≡◌, ◌+◌, [], ◌∷◌, ◌++◌, filter, not, if◌then◌else◌, IfOk, OnOk};
 ghost use Rattle.std.specs.List.{list_any};
 ghost use Rattle.scasp_forall.specs.Inside.Listed.{listed};
 ghost use Rattle.scasp_search_rules.specs.Successors.Reading.{count_from};
@@ -74,17 +74,32 @@ pub(crate) fn bound_among(alloc: Global, bound: &Bound, xs: &[u64]) -> Result<Va
     Ok(found)
 }
 
+/// Puts the variable behind the others, unless it is bound.
+fn push_unbound(bound: &Bound, x: u64, found: &mut VarList) -> Result<(), Memory>
+    ensures { OnOk result (found.new ≡ found.old ++ (if is_bound_in bound.now.now x then [] else x ∷ [])) }
+{
+    if bound.is_bound(x) {
+        Ok(())
+    } else {
+        found.push(x)
+    }
+}
+
+/// The number of the variable at the place behind the first one; want of memory where there is no such number.
+fn number_at(first: u64, place: u64) -> Result<u64, Memory>
+    ensures { IfOk result (λ x. x ≡ first + place) }
+{
+    first.checked_add(place).ok_or(Memory)
+}
+
 /// Those of so many variables, from `first` on, that are not bound.
-#[tactic(auto, using(crate::proofs::ListLemmas::one_unbound, crate::proofs::ListLemmas::one_skipped))]
 pub fn unbound_from(alloc: Global, bound: &Bound, first: u64, count: u64) -> Result<VarList, Memory>
     ensures { IfOk result (λ xs. xs ≡ filter (λ x. not (is_bound_in bound.now.now x)) (count_from first count)) }
 {
     let mut found = VarList::new(alloc);
     for place in 0..count {
-        let x = first.checked_add(place).ok_or(Memory)?;
-        if !bound.is_bound(x) {
-            found.push(x)?;
-        }
+        let x = number_at(first, place)?;
+        push_unbound(bound, x, &mut found)?;
     }
     Ok(found)
 }
