@@ -1,5 +1,0 @@
-pub mod ClosingLemmas
-pub mod CoverLemmas
-pub mod LineLemmas
-pub mod MapLemmas
-pub mod SplitLemmas

@@ -1,4 +1,0 @@
-pub mod Covers
-pub mod Readings
-pub mod States
-pub mod Words
