@@ -47,4 +47,26 @@ returns-in-Some-clause-now c =
     })
 
 pub returns-clause-now : goal.returns-clause-now
-returns-clause-now c = ?
+returns-clause-now c =
+    let parts = c.args.parts.now in
+    let l : Lists = lists_of parts in
+    let m : Lists = record l {
+      bound = c.end_case-in-None.new.store.bound.now;
+      given = c.end_case-in-None.new.store.given.now;
+      covers = c.close.new.self.now;
+      literals = c.end_case-in-None.new.loops.now;
+      pieces = c.end_case-in-None.new.told.now;
+    } in
+    let xs = c.as_slice-xs.result.now in
+    let ended = c.in_ok-end_case-in-None.ensures in
+    cover_gone parts.cases l m xs (omega (arith, c.if-depth-eq0.false, c.depth.ensures.count)) (c.as_slice-xs.ensures ∙ c.in_ok-universals.ensures) c.in-None.ensures
+    (record {
+      made = refl;
+      bound = ended.bound;
+      given = ap (λ (p : Past Con). p.now) ended.given;
+      literals = ended.literals;
+      lines = ended.lines;
+      others = ended.pieces;
+      work = refl;
+    })
+    c.in_ok-close-in-None.ensures.now
