@@ -1,6 +1,6 @@
 -- Lines that are read in place, and covers that are copied from the innermost out.
 use Rattle.std.specs.Prelude.{◌≡◌, ◌<◌, ◌≤◌, ◌+◌, ◌-◌, ℕ, zero, suc, Some, List, [], ◌∷◌, ◌++◌, drop, length, map, reverse, slice_get, slice_set, take, refl}
-use Rattle.std.proofs.Common.{append_assoc, append-nil, arith, ap, sym, length-append, ◌∙◌}
+use Rattle.std.proofs.Common.{append_assoc, append-nil, arith, ap, sym, ◌∙◌}
 use Rattle.std.proofs.lemmas.List.{length-reverse, reverse-append, reverse-reverse, take_all}
 use Rattle.scasp_search_rules.specs.declared.states.covers.Cover.{Cover}
 use Rattle.scasp_search_rules.specs.declared.states.lines.Line.{Line}

@@ -1,5 +1,5 @@
 -- Pieces of lines with the last one first.
-use Rattle.std.specs.Prelude.{◌≡◌, ◌<◌, ◌≤◌, ◌+◌, ◌-◌, ℕ, zero, suc, List, [], ◌∷◌, ◌++◌, length, reverse, take, refl}
+use Rattle.std.specs.Prelude.{◌≡◌, ◌<◌, ◌+◌, ◌-◌, ℕ, zero, suc, List, [], ◌∷◌, ◌++◌, length, reverse, refl}
 use Rattle.std.proofs.Common.{append_assoc, arith, ap, sym, length-append, ◌∙◌}
 use Rattle.std.proofs.lemmas.List.{length-reverse, reverse-append, reverse-reverse}
 use Rattle.scasp_search_rules.specs.declared.states.lines.Line.{Line}

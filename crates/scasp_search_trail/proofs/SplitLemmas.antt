@@ -12,7 +12,7 @@ use Rattle.scasp_search_rules.specs.declared.states.outcomes.Parting.{Parting}
 use Rattle.scasp_search_rules.specs.Successors.Splits.{at_depth, cover_parted}
 use Rattle.scasp_search_trail.proofs.CoverLemmas.{lined_length}
 use Rattle.scasp_search_trail.proofs.LineLemmas.{grown_others, others_length, turned_cons}
-use Rattle.scasp_search_trail.specs.States.{first, lined, others}
+use Rattle.scasp_search_trail.specs.States.{lined, others}
 use Rattle.scasp_told.specs.Pieces.{grown_at}
 use Rattle.scasp_unify.specs.declared.bindings.Binding.{Binding}
 

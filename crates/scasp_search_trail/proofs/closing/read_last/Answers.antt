@@ -1,4 +1,4 @@
-use Rattle.std.proofs.Common.{◌≡◌, ◌+◌, List, arith, ap, drop, length, map, refl, reverse, slice_get, slice_set, sym, take, ◌++◌, ◌∙◌}
+use Rattle.std.proofs.Common.{◌+◌, List, arith, ap, length, refl, reverse, slice_get, slice_set, sym, ◌∙◌}
 use Rattle.scasp_readings.specs.Readings.{reading}
 use Rattle.scasp_search_rules.specs.Successors.Cases.{line_under}
 use Rattle.scasp_search_rules.specs.declared.states.lines.Line.{Line}
