@@ -1,14 +1,13 @@
 -- The end of a case, by whether a remainder waits.
 use Rattle.std.specs.Prelude.{◌≡◌, ◌<◌, ◌-◌, ℕ, suc, Option, None, Some, List, [], ◌∷◌, ◌++◌, length, map, reverse, take, refl}
 use Rattle.std.proofs.Common.{arith, ap, sym, subst, length-append, ◌∙◌}
-use Rattle.std.proofs.lemmas.List.{length-reverse, reverse-append, reverse-reverse, take-append-le, take_all}
+use Rattle.std.proofs.lemmas.List.{reverse-append, reverse-reverse, take-append-le, take_all}
 use Rattle.scasp_forall.specs.Covers.{first_of, next_in, on_last, resumed, resumed_by, universals_in}
 use Rattle.scasp_readings.specs.Readings.{reading}
 use Rattle.scasp_search_rules.specs.declared.states.covers.Cover.{Cover}
 use Rattle.scasp_search_rules.specs.declared.states.covers.Remainder.{Remainder}
 use Rattle.scasp_search_rules.specs.declared.states.lines.Line.{Line}
 use Rattle.scasp_search_rules.specs.declared.states.lines.Line.TheVariants as line
-use Rattle.scasp_search_rules.specs.declared.states.state.Literal.{Literal}
 use Rattle.scasp_search_rules.specs.declared.states.state.State.{State}
 use Rattle.scasp_search_rules.specs.Successors.Cases.{ended_case, kept_literal, line_under, remaining, replaced_now, unbound}
 use Rattle.scasp_search_state.specs.Words.{closed, next_case}

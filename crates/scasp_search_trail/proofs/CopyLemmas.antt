@@ -1,6 +1,6 @@
 -- Lines that are read in place, and covers that are copied from the innermost out.
 use Rattle.std.specs.Prelude.{◌≡◌, ◌<◌, ◌≤◌, ◌+◌, ◌-◌, ℕ, zero, suc, Some, List, [], ◌∷◌, ◌++◌, drop, length, map, reverse, slice_get, slice_set, take, refl}
-use Rattle.std.proofs.Common.{append_assoc, append-nil, arith, ap, sym, length-append, ◌∙◌}
+use Rattle.std.proofs.Common.{append_assoc, append-nil, arith, ap, sym, ◌∙◌}
 use Rattle.std.proofs.lemmas.List.{length-reverse, reverse-append, reverse-reverse, take_all}
 use Rattle.scasp_search_rules.specs.declared.states.covers.Cover.{Cover}
 use Rattle.scasp_search_rules.specs.declared.states.lines.Line.{Line}
@@ -26,6 +26,11 @@ all_read f zero [] h = refl
 all_read f zero (y ∷ ls) h = absurd (omega (arith, h))
 all_read f (suc k) [] h = refl
 all_read f (suc k) (y ∷ ls) h = ap (λ (zs : List Line). f y ∷ zs) (all_read f k ls (omega (arith, h)))
+
+pub read_length : (f : Line → Line) (k : ℕ) (ls : List Line) → length (map f (take k ls) ++ drop k ls) ≡ length ls
+read_length f zero ls = refl
+read_length f (suc k) [] = refl
+read_length f (suc k) (y ∷ ls) = ap suc (read_length f k ls)
 
 pub set_of_last : (k : ℕ) (x : Line) (ps : List (List Line)) → last_of (set_last k x ps) ≡ slice_set (last_of ps) k x
 set_of_last k x [] = refl

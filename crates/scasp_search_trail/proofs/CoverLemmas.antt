@@ -1,5 +1,5 @@
 -- Covers with their lines, of which most words see the covers alone.
-use Rattle.std.specs.Prelude.{◌≡◌, ℕ, suc, Bool, true, false, not, ◌||◌, nat_le, if◌then◌else◌, Option, None, Some, List, [], ◌∷◌, ◌++◌, filter, length, map, option_map, reverse, refl}
+use Rattle.std.specs.Prelude.{◌≡◌, ℕ, suc, Bool, true, false, not, ◌||◌, nat_le, if◌then◌else◌, None, Some, List, [], ◌∷◌, ◌++◌, filter, length, map, option_map, reverse, refl}
 use Rattle.std.specs.List.{flat_map, list_any}
 use Rattle.std.proofs.Common.{ap, sym, ◌∙◌}
 use Rattle.std.proofs.lemmas.List.{length-reverse, reverse-reverse}

@@ -1,5 +1,5 @@
 -- Pieces of lines with the last one first.
-use Rattle.std.specs.Prelude.{◌≡◌, ◌<◌, ◌≤◌, ◌+◌, ◌-◌, ℕ, zero, suc, List, [], ◌∷◌, ◌++◌, length, reverse, take, refl}
+use Rattle.std.specs.Prelude.{◌≡◌, ◌<◌, ◌+◌, ◌-◌, ℕ, zero, suc, List, [], ◌∷◌, ◌++◌, length, reverse, refl}
 use Rattle.std.proofs.Common.{append_assoc, arith, ap, sym, length-append, ◌∙◌}
 use Rattle.std.proofs.lemmas.List.{length-reverse, reverse-append, reverse-reverse}
 use Rattle.scasp_search_rules.specs.declared.states.lines.Line.{Line}
@@ -79,8 +79,10 @@ grown_behind k j x ps h = by (reverse ps) refl
         let d : reverse (grown_at k x ps) ≡ q ∷ grown_at j x qs = grown_turned k x ps (omega (arith, h)) ∙ (λ i. grown_at (n i) x (e i)) in
         (ap first d, ap others d)
 
-pub grown_first : (k j : ℕ) (x : Line) (ps : List (List Line)) → suc (suc k) + j ≡ length ps → first (reverse (grown_at k x ps)) ≡ first (reverse ps)
-grown_first k j x ps h = (grown_behind k j x ps h).0
+pub grown_first : (k : ℕ) (x : Line) (ps news : List (List Line)) → k + 1 < length ps → news ≡ grown_at k x ps → first (reverse news) ≡ first (reverse ps)
+grown_first k x ps news h e =
+    let n : suc (suc k) + (length ps - suc (suc k)) ≡ length ps = omega (arith, h) in
+    ap (λ (zs : List (List Line)). first (reverse zs)) e ∙ (grown_behind k (length ps - suc (suc k)) x ps n).0
 
 pub grown_others : (k j : ℕ) (x : Line) (ps : List (List Line)) → suc (suc k) + j ≡ length ps → others (reverse (grown_at k x ps)) ≡ grown_at j x (others (reverse ps))
 grown_others k j x ps h = (grown_behind k j x ps h).1
@@ -106,3 +108,25 @@ joined ps h = by (reverse ps) refl
         let d : ps ≡ reverse qs ++ p ∷ q ∷ [] = turned ps q (p ∷ qs) e ∙ ap (λ (zs : List (List Line)). zs ++ q ∷ []) (turned_cons p qs) ∙ append_assoc (reverse qs) (p ∷ []) (q ∷ []) in
         ap (λ (zs : List (List Line)). reverse (join_last zs)) d ∙ ap reverse (join_append (reverse qs) p q) ∙ reverse-append (reverse qs) ((p ++ q) ∷ [])
         ∙ ap (λ (zs : List (List Line)). (p ++ q) ∷ zs) (reverse-reverse qs)
+
+length_others : (ps : List (List Line)) → length (others ps) ≡ length ps - 1
+length_others [] = refl
+length_others (p ∷ ps) = omega arith
+
+pub others_length : (ps : List (List Line)) → length (others (reverse ps)) ≡ length ps - 1
+others_length ps = omega (arith, length_others (reverse ps), length-reverse ps)
+
+-- the last two pieces are one, after the last has changed
+joined_after : (ps qs news : List (List Line)) → 1 < length ps → others (reverse qs) ≡ others (reverse ps) → news ≡ join_last qs
+    → reverse news ≡ (first (others (reverse ps)) ++ last_of qs) ∷ others (others (reverse ps))
+joined_after ps qs news h o e =
+    let l : 1 < length qs = omega (arith, h, others_length ps, others_length qs, ap length o) in
+    ap reverse e ∙ joined qs l ∙ (λ i. (first (o i) ++ sym (last_first qs) i) ∷ others (o i))
+
+pub joined_first : (ps qs news : List (List Line)) (ls : List Line) → 1 < length ps → last_of qs ≡ ls → others (reverse qs) ≡ others (reverse ps) → news ≡ join_last qs
+    → first (reverse news) ≡ first (others (reverse ps)) ++ ls
+joined_first ps qs news ls h l o e = ap first (joined_after ps qs news h o e) ∙ ap (λ (xs : List Line). first (others (reverse ps)) ++ xs) l
+
+pub joined_others : (ps qs news : List (List Line)) → 1 < length ps → others (reverse qs) ≡ others (reverse ps) → news ≡ join_last qs
+    → others (reverse news) ≡ others (others (reverse ps))
+joined_others ps qs news h o e = ap others (joined_after ps qs news h o e)

@@ -11,8 +11,8 @@ use Rattle.scasp_search_rules.specs.declared.states.lines.Line.TheVariants as li
 use Rattle.scasp_search_rules.specs.declared.states.outcomes.Parting.{Parting}
 use Rattle.scasp_search_rules.specs.Successors.Splits.{at_depth, cover_parted}
 use Rattle.scasp_search_trail.proofs.CoverLemmas.{lined_length}
-use Rattle.scasp_search_trail.proofs.LineLemmas.{grown_first, grown_others, turned_cons}
-use Rattle.scasp_search_trail.specs.States.{first, lined, others}
+use Rattle.scasp_search_trail.proofs.LineLemmas.{grown_others, others_length, turned_cons}
+use Rattle.scasp_search_trail.specs.States.{lined, others}
 use Rattle.scasp_told.specs.Pieces.{grown_at}
 use Rattle.scasp_unify.specs.declared.bindings.Binding.{Binding}
 
@@ -113,10 +113,6 @@ parted_among p b d (c ∷ cs) (x ∷ ps) h z l q = by (nat_eq c.depth d) refl (�
         let n : length (c ∷ cs) - d ≡ suc (length cs - d) = omega (arith, m) in
         ap (λ (k : ℕ). lined (c ∷ at_depth d f cs) (grown_at k (told_by p) (x ∷ ps))) n ∙ ap (λ (xs : List Cover). a ∷ xs) (r m)
 
-length_others : (ps : List (List Line)) → length (others ps) ≡ length ps - 1
-length_others [] = refl
-length_others (p ∷ ps) = omega arith
-
 pub one_parted : (p : Parting) (b : List Binding) (d : ℕ) (cs news : List Cover) (ps pieces : List (List Line)) → AreNumbered 1 cs → 0 < d → d ≤ length cs → length ps ≡ length cs + 1
     → news ≡ at_depth d (parted_alone p b) cs → pieces ≡ grown_at (d - 1) (told_by p) ps
     → lined (reverse news) (others (reverse pieces)) ≡ at_depth d (cover_parted p b) (lined (reverse cs) (others (reverse ps)))
@@ -127,4 +123,4 @@ one_parted p b d cs news ps pieces h z l q e t =
     let covers : reverse news ≡ at_depth d (parted_alone p b) (reverse cs) = ap reverse e ∙ turned_depth d (parted_alone p b) cs in
     let same : j ≡ length (reverse cs) - d = omega (arith, length-reverse cs) in
     (λ i. lined (covers i) (grown i)) ∙ ap (λ (k : ℕ). lined (at_depth d (parted_alone p b) (reverse cs)) (grown_at k (told_by p) (others (reverse ps)))) same
-    ∙ parted_among p b d (reverse cs) (others (reverse ps)) (are_down cs h) z (omega (arith, l, length-reverse cs)) (omega (arith, q, length-reverse cs, length_others (reverse ps), length-reverse ps))
+    ∙ parted_among p b d (reverse cs) (others (reverse ps)) (are_down cs h) z (omega (arith, l, length-reverse cs)) (omega (arith, q, length-reverse cs, others_length ps))

@@ -7,7 +7,7 @@ ghost use Rattle.scasp_search_state.specs.Words.{closed};
 ghost use Rattle.scasp_search_trail.specs.States.{first, marks_of, others, state_of};
 ghost use Rattle.scasp_told.specs.Pieces.{last_of};
 
-use crate::parts::{Parts, require};
+use crate::parts::{Parts, next, require};
 use scasp_bound::Bound;
 use scasp_list::Memory;
 use scasp_loops::Loops;
@@ -51,7 +51,8 @@ fn join_read(alloc: Global, told: &mut Told<Line>, bound: &Bound) -> Result<(), 
 {
     require(told.count() > 1)?;
     read_last(alloc, told, bound)?;
-    told.join()
+    told.join()?;
+    Ok(())
 }
 
 /// A case with these universal variables has ended; some of them stay bound.
@@ -74,7 +75,8 @@ fn end_case(
 {
     loops.end_case(alloc, store.bound(), universals)?;
     join_read(alloc, told, store.bound())?;
-    store.end_case(universals, but)
+    store.end_case(universals, but)?;
+    Ok(())
 }
 
 /// The variable of the equation is bound to its term, as it reads now.
@@ -116,7 +118,7 @@ pub(crate) fn close_case(alloc: Global, parts: &mut Parts) -> Result<(), Memory>
             bind_again(alloc, &mut parts.store, &rest.equation)?;
             parts.told.open()?;
             parts.scopes.take_up(parts.cases)?;
-            parts.cases = parts.cases.checked_add(1).ok_or(Memory)?;
+            parts.cases = next(parts.cases)?;
             Ok(())
         }
         None => {
@@ -128,7 +130,8 @@ pub(crate) fn close_case(alloc: Global, parts: &mut Parts) -> Result<(), Memory>
                 xs,
                 &[],
             )?;
-            parts.scopes.close()
+            parts.scopes.close()?;
+            Ok(())
         }
     }
 }

@@ -8,7 +8,7 @@ ghost use Rattle.scasp_search_state.specs.Words.{first_number, innermost, opened
 ghost use Rattle.scasp_search_trail.specs.States.{marks_of, state_of};
 ghost use Rattle.scasp_syntax.specs.Tm.{items};
 
-use crate::parts::Parts;
+use crate::parts::{Parts, next};
 use scasp_forall::{Opening, unbound_from};
 use scasp_list::Memory;
 use scasp_readings::lines_overflow;
@@ -56,12 +56,12 @@ fn open_with(
     ensures now { OnOk result (state_of parts.new ≡ with_cover (state_of parts.old) (record { clause = opening.clause; first = opening.first; checks_head = opening.checks_head; plain = opening.plain; depth = length (state_of parts.old).covers + 1; case = parts.old.cases; universals = universals; region = []; waiting = []; before = (state_of parts.old).lines })) }
     ensures marks { OnOk result (marks_of parts.new ≡ marks_of parts.old) }
 {
-    let depth = parts.scopes.depth() as u64 + 1;
+    let depth = next(parts.scopes.depth() as u64)?;
     let xs = universals.as_slice();
     parts.variables.become_universal(depth, xs)?;
     parts.scopes.open(alloc, opening, parts.cases, xs)?;
     parts.told.open()?;
-    parts.cases = parts.cases.checked_add(1).ok_or(Memory)?;
+    parts.cases = next(parts.cases)?;
     Ok(())
 }
 

@@ -1,5 +1,5 @@
 //! The parts of a state, of which each can be undone.
-ghost use Rattle.std.specs.Prelude.{◌≡◌, true, OnOk};
+ghost use Rattle.std.specs.Prelude.{◌≡◌, ◌+◌, true, IfOk, OnOk};
 ghost use Rattle.scasp_search_rules.specs.Successors.Search.{nothing};
 ghost use Rattle.scasp_search_trail.specs.Inside.Changes.{AllMarked, with_mark};
 ghost use Rattle.scasp_search_trail.specs.States.{last_marked, lists_of, marked_before, marks_of, state_of};
@@ -87,6 +87,13 @@ impl Parts {
         self.frames.leave();
         Ok(())
     }
+}
+
+/// The number after this one.
+pub(crate) fn next(number: u64) -> Result<u64, Memory>
+    ensures { IfOk result (λ after. after ≡ number + 1) }
+{
+    number.checked_add(1).ok_or(Memory)
 }
 
 /// Want of memory where it does not hold.

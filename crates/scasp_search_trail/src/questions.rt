@@ -1,5 +1,5 @@
 //! What the present state says of variables and constraints, and whether lists have valuations.
-ghost use Rattle.std.specs.Prelude.{◌≡◌, [], ◌∷◌, ◌++◌, IfOk, false, filter, if◌then◌else◌, not, slice_get};
+ghost use Rattle.std.specs.Prelude.{◌≡◌, [], ◌∷◌, ◌++◌, IfOk, false, filter, if◌then◌else◌, not, slice_get, true};
 ghost use Rattle.scasp_hint.specs.Satisfying.{sat};
 ghost use Rattle.scasp_search_constraints.specs.Assuming.Taken.{Gives};
 ghost use Rattle.scasp_search_rules.specs.Successors.Assumptions.{against, along, as_read, asked_for, status};
@@ -164,6 +164,29 @@ fn passes_along(
     asks_with(alloc, parts, is_general, constraint.copy(alloc)?)
 }
 
+/// What becomes of the state where a constraint that may be false is assumed.
+fn judged_along(
+    alloc: Global,
+    parts: &mut Parts,
+    constraint: &Con,
+    is_general: bool,
+) -> Result<Status, SearchErr>
+    requires general { is_general ≡ not (is_empty (universals_of (state_of parts.old) constraint.now)) }
+    requires open { holds_always (as_read (state_of parts.old) constraint.now) ≡ false }
+    requires doubt { sat (against (state_of parts.old) constraint.now) ≡ true }
+    ensures status { Gives result (status sat (state_of parts.old) constraint.now) (asked_for sat (state_of parts.old) constraint.now) }
+    ensures same { parts.new ≡ parts.old }
+{
+    if !passes_along(alloc, parts, constraint, is_general)? {
+        return Ok(Status::Impossible);
+    }
+    if is_general {
+        Ok(Status::Parts)
+    } else {
+        Ok(Status::Added)
+    }
+}
+
 /// What becomes of the state where a constraint that does not hold always is assumed.
 fn judged(alloc: Global, parts: &mut Parts, constraint: &Con) -> Result<Status, SearchErr>
     requires { holds_always (as_read (state_of parts.old) constraint.now) ≡ false }
@@ -174,14 +197,7 @@ fn judged(alloc: Global, parts: &mut Parts, constraint: &Con) -> Result<Status, 
     if !passes_against(alloc, parts, constraint, is_general)? {
         return Ok(Status::Entailed);
     }
-    if !passes_along(alloc, parts, constraint, is_general)? {
-        return Ok(Status::Impossible);
-    }
-    if is_general {
-        Ok(Status::Parts)
-    } else {
-        Ok(Status::Added)
-    }
+    judged_along(alloc, parts, constraint, is_general)
 }
 
 /// Whether the constraint holds, as it reads, whatever its variables stand for.

@@ -55,7 +55,7 @@ fn split_cover(
     ensures lines_before { OnOk result (told.new.before ≡ told.old.before) }
 {
     let count = scopes.depth();
-    require(told.count() == count + 1)?;
+    require(told.count() - 1 == count)?;
     scopes.split(alloc, depth, parting, bound)?;
     if depth == 0 || depth > count as u64 {
         return Ok(());

@@ -1,7 +1,6 @@
 -- What calls on the parts do to their lists and marks.
-use Rattle.std.specs.Prelude.{◌≡◌, true, List, [], ◌∷◌}
-use Rattle.scasp_search_rules.specs.declared.states.lines.Line.{Line}
-use Rattle.scasp_search_trail.specs.States.{Lists, Marks, first, others}
+use Rattle.std.specs.Prelude.{◌≡◌, true, ◌∷◌}
+use Rattle.scasp_search_trail.specs.States.{Lists, Marks}
 use Rattle.scasp_trail.specs.Past.{is_marked}
 
 -- ---- marks

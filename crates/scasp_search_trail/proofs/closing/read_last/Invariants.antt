@@ -13,4 +13,4 @@ invariant-lines l = record {
 }
 
 abbrev pub decreases-lines : goal.decreases-lines
-decreases-lines l = length (last_of l.told.now) - l.at
+decreases-lines l = length (last_of l.fn.told.now) - l.at
