@@ -5,7 +5,7 @@ ghost use Rattle.scasp_search_rules.specs.Successors.Falls.{ClosingKeepsWork, Fr
 ghost use Rattle.scasp_search_rules.specs.Successors.Machine.{HasOneEvent, KeepsBudget};
 
 /// At each step that costs nothing, more variables or bindings are made, or no fewer are made and what is left to do
-/// weighs less. So no search goes on for ever between two calls.
+/// weighs less. That no search makes more without end is not said.
 pub fn free_steps_fall()
     ensures falls { FreeStepFalls }
     ensures closing { ClosingKeepsWork }
