@@ -1,4 +1,4 @@
-//! What becomes of a state where a constraint is assumed, and splits of cases.
+//! Constraints that are assumed, and splits of cases.
 
 mod assumptions;
 mod contexts;
@@ -7,7 +7,7 @@ mod numbers;
 mod partings;
 mod step;
 
-pub use assumptions::{asked_list, status};
+pub use assumptions::{is_general, reads_as_true};
 pub use contexts::{among, is_constrained};
 pub use covers::split_at;
 pub use numbers::is_number_by;

@@ -5,6 +5,6 @@ mod assuming;
 mod equate;
 
 pub use assuming::{
-    SearchErr, among, asked_list, is_constrained, is_number_by, passes, split_at, status,
+    SearchErr, among, is_constrained, is_general, is_number_by, passes, reads_as_true, split_at,
 };
 pub use equate::equations;

@@ -1,15 +1,11 @@
 //! Pairs of terms: what two terms come to when names and arguments are taken apart.
 ghost use Rattle.std.specs.Prelude.{◌≡◌, [], ◌∷◌, ◌++◌, IfOk, OnOk};
-ghost use Rattle.scasp_syntax.specs.Values.{under};
 ghost use Rattle.scasp_syntax.specs.View.{tm_of};
-ghost use Rattle.scasp_unify.specs.Solving.{sub_of};
 ghost use Rattle.scasp_search_rules.specs.Successors.Pairs.{all_pairs_of, from_first, pair, pairs, pairs_of};
 
-use crate::reading::read;
 use scasp_list::Memory;
 use scasp_search_rules::{Pair, Pairs};
 use scasp_syntax::{DeepCopy, Term, Terms, copy};
-use scasp_unify::Binding;
 use std::alloc::Global;
 
 fn pair(alloc: Global, left: &Term, right: &Term) -> Result<Pair, Memory>
@@ -90,23 +86,4 @@ fn push_all_pairs(
         }
     }
     Ok(())
-}
-
-/// The pairs that two terms, as the bindings make them, come to.
-pub fn pairs_read(
-    alloc: Global,
-    left: &Term,
-    right: &Term,
-    bindings: &[Binding],
-) -> Result<Pairs, Memory>
-    ensures { IfOk result (λ made. made ≡ pairs_of (under (sub_of bindings.now) (tm_of left.now)) (under (sub_of bindings.now) (tm_of right.now))) }
-{
-    let mut found = Pairs::new(alloc);
-    push_pairs(
-        alloc,
-        &read(alloc, left, bindings)?,
-        &read(alloc, right, bindings)?,
-        &mut found,
-    )?;
-    Ok(found)
 }

@@ -1,14 +1,12 @@
 //! The variables of a state: kinds, depths, and what they are bound to.
 ghost use Rattle.std.specs.Prelude.{◌≡◌, ℕ, ◌++◌, ◌∷◌, [], filter, length, replicate, slice_get, slice_set, IfOk, OnOk, Some};
 ghost use Rattle.std.specs.List.{list_any};
-ghost use Rattle.scasp_syntax.specs.View.{tm_of};
-ghost use Rattle.scasp_search_rules.specs.Successors.Variables.{bind, depth_of, has_universal, is_kind_existential, is_kind_matched, is_kind_universal, is_universal, lower, lowered, made_at, universals_of, with_binding, with_new};
+ghost use Rattle.scasp_search_rules.specs.Successors.Variables.{depth_of, has_universal, is_kind_existential, is_kind_matched, is_kind_universal, is_universal, lower, lowered, made_at, universals_of, with_new};
 
-use crate::constraints::{con_vars, push_vars};
+use crate::constraints::con_vars;
 use scasp_list::Memory;
 use scasp_search_rules::{Kind, Made, State, Variables};
-use scasp_syntax::{Con, Term, VarList};
-use scasp_unify::Binding;
+use scasp_syntax::{Con, VarList};
 use std::alloc::Global;
 
 /// The kind and the depth of a variable.
@@ -143,25 +141,4 @@ pub fn lower_all(depth: u64, xs: &[u64], made: Variables) -> Variables
         lower_at(depth, *x, &mut made);
     }
     Variables::from(made)
-}
-
-/// The state in which the variable is bound to the term.
-pub fn with_binding(state: State, x: u64, term: Term) -> Result<State, Memory>
-    ensures { IfOk result (λ more. more ≡ with_binding state x (tm_of term)) }
-{
-    let mut state = state;
-    state.bound.push(Binding { x, term })?;
-    Ok(state)
-}
-
-/// The state in which the variable is bound to the term, whose existential variables get at most its depth.
-pub fn bind(alloc: Global, state: State, x: u64, term: Term) -> Result<State, Memory>
-    ensures { IfOk result (λ bound. bound ≡ bind state x (tm_of term)) }
-{
-    let mut vars = VarList::new(alloc);
-    push_vars(&term, &mut vars)?;
-    let depth = depth_of(&state, x);
-    let mut state = with_binding(state, x, term)?;
-    state.made = lower_all(depth, vars.as_slice(), state.made);
-    Ok(state)
 }
