@@ -17,7 +17,7 @@ use Rattle.scasp_answers.specs.Files.Texts.{with_names}
 use Rattle.scasp_answers.specs.declared.blocks.fault.AnswerFault.{AnswerFault}
 use Rattle.scasp_answers.specs.declared.blocks.fault.AnswerKind.TheVariants as answer
 use Rattle.scasp_command_inputs.specs.Halts.{IfLine}
-use Rattle.scasp_command_inputs.specs.Inputs.{answers_in, outside, AreBytes, HasAnswers, IsNoAnswers, IsNoProgramBehind, RefusesAnswers, RefusesProgramBehind, Says, refused, refused_answers, unread_answers}
+use Rattle.scasp_command_inputs.specs.Inputs.{answers_in, outside, AreBytes, HasAnswers, IsNoAnswers, IsNoProgramBehind, RefusesAnswers, RefusesProgramBehind, Says, refused, refused_answers, unread, unread_answers}
 use Rattle.scasp_command_inputs.specs.Texts.{answers_refusal, program_refusal, refusal_line, refusal_status}
 use Rattle.scasp_command_inputs.specs.declared.halt.Halt.{Halt}
 use Rattle.scasp_command_inputs.specs.declared.halt.Halt.TheVariants as halt
