@@ -1,3 +1,4 @@
 pub mod BlockLemmas
 pub mod CourseLemmas
+pub mod FaultLemmas
 pub mod LineLemmas

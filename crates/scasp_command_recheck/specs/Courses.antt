@@ -1,11 +1,11 @@
 -- What is printed of answers under one program after another, each in a file, and the status with which it ends.
-use Rattle.std.specs.Prelude.{◌≡◌, ◌&&◌, ◌+◌, ℕ, Bool, if◌then◌else◌, All, List, [], ◌∷◌, ◌++◌}
+use Rattle.std.specs.Prelude.{◌≡◌, ◌⊎◌, ◌&&◌, ◌+◌, ℕ, Bool, if◌then◌else◌, All, List, [], ◌∷◌, ◌++◌}
 use Rattle.std.specs.List.{list_all}
 use Rattle.scasp_syntax.specs.declared.program.Program.{Program}
 use Rattle.scasp_answers.specs.Blocks.States.{Entry}
 use Rattle.scasp_command_check.specs.Outputs.{KeepsWorth}
 use Rattle.scasp_command_check.specs.Texts.{passes}
-use Rattle.scasp_command_inputs.specs.Inputs.{HasAnswers, IsNoAnswers, IsNoProgram, IsNoProgramBehind, IsProgram, IsProgramBehind, Outside, Says}
+use Rattle.scasp_command_inputs.specs.Inputs.{Failed, HasAnswers, IsNoAnswers, IsNoProgram, IsNoProgramBehind, IsProgram, IsProgramBehind, Outside, Says}
 use Rattle.scasp_command_inputs.specs.declared.status.Status.{Status}
 use Rattle.scasp_command_inputs.specs.declared.status.Status.TheVariants.{Done, Memory, Refused}
 use Rattle.scasp_command_recheck.specs.Texts.{first_text, next_text}
@@ -45,3 +45,8 @@ pub data FirstTurn (o : Outside) (answers file : List ℕ) (files : List (List �
 abbrev pub Rechecks : Outside → List ℕ → List (List ℕ) → List ℕ → Status → Type 0
 Rechecks o answers [] text status = Says [] Done text status
 Rechecks o answers (file ∷ files) text status = FirstTurn o answers file files text status
+
+-- a read of one of the files failed
+abbrev pub AnyFailed : Outside → List (List ℕ) → Type 0
+AnyFailed o [] = ⊥
+AnyFailed o (file ∷ files) = Failed o file ⊎ AnyFailed o files
