@@ -187,9 +187,19 @@ module _ (answers file : List ℕ) (files : List (List ℕ)) (t t' : Option (Lis
 -- ---- the files
 
 -- there is a first file, and those behind it
-pub first-file : (files : List (List ℕ)) (file : List ℕ) → 1 ≤ length files → file ≡ get_or files 0 file → file ∷ drop 1 files ≡ files
-first-file [] file some is = absurd (omega arith)
-first-file (x ∷ xs) file some is = ap (λ y. y ∷ xs) is
+pub first-file : (files : List (List ℕ)) (file or : List ℕ) → 1 ≤ length files → file ≡ get_or files 0 or → file ∷ drop 1 files ≡ files
+first-file [] file or some is = absurd (omega arith)
+first-file (x ∷ xs) file or some is = ap (λ y. y ∷ xs) is
+
+pub course-of : (o : Outside) (entries : List Entry) (n : ℕ) (p : Program) (names : List (List ℕ)) (accepted : Bool) (fs gs : List (List ℕ)) (t t' : Option (List ℕ)) (f f' : ℕ)
+    (status : Status) → fs ≡ gs → Reports (Course o entries fs n p names accepted) t t' f f' status → Reports (Course o entries gs n p names accepted) t t' f f' status
+course-of o entries n p names accepted fs gs t t' f f' status same =
+    subst (λ (hs : List (List ℕ)). Reports (Course o entries hs n p names accepted) t t' f f' status) same
+
+pub rechecks-of : (o : Outside) (answers file : List ℕ) (more files : List (List ℕ)) (t t' : Option (List ℕ)) (f f' : ℕ) (status : Status) → file ∷ more ≡ files
+    → Reports (FirstTurn o answers file more) t t' f f' status → Reports (Rechecks o answers files) t t' f f' status
+rechecks-of o answers file more files t t' f f' status same =
+    subst (λ (hs : List (List ℕ)). Reports (Rechecks o answers hs) t t' f f' status) same
 
 -- there is none
 pub files-none : (o : Outside) (answers : List ℕ) (files : List (List ℕ)) (t : Option (List ℕ)) (f : ℕ) → length files < 1
