@@ -1,5 +1,6 @@
 //! All blocks of a file, one line each.
 ghost use Rattle.std.specs.Prelude.{◌≡◌, ◌≤◌, ◌+◌, if◌then◌else◌, All, IfOk, IsErrOf, OnOk, map};
+ghost use Rattle.scasp_syntax.specs.declared.program.Program.{Program as ThisProgram};
 ghost use Rattle.scasp_cert.specs.Certificate.{certificate_of};
 ghost use Rattle.scasp_answers.specs.Files.View.{entry_of};
 ghost use Rattle.scasp_answers.specs.Blocks.States as states;
@@ -113,22 +114,22 @@ fn recheck_entries<K: Sink>(
     Ok(tally)
 }
 
-/// What the line of an entry says, where it is a block.
-fn see_entry(program: &Program, entry: &Entry)
-    ensures { KeepsWorth program.now (entry_of entry.now) }
+/// What the line of an entry says under a program, where it is a block.
+fn see_entry(entry: &Entry)
+    ensures { (p : ThisProgram) → KeepsWorth p (entry_of entry.now) }
 {
     match entry {
-        Entry::Block(block) => see_worth(program, &block.cert),
+        Entry::Block(block) => see_worth(&block.cert),
         Entry::Ended(_, _) | Entry::Rejected(_, _, _, _) => {}
     }
 }
 
-/// What the lines of all blocks say.
-fn see_entries(program: &Program, entries: &Entries)
-    ensures { All (KeepsWorth program.now) (map entry_of entries.now) }
+/// What the lines of all blocks say under a program: a law, as `see_worth` is.
+pub fn see_entries(entries: &Entries)
+    ensures { (p : ThisProgram) → All (KeepsWorth p) (map entry_of entries.now) }
 {
     for entry in entries.as_slice() {
-        see_entry(program, entry);
+        see_entry(entry);
     }
 }
 
@@ -165,7 +166,7 @@ pub fn recheck<K: Sink>(
     // What a line says holds of the certificate, whatever came of the writing.
     ensures says { All (KeepsWorth program.now) (map entry_of entries.now) }
 {
-    see_entries(program, entries);
+    see_entries(entries);
     let tally = recheck_entries(alloc, program, entries, out)?;
     write_checked(alloc, tally.blocks, out)?;
     Ok(tally.rechecked)

@@ -6,7 +6,7 @@ mod laws;
 mod lines;
 mod worth;
 
-pub use checking::{Rechecked, recheck};
+pub use checking::{Rechecked, recheck, see_entries};
 pub use laws::{accepted_means, right_means};
 pub use lines::block_line;
 pub use worth::{Worth, find_worth, see_worth};

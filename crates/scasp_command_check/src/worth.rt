@@ -1,5 +1,6 @@
 //! What a certificate is worth.
 ghost use Rattle.std.specs.Prelude.{◌≡◌, IfOk};
+ghost use Rattle.scasp_syntax.specs.declared.program.Program.{Program as ThisProgram};
 ghost use Rattle.scasp_cert.specs.Certificate.{certificate_of};
 ghost use Rattle.scasp_command_check.specs.Worths.{worth_of, Says};
 
@@ -38,11 +39,10 @@ pub fn find_worth(alloc: Global, program: &Program, cert: &Cert) -> Result<Worth
     }
 }
 
-/// What it says of a certificate to be worth so much: a law, which computes nothing but that the certificate's rows are in normal form,
-/// as those of each `Cert` are. It takes no memory; the recursion is as deep as the certificate.
-#[tactic(auto, using(crate::proofs::WorthLemmas::says))]
-pub fn see_worth(program: &Program, cert: &Cert)
-    ensures { Says (worth_of program.now (certificate_of cert.now)) program.now (certificate_of cert.now) }
+/// What it says of a certificate to be worth so much under a program: a law, which computes nothing but that the certificate's rows are
+/// in normal form, as those of each `Cert` are. It takes no memory; the recursion is as deep as the certificate.
+pub fn see_worth(cert: &Cert)
+    ensures { (p : ThisProgram) → Says (worth_of p (certificate_of cert.now)) p (certificate_of cert.now) }
 {
     see_rows(cert);
 }

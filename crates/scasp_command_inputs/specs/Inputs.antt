@@ -39,11 +39,15 @@ AreBytes told bytes = IfSome told (λ all. bytes ≡ all)
 
 -- ---- files that are read
 
--- the file, of which these bytes are told, spells this program, with this table of names
-pub record IsProgram (told : Option (List ℕ)) (p : Program) (names : List (List ℕ)) : Type 0 where
+-- the file, of which these bytes are told, spells this program behind a table of names, and the table is this one then
+pub record IsProgramBehind (before : List (List ℕ)) (told : Option (List ℕ)) (p : Program) (names : List (List ℕ)) : Type 0 where
   pub bytes : List ℕ
   pub are : AreBytes told bytes
-  pub read : program_in list_names bytes ≡ Ok (reading_of (p, names))
+  pub read : program_in before bytes ≡ Ok (reading_of (p, names))
+
+-- the same of the first program of a command
+abbrev pub IsProgram : Option (List ℕ) → Program → List (List ℕ) → Type 0
+IsProgram told p names = IsProgramBehind list_names told p names
 
 -- what is read of an answer file behind a program with these names
 abbrev pub answers_in : List (List ℕ) → List ℕ → Reading
@@ -55,6 +59,11 @@ pub record IsAnswers (told : Option (List ℕ)) (names : List (List ℕ)) (entri
   pub are : AreBytes told bytes
   pub read : answers_in names bytes ≡ Ok entries
 
+-- the same, and the table of names is this one then
+pub record HasAnswers (told : Option (List ℕ)) (names : List (List ℕ)) (entries : List Entry) (table : List (List ℕ)) : Type 0 where
+  pub answers : IsAnswers told names entries
+  pub table_is : table ≡ with_names names answers.bytes
+
 -- ---- what is printed
 
 -- this line alone is printed, and so the command ends
@@ -62,11 +71,15 @@ pub record Says (line : List ℕ) (ending : Status) (text : List ℕ) (status : 
   pub line_is : text ≡ line
   pub ending_is : status ≡ ending
 
--- the bytes spell no program: the first fault is told
-pub record RefusesProgram (bytes text : List ℕ) (status : Status) : Type 0 where
+-- the bytes spell no program behind a table of names: the first fault is told
+pub record RefusesProgramBehind (before : List (List ℕ)) (bytes text : List ℕ) (status : Status) : Type 0 where
   pub fault : Fault
-  pub is : program_in list_names bytes ≡ Err fault
+  pub is : program_in before bytes ≡ Err fault
   pub says : Says (refusal_line input.Program fault.at (program_refusal fault.kind)) (refusal_status (program_refusal fault.kind)) text status
+
+-- the same of the first program of a command
+abbrev pub RefusesProgram : List ℕ → List ℕ → Status → Type 0
+RefusesProgram bytes text status = RefusesProgramBehind list_names bytes text status
 
 -- the bytes are no answer file
 pub record RefusesAnswers (names : List (List ℕ)) (bytes text : List ℕ) (status : Status) : Type 0 where
@@ -74,10 +87,14 @@ pub record RefusesAnswers (names : List (List ℕ)) (bytes text : List ℕ) (sta
   pub is : answers_in names bytes ≡ Err fault
   pub says : Says (refusal_line input.Answers fault.at (answers_refusal fault.kind)) (refusal_status (answers_refusal fault.kind)) text status
 
--- the file could not be read, or it spells no program
-pub data IsNoProgram (o : Outside) (file text : List ℕ) (status : Status) : Type 0 where
-  unread : Failed o file → Says (read_line input.Program) Read text status → IsNoProgram o file text status
-  refused : (bytes : List ℕ) → AreBytes (o.told file) bytes → RefusesProgram bytes text status → IsNoProgram o file text status
+-- the file could not be read, or it spells no program behind a table of names
+pub data IsNoProgramBehind (before : List (List ℕ)) (o : Outside) (file text : List ℕ) (status : Status) : Type 0 where
+  unread : Failed o file → Says (read_line input.Program) Read text status → IsNoProgramBehind before o file text status
+  refused : (bytes : List ℕ) → AreBytes (o.told file) bytes → RefusesProgramBehind before bytes text status → IsNoProgramBehind before o file text status
+
+-- the same of the first program of a command
+abbrev pub IsNoProgram : Outside → List ℕ → List ℕ → Status → Type 0
+IsNoProgram o file text status = IsNoProgramBehind list_names o file text status
 
 -- the same of an answer file
 pub data IsNoAnswers (o : Outside) (file : List ℕ) (names : List (List ℕ)) (text : List ℕ) (status : Status) : Type 0 where

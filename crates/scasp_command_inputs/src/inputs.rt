@@ -4,7 +4,8 @@ ghost use Rattle.scasp_name.specs.Texts.{list_names};
 ghost use Rattle.scasp_reader.specs.Programs.Programs.{program_in, reading_of};
 ghost use Rattle.scasp_answers.specs.Files.View.{entry_of};
 ghost use Rattle.scasp_command_inputs.specs.Halts.{IfLine};
-ghost use Rattle.scasp_command_inputs.specs.Inputs.{answers_in, outside, IsAnswers, IsNoAnswers, IsNoProgram, IsProgram, RefusesAnswers, RefusesProgram};
+ghost use Rattle.scasp_answers.specs.Files.Texts.{with_names};
+ghost use Rattle.scasp_command_inputs.specs.Inputs.{answers_in, outside, HasAnswers, IsNoAnswers, IsNoProgram, IsNoProgramBehind, IsProgram, IsProgramBehind, RefusesAnswers, RefusesProgram, RefusesProgramBehind};
 
 use crate::halt::{Halt, line};
 use crate::refusals::{answers_refusal, program_refusal};
@@ -20,21 +21,52 @@ use scasp_reader_terms::{Count, Fault, Kind, Stop};
 use scasp_syntax::{Nested, Program};
 use std::alloc::Global;
 
-/// The program that the bytes spell, and its table of names; or the line of the first fault.
-pub fn read_text(alloc: Global, bytes: &[u8]) -> Result<(Program, Names), Halt>
-    ensures ok { IfOk result (λ x. program_in list_names bytes.now ≡ Ok (reading_of x)) }
-    ensures err { IfErr result (λ halt. IfLine halt (RefusesProgram bytes.now)) }
+/// The program that the bytes spell behind these names, and the table of names then; or the line of the first fault.
+fn read_text_behind(alloc: Global, bytes: &[u8], names: Names) -> Result<(Program, Names), Halt>
+    ensures ok { IfOk result (λ x. program_in names bytes.now ≡ Ok (reading_of x)) }
+    ensures err { IfErr result (λ halt. IfLine halt (RefusesProgramBehind names bytes.now)) }
 {
-    let Ok(table) = Names::new(alloc) else {
-        return Err(Halt::Memory);
-    };
-    match read_program(alloc, bytes, table) {
+    match read_program(alloc, bytes, names) {
         Ok((program, names)) => match program.serves_walks(alloc) {
             Ok(()) => Ok((program, names)),
             Err(Memory) => Err(Halt::Memory),
         },
         Err(Stop::At(fault)) => Err(program_refusal(alloc, fault)),
         Err(Stop::Memory) => Err(Halt::Memory),
+    }
+}
+
+/// The program that the bytes spell, and its table of names; or the line of the first fault.
+pub fn read_text(alloc: Global, bytes: &[u8]) -> Result<(Program, Names), Halt>
+    ensures ok { IfOk result (λ x. program_in list_names bytes.now ≡ Ok (reading_of x)) }
+    ensures err { IfErr result (λ halt. IfLine halt (RefusesProgram bytes.now)) }
+{
+    let Ok(names) = Names::new(alloc) else {
+        return Err(Halt::Memory);
+    };
+    read_text_behind(alloc, bytes, names)
+}
+
+/// The program in a file, read behind these names, and the table of names then; or the line that tells why there is none.
+pub fn next_program_in_file<F: Files>(
+    alloc: Global,
+    file: &str,
+    names: Names,
+    files: &mut F,
+) -> Result<(Program, Names), Halt>
+    ensures ok { IfOk result (λ x. IsProgramBehind names (F.told files.old file.now) x.0 x.1) }
+    ensures err { IfErr result (λ halt. IfLine halt (IsNoProgramBehind names (outside (F.told files.old) (F.faults files.old) (F.faults files.new)) file.now)) }
+    ensures stays { (other : List ℕ) → F.told files.new other ≡ F.told files.old other }
+    ensures counts { (other : List ℕ) → F.faults files.old other ≤ F.faults files.new other }
+{
+    match read_file(alloc, files, file, BYTE_LIMIT as u64) {
+        Ok(bytes) => read_text_behind(alloc, bytes.as_slice(), names),
+        Err(ReadErr::Fault) => Err(line(alloc, b"read program\n", Status::Read)),
+        Err(ReadErr::TooLong) => {
+            let (at, kind) = (BYTE_LIMIT as u64, Kind::Limit(Count::Bytes));
+            Err(program_refusal(alloc, Fault { at, kind }))
+        }
+        Err(ReadErr::Memory) => Err(Halt::Memory),
     }
 }
 
@@ -49,38 +81,36 @@ pub fn program_in_file<F: Files>(
     ensures stays { (other : List ℕ) → F.told files.new other ≡ F.told files.old other }
     ensures counts { (other : List ℕ) → F.faults files.old other ≤ F.faults files.new other }
 {
-    match read_file(alloc, files, file, BYTE_LIMIT as u64) {
-        Ok(bytes) => read_text(alloc, bytes.as_slice()),
-        Err(ReadErr::Fault) => Err(line(alloc, b"read program\n", Status::Read)),
-        Err(ReadErr::TooLong) => {
-            let (at, kind) = (BYTE_LIMIT as u64, Kind::Limit(Count::Bytes));
-            Err(program_refusal(alloc, Fault { at, kind }))
-        }
-        Err(ReadErr::Memory) => Err(Halt::Memory),
-    }
+    let Ok(names) = Names::new(alloc) else {
+        return Err(Halt::Memory);
+    };
+    next_program_in_file(alloc, file, names, files)
 }
 
-/// What the bytes have behind a header, with the names of the program before them; or the line of the first fault.
-fn read_blocks(alloc: Global, bytes: &[u8], mut names: Names) -> Result<Entries, Halt>
-    ensures ok { IfOk result (λ entries. answers_in names bytes.now ≡ Ok (map entry_of entries)) }
+/// What the bytes have behind a header, read behind these names, and the table of names then; or the line of the first fault.
+fn read_blocks(alloc: Global, bytes: &[u8], mut names: Names) -> Result<(Entries, Names), Halt>
+    ensures ok { IfOk result (λ x. answers_in names bytes.now ≡ Ok (map entry_of x.0)) }
+    ensures table { IfOk result (λ x. x.1 ≡ with_names names bytes.now) }
     ensures err { IfErr result (λ halt. IfLine halt (RefusesAnswers names bytes.now)) }
 {
     match read_answers(alloc, bytes, &mut names) {
-        Ok(entries) => Ok(entries),
+        Ok(entries) => Ok((entries, names)),
         Err(AnswerErr::At(fault)) => Err(answers_refusal(alloc, fault)),
         Err(AnswerErr::Memory) => Err(Halt::Memory),
     }
 }
 
-/// The entries of an answer file, with the names of the program before them; or the line that tells why there are none.
+/// The entries of an answer file, read behind the names of a program, and the table of names then; or the line that tells why
+/// there are none.
 pub fn answers_in_file<F: Files>(
     alloc: Global,
     file: &str,
     names: Names,
     files: &mut F,
-) -> Result<Entries, Halt>
-    ensures ok { IfOk result (λ entries. IsAnswers (F.told files.old file.now) names (map entry_of entries)) }
+) -> Result<(Entries, Names), Halt>
+    ensures ok { IfOk result (λ x. HasAnswers (F.told files.old file.now) names (map entry_of x.0) x.1) }
     ensures err { IfErr result (λ halt. IfLine halt (IsNoAnswers (outside (F.told files.old) (F.faults files.old) (F.faults files.new)) file.now names)) }
+    ensures stays { (other : List ℕ) → F.told files.new other ≡ F.told files.old other }
     ensures counts { (other : List ℕ) → F.faults files.old other ≤ F.faults files.new other }
 {
     match read_file(alloc, files, file, ANSWER_LIMIT as u64) {

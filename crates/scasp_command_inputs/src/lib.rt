@@ -7,6 +7,6 @@ mod refusals;
 mod status;
 
 pub use halt::{Halt, line, print, tell};
-pub use inputs::{answers_in_file, program_in_file, read_text};
+pub use inputs::{answers_in_file, next_program_in_file, program_in_file, read_text};
 pub use refusals::{Input, refusal};
 pub use status::Status;

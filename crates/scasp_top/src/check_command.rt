@@ -50,7 +50,7 @@ pub(crate) fn check_files<F: Files, K: Sink>(
         Err(halt) => return tell(&halt, out),
     };
     match answers_in_file(alloc, answers, names, files) {
-        Ok(entries) => check_blocks(alloc, &program, &entries, out),
+        Ok((entries, _)) => check_blocks(alloc, &program, &entries, out),
         Err(halt) => tell(&halt, out),
     }
 }

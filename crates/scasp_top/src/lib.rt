@@ -3,6 +3,7 @@
 
 mod check_command;
 mod laws;
+mod recheck_command;
 mod run_command;
 mod top;
 mod trial_command;

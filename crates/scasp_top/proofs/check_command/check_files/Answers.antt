@@ -13,7 +13,7 @@ pub returns-in-Ok-answers_in_file : goal.returns-in-Ok-answers_in_file
 returns-in-Ok-answers_in_file g c =
     goes-on-check c.args.program.now c.args.answers.now (g.F.Files.told c.args.files.now) (g.F.Files.told c.program_in_file.new.files)
     (g.F.Files.faults c.args.files.now) (g.F.Files.faults c.answers_in_file.new.files)
-    c.in-Ok.read.0 c.in-Ok.read.1 (map entry_of c.in-Ok-answers_in_file.entries) _ _ _ _ _
+    c.in-Ok.read.0 c.in-Ok.read.1 (map entry_of c.in-Ok-answers_in_file.entries) _ _ _ _ _ _
     (c.in-Ok.ensures.stays c.args.answers.now) c.in-Ok.ensures.ok c.in-Ok-answers_in_file.ensures.ok c.check_blocks.ensures
 
 pub returns : goal.returns
