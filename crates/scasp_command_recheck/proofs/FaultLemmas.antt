@@ -51,18 +51,18 @@ module _ (o : Outside) where
       → Course o entries files n p names accepted text s → EndsBy (AnyFailed o files) s
   course-end entries [] n p names accepted text s says = quiet ⊥ s (course_status accepted) says.ending_is (course-quiet accepted)
   course-end entries (file ∷ files) n p names accepted text s (cut_off says) = quiet (AnyFailed o (file ∷ files)) s Memory says.ending_is memory-quiet
-  course-end entries (file ∷ files) n p names accepted text s (no_program no) =
-      wider (Failed o file) (AnyFailed o (file ∷ files)) s inl (program-ends names file text s no)
+  course-end entries (file ∷ files) n p names accepted text s (no_program stop) =
+      wider (Failed o file) (AnyFailed o (file ∷ files)) s inl (program-ends names file text s stop)
   course-end entries (file ∷ files) n p names accepted text s (goes_on q table rest is e r) =
       wider (AnyFailed o files) (AnyFailed o (file ∷ files)) s inr (course-end entries files (n + 1) q table (accepted && list_all (passes q) entries) rest s r)
 
   first-end : (answers file : List ℕ) (files : List (List ℕ)) (text : List ℕ) (s : Status) → FirstTurn o answers file files text s
       → EndsBy (Failed o answers ⊎ AnyFailed o (file ∷ files)) s
   first-end answers file files text s (cut_first says) = quiet (Failed o answers ⊎ AnyFailed o (file ∷ files)) s Memory says.ending_is memory-quiet
-  first-end answers file files text s (no_first no) =
-      wider (Failed o file) (Failed o answers ⊎ AnyFailed o (file ∷ files)) s (λ h. inr (inl h)) (program-ends _ file text s no)
-  first-end answers file files text s (no_answers p names is no) =
-      wider (Failed o answers) (Failed o answers ⊎ AnyFailed o (file ∷ files)) s inl (answers-end names answers text s no)
+  first-end answers file files text s (no_first stop) =
+      wider (Failed o file) (Failed o answers ⊎ AnyFailed o (file ∷ files)) s (λ h. inr (inl h)) (program-ends _ file text s stop)
+  first-end answers file files text s (no_answers p names is stop) =
+      wider (Failed o answers) (Failed o answers ⊎ AnyFailed o (file ∷ files)) s inl (answers-end names answers text s stop)
   first-end answers file files text s (goes_first p names entries table rest is has says e r) =
       wider (AnyFailed o files) (Failed o answers ⊎ AnyFailed o (file ∷ files)) s (λ h. inr (inr h))
       (course-end entries files 1 p table (list_all (passes p) entries) rest s r)
@@ -88,15 +88,15 @@ module _ (o : Outside) where
       → ¬ AnyFailed o files → Course o entries files n p names accepted text s → Course (without_faults o) entries files n p names accepted text s
   course-without entries [] n p names accepted text s fine says = says
   course-without entries (file ∷ files) n p names accepted text s fine (cut_off says) = cut_off says
-  course-without entries (file ∷ files) n p names accepted text s fine (no_program no) = no_program (program-without names file text s (λ h. fine (inl h)) no)
+  course-without entries (file ∷ files) n p names accepted text s fine (no_program stop) = no_program (program-without names file text s (λ h. fine (inl h)) stop)
   course-without entries (file ∷ files) n p names accepted text s fine (goes_on q table rest is e r) =
       goes_on q table rest is e (course-without entries files (n + 1) q table (accepted && list_all (passes q) entries) rest s (λ h. fine (inr h)) r)
 
   first-without : (answers file : List ℕ) (files : List (List ℕ)) (text : List ℕ) (s : Status) → ¬ Failed o answers → ¬ AnyFailed o (file ∷ files)
       → FirstTurn o answers file files text s → FirstTurn (without_faults o) answers file files text s
   first-without answers file files text s fine other (cut_first says) = cut_first says
-  first-without answers file files text s fine other (no_first no) = no_first (program-without _ file text s (λ h. other (inl h)) no)
-  first-without answers file files text s fine other (no_answers p names is no) = no_answers p names is (answers-without names answers text s fine no)
+  first-without answers file files text s fine other (no_first stop) = no_first (program-without _ file text s (λ h. other (inl h)) stop)
+  first-without answers file files text s fine other (no_answers p names is stop) = no_answers p names is (answers-without names answers text s fine stop)
   first-without answers file files text s fine other (goes_first p names entries table rest is has says e r) =
       goes_first p names entries table rest is has says e (course-without entries files 1 p table (list_all (passes p) entries) rest s (λ h. other (inr h)) r)
 

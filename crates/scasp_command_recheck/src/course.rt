@@ -46,7 +46,7 @@ impl Course {
         names: Names,
         out: &mut K,
     ) -> Result<Course, OutputErr>
-        ensures blocks { IfOk result (λ course. AreBlocks course.blocks program.now (map entry_of entries)) }
+        ensures under_program { IfOk result (λ course. AreBlocks course.blocks program.now (map entry_of entries)) }
         ensures names { IfOk result (λ course. course.names ≡ names) }
         ensures number { IfOk result (λ course. course.number ≡ 1) }
         ensures accepted { IfOk result (λ course. course.accepted ≡ list_all (passes program.now) (map entry_of entries)) }
@@ -74,7 +74,7 @@ impl Course {
         program: &Program,
         out: &mut K,
     ) -> Result<Course, OutputErr>
-        ensures blocks { (p : ThisProgram) (entries : List ThisEntry) → AreBlocks self.blocks p entries → IfOk result (λ course. AreBlocks course.blocks program.now entries) }
+        ensures under_program { (p : ThisProgram) (entries : List ThisEntry) → AreBlocks self.blocks p entries → IfOk result (λ course. AreBlocks course.blocks program.now entries) }
         ensures names { IfOk result (λ course. course.names ≡ self.names) }
         ensures number { IfOk result (λ course. course.number ≡ self.number + 1) }
         ensures accepted { (p : ThisProgram) (entries : List ThisEntry) → AreBlocks self.blocks p entries → IfOk result (λ course. course.accepted ≡ (self.accepted && list_all (passes program.now) entries)) }

@@ -41,7 +41,7 @@ returns-in-Ok-begin g c =
     (λ other. c.in-Ok-answers_in_file.ensures.stays other ∙ c.in-Ok.ensures.stays other)
     (λ other. omega (arith, c.in-Ok.ensures.counts other, c.in-Ok-answers_in_file.ensures.counts other))
     c.in-Ok-begin.ensures.number c.in-Ok-begin.ensures.names c.in-Ok-begin.ensures.accepted c.in-Ok-begin.ensures.ok c.in-Ok-begin.ensures.counts
-    (rw (take_rest c.args.files.now 1) at (c.go_on.ensures c.in-Ok.read.0 (map entry_of c.in-Ok-answers_in_file.read.0) c.in-Ok-begin.ensures.blocks)))
+    (rw (take_rest c.args.files.now 1) at (c.go_on.ensures c.in-Ok.read.0 (map entry_of c.in-Ok-answers_in_file.read.0) c.in-Ok-begin.ensures.under_program)))
 
 pub returns-in-Err-Write : goal.returns-in-Err-Write
 returns-in-Err-Write g c =

@@ -33,7 +33,7 @@ returns-in-Ok-step g t c = λ p entries blocks.
     c.as_str.result.now (drop 1 c.args.files.now) q c.in-Ok.read.1 c.in-Ok-step.course.number c.in-Ok-step.course.names c.in-Ok-step.course.accepted
     (g.K.Sink.taken c.go_on.new.out) (g.K.Sink.faults c.go_on.new.out) c.go_on.result c.in-Ok.ensures.stays c.in-Ok.ensures.counts c.in-Ok.ensures.ok
     c.in-Ok-step.ensures.number c.in-Ok-step.ensures.names (c.in-Ok-step.ensures.accepted p entries blocks) (c.in-Ok-step.ensures.ok p entries blocks) c.in-Ok-step.ensures.counts
-    (rw (take_rest c.args.files.now 1) at (c.go_on.ensures q entries (c.in-Ok-step.ensures.blocks p entries blocks))))
+    (rw (take_rest c.args.files.now 1) at (c.go_on.ensures q entries (c.in-Ok-step.ensures.under_program p entries blocks))))
 
 pub returns-in-Err-Write : goal.returns-in-Err-Write
 returns-in-Err-Write g t c = λ p entries blocks.
