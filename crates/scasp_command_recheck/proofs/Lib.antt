@@ -1,4 +1,2 @@
 pub mod BlockLemmas
-pub mod CourseLemmas
-pub mod FaultLemmas
 pub mod LineLemmas

@@ -1,5 +1,4 @@
 pub mod Blocks
-pub mod Courses
 pub mod Lines
 pub mod Texts
 pub mod Views

@@ -14,7 +14,7 @@ use Rattle.scasp_answers.specs.Blocks.States.{Entry}
 use Rattle.scasp_answers.specs.declared.blocks.fault.AnswerFault.{AnswerFault}
 use Rattle.scasp_io.specs.Counts.{Rose}
 use Rattle.scasp_command_words.specs.declared.command.Command.{Command}
-use Rattle.scasp_command_words.specs.declared.command.Command.TheVariants.{Run, Check, Trial, Recheck}
+use Rattle.scasp_command_words.specs.declared.command.Command.TheVariants.{Run, Check, Trial}
 use Rattle.scasp_command_check.specs.Meaning.{IsAccepted}
 use Rattle.scasp_command_check.specs.Texts.{recheck_text, rechecked_of}
 use Rattle.scasp_command_check.specs.declared.checking.Rechecked.{Rechecked}
@@ -23,7 +23,7 @@ use Rattle.scasp_command_check.proofs.MeaningLemmas.{means_accepted}
 use Rattle.scasp_top.specs.Agreeing.{ChecksAgree, ChecksMean}
 use Rattle.scasp_top.specs.Ends.{check_status, IsCheck}
 use Rattle.scasp_command_inputs.specs.Inputs.{answers_in, without_faults, AreBytes, Failed, IsAnswers, IsProgram, Outside, Says, unread, refused, unread_answers, refused_answers}
-use Rattle.scasp_top.specs.Outputs.{program_file, Checks, Outputs, nothing, usage, no_program, runs, no_answers, checks, tries, rechecks}
+use Rattle.scasp_top.specs.Outputs.{program_file, Checks, Outputs, nothing, usage, no_program, runs, no_answers, checks, tries}
 use Rattle.scasp_command_inputs.specs.Texts.{answers_refusal, program_refusal, refusal_line, refusal_status}
 use Rattle.scasp_command_inputs.specs.declared.refusals.Input.TheVariants as input
 use Rattle.scasp_command_inputs.specs.declared.status.Status.{Status}
@@ -128,7 +128,6 @@ program-file-is : (program answers : List ℕ) (command : Command) (file : List 
 program-file-is program answers (Run other budget asked) file e named = cc
 program-file-is program answers (Check p a) file e named = cc
 program-file-is program answers (Trial n) file e named = cc
-program-file-is program answers (Recheck a fs) file e named = cc
 
 module _ (program answers : List ℕ) (o : Outside) (bytes blocks : List ℕ) (told : o.told program ≡ Some bytes) (told' : o.told answers ≡ Some blocks) where
   these : (file all named : List ℕ) → o.told file ≡ Some all → named ≡ file → (read : List ℕ) → AreBytes (o.told named) read → read ≡ all
@@ -151,7 +150,6 @@ module _ (program answers : List ℕ) (o : Outside) (bytes blocks : List ℕ) (t
       at_program r.fault (ap (program_in list_names) (sym same) ∙ r.is) r.says
   comes text status k (runs file budget asked p names is has r) = cc
   comes text status k (tries n is t) = cc
-  comes text status k (rechecks a fs is r) = cc
   comes text status k (no_answers pf af p names is has (unread_answers rose says)) = absurd (calm o af rose)
   comes text status k (no_answers pf af p names is has (refused_answers read are r)) =
       let named : pf ≡ program = cc in

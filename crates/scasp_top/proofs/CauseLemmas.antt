@@ -1,8 +1,8 @@
 -- The causes of the statuses for faults.
-use Rattle.std.proofs.Common.{◌≡◌, ◌≢◌, ◌⊎◌, inl, inr, ℕ, Bool, true, false, Option, None, Some, List, refl, sym, subst, ◌∙◌, ap}
+use Rattle.std.proofs.Common.{◌≡◌, ◌⊎◌, inl, inr, ℕ, Bool, true, false, Option, None, Some, List, refl, sym, subst, ◌∙◌, ap}
 use Rattle.scasp_io.specs.Counts.{Rose}
 use Rattle.scasp_command_words.specs.declared.command.Command.{Command}
-use Rattle.scasp_command_words.specs.declared.command.Command.TheVariants.{Run, Check, Trial, Recheck}
+use Rattle.scasp_command_words.specs.declared.command.Command.TheVariants.{Run, Check, Trial}
 use Rattle.scasp_command_run.specs.declared.ends.RunEnd.{RunEnd}
 use Rattle.scasp_command_run.specs.declared.ends.RunEnd.TheVariants as run
 use Rattle.scasp_command_check.specs.declared.checking.Rechecked.{Rechecked}
@@ -10,10 +10,8 @@ use Rattle.scasp_command_check.specs.declared.checking.Rechecked.TheVariants as 
 use Rattle.scasp_command_trial.specs.declared.first.Trial.{Trial as Trying}
 use Rattle.scasp_command_trial.specs.declared.first.Trial.TheVariants as trial
 use Rattle.scasp_top.specs.Ends.{run_status, check_status, trial_status}
-use Rattle.scasp_command_recheck.specs.Courses.{AnyFailed}
-use Rattle.scasp_command_recheck.proofs.FaultLemmas.{EndsBy, rechecks-end, rechecks-without}
-use Rattle.scasp_command_inputs.specs.Inputs.{Failed, Outside, without_faults, unread, refused, unread_answers, refused_answers}
-use Rattle.scasp_top.specs.Outputs.{program_file, HasReadFault, Outputs, nothing, usage, no_program, runs, no_answers, checks, tries, rechecks, is_refused, is_tried}
+use Rattle.scasp_command_inputs.specs.Inputs.{Outside, without_faults, unread, refused, unread_answers, refused_answers}
+use Rattle.scasp_top.specs.Outputs.{program_file, HasReadFault, Outputs, nothing, usage, no_program, runs, no_answers, checks, tries, is_refused, is_tried}
 use Rattle.scasp_io.specs.Taken.{TakesWhole}
 use Rattle.scasp_command_inputs.specs.Reports.{Reports, whole, part}
 use Rattle.scasp_command_inputs.specs.Texts.{Refusal, refusal_status, program_refusal, answers_refusal}
@@ -83,38 +81,11 @@ program-fault asked o command file is named rose =
     by (Run other budget answers) e = of other e
     by (Check program answers) e = inl (of program e)
     by (Trial n) e = cc
-    by (Recheck answers files) e = cc
 
 answers-fault : (asked : Option Command) (o : Outside) (program answers : List ℕ) → asked ≡ Some (Check program answers) → Rose (o.before answers) (o.after answers) → HasReadFault asked o
 answers-fault asked o program answers is rose =
     let P : Option Command → Type 0 = λ a. HasReadFault a o in
     subst P (sym is) (inr rose)
-
-recheck-fault : (asked : Option Command) (o : Outside) (answers : List ℕ) (files : List (List ℕ)) → asked ≡ Some (Recheck answers files)
-    → Failed o answers ⊎ AnyFailed o files → HasReadFault asked o
-recheck-fault asked o answers files is h =
-    let P : Option Command → Type 0 = λ a. HasReadFault a o in
-    subst P (sym is) h
-
-calm-status : (s : Status) → s ≢ Read → s ≢ Write → is_fault s ≡ false
-unfolding is_fault
-calm-status Done read write = refl
-calm-status NoAnswer read write = refl
-calm-status Usage read write = refl
-calm-status Text read write = refl
-calm-status Read read write = absurd (read refl)
-calm-status Write read write = absurd (write refl)
-calm-status Spent read write = refl
-calm-status Overflow read write = refl
-calm-status Memory read write = refl
-calm-status Refused read write = refl
-calm-status Limit read write = refl
-
-recheck-cause : (asked : Option Command) (o : Outside) (answers : List ℕ) (files : List (List ℕ)) (status : Status) → asked ≡ Some (Recheck answers files)
-    → EndsBy (Failed o answers ⊎ AnyFailed o files) status → Cause asked o status
-unfolding Cause
-recheck-cause asked o answers files status is (inl h) = inl (calm-status status h.0 h.1)
-recheck-cause asked o answers files status is (inr h) = inr (h.0, recheck-fault asked o answers files is h.1)
 
 cause-of : (asked : Option Command) (o : Outside) (text : List ℕ) (status : Status) → Outputs asked o text status → Cause asked o status
 unfolding is_fault Cause
@@ -128,7 +99,6 @@ cause-of asked o text status (no_answers program answers p names is read (refuse
 cause-of asked o text status (checks program answers p names entries is read has c) = calm asked o status _ c.ending (check-calm c.end)
 cause-of asked o text status (tries n is (is_refused r)) = calm asked o status _ (r.says).ending_is (refusal-calm (program_refusal (r.fault).kind))
 cause-of asked o text status (tries n is (is_tried p names read t)) = calm asked o status _ (t.says).ending_is (trial-calm t.trial)
-cause-of asked o text status (rechecks answers files is r) = recheck-cause asked o answers files status is (rechecks-end o answers files text status r)
 
 -- ---- the clauses
 
@@ -163,9 +133,6 @@ without asked o text status fine (no_answers program answers p names is read (un
 without asked o text status fine (no_answers program answers p names is read (refused_answers bytes are r)) = no_answers program answers p names is read (refused_answers bytes are r)
 without asked o text status fine (checks program answers p names entries is read has c) = checks program answers p names entries is read has c
 without asked o text status fine (tries n is t) = tries n is t
-without asked o text status fine (rechecks answers files is r) =
-    rechecks answers files is
-    (rechecks-without o answers files text status (λ h. fine (recheck-fault asked o answers files is (inl h))) (λ h. fine (recheck-fault asked o answers files is (inr h))) r)
 
 pub completes : (asked : Option Command) (o : Outside) (before after : Option (List ℕ)) (faults faults' : ℕ) (status : Status)
     → Reports (Outputs asked o) before after faults faults' status → ¬ HasReadFault asked o → ¬ Rose faults faults'

@@ -3,7 +3,6 @@
 
 mod check_command;
 mod laws;
-mod recheck_command;
 mod run_command;
 mod top;
 mod trial_command;
