@@ -24,8 +24,8 @@ same-then : (r s t : Rest) → IsSameRun r s → IsSameRun s t → IsSameRun r t
 same-then r s t g h = record { problem = h.problem ∙ g.problem; queried = h.queried ∙ g.queried; budget = h.budget ∙ g.budget }
 
 pub goes-same : (p : Program) (old : Search) (calls : ℕ) (coming : Coming) (new : Search) → GoesOn p old calls coming new → IsSameRun (rest_of old) (rest_of new)
-goes-same p old calls coming new (comes old new calls given coming advanced c) = advanced.same
-goes-same p old calls coming new (passes old between new calls tree coming advanced passed rest) =
+goes-same p o c k n (comes old new calls given coming advanced is) = advanced.same
+goes-same p o c k n (passes old between new calls tree coming advanced passed rest) =
     same-then (rest_of old) (rest_of between) (rest_of new) advanced.same (goes-same p between _ coming new rest)
 
 -- ---- one search of the table
@@ -35,11 +35,11 @@ IsOf p fresh s = IsSearchOf p fresh s.search
 
 found : (p : Program) (fresh id : ℕ) (ss : List Session) (x : Search) → Each (IsOf p fresh) ss → search_of id ss ≡ Some x → IsSearchOf p fresh x
 found p fresh id [] x e h = absurd (cc h)
-found p fresh id (s ∷ ss) x e h = by (has_number id s) h
+found p fresh id (s ∷ ss) x e h = by (has_number id s) h (found p fresh id ss x e.1)
   where
-    by : (b : Bool) → (if b then Some s.search else search_of id ss) ≡ Some x → IsSearchOf p fresh x
-    by true h = let same : s.search ≡ x = cc h in subst (λ (y : Search). IsSearchOf p fresh y) same e.0
-    by false h = found p fresh id ss x e.1 h
+    by : (b : Bool) → (if b then Some s.search else search_of id ss) ≡ Some x → (search_of id ss ≡ Some x → IsSearchOf p fresh x) → IsSearchOf p fresh x
+    by true h next = let same : s.search ≡ x = cc h in subst (λ (y : Search). IsSearchOf p fresh y) same e.0
+    by false h next = next h
 
 changed : (p : Program) (fresh id : ℕ) (x : Search) (ss : List Session) → IsSearchOf p fresh x → Each (IsOf p fresh) ss → Each (IsOf p fresh) (with_search id x ss)
 changed p fresh id x [] g e = tt
