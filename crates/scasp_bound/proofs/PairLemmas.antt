@@ -26,8 +26,17 @@ pushed bs ps p = list_all-append (is_same bs) ps (p ∷ []) ∙ ap (λ b. all_sa
 pushed_work : (bs : Bindings) (ps : List Pair) (p : Pair) → all_work bs (ps ++ p ∷ []) ≡ all_work bs ps + work bs p
 pushed_work bs ps p = sum_by-append (work bs) ps (p ∷ []) ∙ (omega arith)
 
-pub first_pair : (bs : Bindings) (ps : List Pair) (p : Pair) → ps ≡ [] ++ p ∷ [] → all_same bs ps ≡ is_same bs p
+turned : (a b : Bool) → (a && b) ≡ (b && a)
+turned true true = refl
+turned true false = refl
+turned false true = refl
+turned false false = refl
+
+first_pair : (bs : Bindings) (ps : List Pair) (p : Pair) → ps ≡ [] ++ p ∷ [] → all_same bs ps ≡ is_same bs p
 first_pair bs ps p e = ap (all_same bs) e ∙ and-true (is_same bs p)
+
+pub two_pairs : (bs : Bindings) (ps qs : List Pair) (p q : Pair) → ps ≡ [] ++ q ∷ [] → qs ≡ ps ++ p ∷ [] → all_same bs qs ≡ (is_same bs p && is_same bs q)
+two_pairs bs ps qs p q e f = ap (all_same bs) f ∙ pushed bs ps p ∙ ap (λ b. b && is_same bs p) (first_pair bs ps q e) ∙ turned (is_same bs q) (is_same bs p)
 
 -- of the last pair this is left
 looked_at : (bs : Bindings) (ps qs : List Pair) (p : Pair) (l : Left) (z : Bool) → qs ≡ ps ++ p ∷ [] → are_same bs l ≡ is_same bs p

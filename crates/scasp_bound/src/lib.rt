@@ -6,8 +6,6 @@ mod listing;
 mod places;
 mod reading;
 mod sameness;
-#[cfg(test)]
-mod tests;
 mod variables;
 
 pub use bound::Bound;

@@ -1,5 +1,5 @@
 //! Whether bindings read terms as the same ones.
-ghost use Rattle.std.specs.Prelude.{◌≡◌, ◌<◌, ◌+◌, ◌*◌, ◌&&◌, List, Option, IfOk};
+ghost use Rattle.std.specs.Prelude.{◌≡◌, ◌<◌, ◌≤◌, ◌+◌, ◌*◌, ◌&&◌, List, Option, IfOk};
 ghost use Rattle.scasp_syntax.specs.Same.{same_tm, same_tms};
 ghost use Rattle.scasp_syntax.specs.Tm.{weight};
 ghost use Rattle.scasp_unify.specs.declared.bindings.Binding.{Binding as ThisBinding};
@@ -47,7 +47,7 @@ fn left_by_heads<'a>(first: &Head<'a>, second: &Head<'a>, rest: Pair<'a>) -> Lef
                     left: *left_args,
                     right: *right_args,
                 };
-                Left::Both(args, rest)
+                args_and_rest(args, rest)
             } else {
                 Left::Apart
             }
@@ -55,6 +55,18 @@ fn left_by_heads<'a>(first: &Head<'a>, second: &Head<'a>, rest: Pair<'a>) -> Lef
         (Head::Var(_), Head::Num(_) | Head::Name(..))
         | (Head::Num(_), Head::Var(_) | Head::Name(..))
         | (Head::Name(..), Head::Var(_) | Head::Num(_)) => Left::Apart,
+    }
+}
+
+/// The arguments of the first terms, if they have any, and the rest.
+fn args_and_rest<'a>(args: Pair<'a>, rest: Pair<'a>) -> Left<'a>
+    ensures same { (bs : List (Option ThisBinding)) → are_same bs result ≡ (is_same bs args.entry && is_same bs rest.entry) }
+    ensures less { (bs : List (Option ThisBinding)) → left_work bs result ≤ work bs args.entry + work bs rest.entry }
+{
+    if args.left.terms.is_empty() && args.right.terms.is_empty() {
+        Left::Rest(rest)
+    } else {
+        Left::Both(args, rest)
     }
 }
 
@@ -105,21 +117,23 @@ fn left_of<'a>(
     }
 }
 
-/// Whether the two lists are the same, as they are read. It takes memory for the lists that are still to be compared, and no
-/// machine stack; no term is made.
-#[tactic(auto, using(crate::proofs::PairLemmas::first_pair, crate::proofs::PairLemmas::apart, crate::proofs::PairLemmas::nothing, crate::proofs::PairLemmas::one_rest, crate::proofs::PairLemmas::both_rest, crate::proofs::PairLemmas::all_seen, crate::proofs::PairLemmas::less_nothing, crate::proofs::PairLemmas::less_rest, crate::proofs::PairLemmas::less_both))]
-pub(crate) fn are_same(
+/// Whether both pairs of lists are the same, as they are read. It takes memory for the lists that are still to be compared,
+/// and no machine stack; no term is made.
+#[tactic(auto, using(crate::proofs::PairLemmas::two_pairs, crate::proofs::PairLemmas::apart, crate::proofs::PairLemmas::nothing, crate::proofs::PairLemmas::one_rest, crate::proofs::PairLemmas::both_rest, crate::proofs::PairLemmas::all_seen, crate::proofs::PairLemmas::less_nothing, crate::proofs::PairLemmas::less_rest, crate::proofs::PairLemmas::less_both))]
+fn are_both_same(
     alloc: Global,
     bindings: &[Option<Binding>],
     places: &[Option<Place>],
     is_whole: bool,
-    pair: Pair<'_>,
+    first: Pair<'_>,
+    second: Pair<'_>,
 ) -> Result<bool, Memory>
     requires { IsRight is_whole bindings.now places.now }
-    ensures { IfOk result (λ same. same ≡ same_tms (piece_read bindings.now pair.entry.left) (piece_read bindings.now pair.entry.right)) }
+    ensures { IfOk result (λ same. same ≡ (is_same bindings.now first.entry && is_same bindings.now second.entry)) }
 {
     let mut unseen = Vec::new(alloc);
-    unseen.push(pair)?;
+    unseen.push(second)?;
+    unseen.push(first)?;
     'pairs: while let Some(next) = unseen.pop() {
         match left_of(bindings, places, is_whole, next) {
             Left::Apart => return Ok(false),
@@ -134,4 +148,31 @@ pub(crate) fn are_same(
         }
     }
     Ok(true)
+}
+
+/// Whether the two lists are the same, as they are read. Memory is taken only where names with arguments are compared; no
+/// term is made.
+pub(crate) fn are_same(
+    alloc: Global,
+    bindings: &[Option<Binding>],
+    places: &[Option<Place>],
+    is_whole: bool,
+    pair: Pair<'_>,
+) -> Result<bool, Memory>
+    requires { IsRight is_whole bindings.now places.now }
+    ensures { IfOk result (λ same. same ≡ same_tms (piece_read bindings.now pair.entry.left) (piece_read bindings.now pair.entry.right)) }
+{
+    let mut next = pair;
+    'firsts: loop {
+        match left_of(bindings, places, is_whole, next) {
+            Left::Apart => return Ok(false),
+            Left::Nothing => return Ok(true),
+            Left::Rest(rest) => {
+                next = rest;
+            }
+            Left::Both(args, rest) => {
+                return are_both_same(alloc, bindings, places, is_whole, args, rest);
+            }
+        }
+    }
 }

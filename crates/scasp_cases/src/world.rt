@@ -141,5 +141,6 @@ pub fn name_of(status: Status) -> &'static str {
         Status::Memory => "Memory",
         Status::Refused => "Refused",
         Status::Limit => "Limit",
+        Status::NoModel => "NoModel",
     }
 }

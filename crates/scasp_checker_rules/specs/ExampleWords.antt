@@ -1,5 +1,6 @@
 -- Words for worked cases: programs, tests and refusals.
 use Rattle.std.specs.Prelude.{◌≡◌, ℕ, true, ℤ, List, [], ◌∷◌, map, Some, Option}
+use Rattle.std.proofs.Common.{refl}
 use Rattle.scasp_num.specs.Linear.{Linear}
 use Rattle.scasp_num.specs.declared.hints.Step.{Step}
 use Rattle.scasp_num.specs.declared.linear.Op.{Op}
@@ -16,7 +17,7 @@ use Rattle.scasp_checker_rules.specs.declared.refusal.Refusal.{Refusal}
 use Rattle.scasp_checker_rules.specs.declared.refusal.Reason.{Reason}
 
 abbrev pub program : (cs : List Clause) (qs : List Query) → are_well_formed cs qs ≡ true → Program
-program cs qs e = record { clauses = cs; queries = qs; well_formed = e }
+program cs qs e = record { clauses = cs; queries = qs; abducibles = []; well_formed = e; choices = refl }
 
 -- a query of literals without variables
 abbrev pub ask_all : List Lit → Query

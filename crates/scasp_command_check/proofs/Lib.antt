@@ -1,4 +1,4 @@
 mod EntryLemmas
 pub mod MeaningLemmas
-mod TookLemmas
+pub mod TookLemmas
 mod WorthLemmas

@@ -8,5 +8,5 @@ mod worth;
 
 pub use checking::{Rechecked, recheck, see_entries};
 pub use laws::{accepted_means, right_means};
-pub use lines::block_line;
+pub use lines::{block_line, reason_words};
 pub use worth::{Worth, find_worth, see_worth};

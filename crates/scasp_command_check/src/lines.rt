@@ -11,7 +11,7 @@ use scasp_print_words::{put, put_number};
 use std::alloc::Global;
 
 /// A reason in words.
-fn reason_words(reason: Reason) -> &'static str
+pub fn reason_words(reason: Reason) -> &'static str
     ensures { result.now ≡ spec.reason_words reason }
 {
     match reason {

@@ -117,7 +117,7 @@ blocks-had told names items bytes entries table (Err halt) same are h t = h
 
 -- ---- a later file of a command
 
-rose-earlier : (first before after : ℕ) → first ≤ before → Rose before after → Rose first after
+pub rose-earlier : (first before after : ℕ) → first ≤ before → Rose before after → Rose first after
 rose-earlier first before after h rose = omega arith
 
 -- what is so where earlier files have been read is so of the whole call

@@ -8,7 +8,7 @@ use Rattle.scasp_answers.specs.declared.blocks.fault.AnswerKind.TheVariants as a
 use Rattle.scasp_command_inputs.specs.Codes.{code_of}
 use Rattle.scasp_command_inputs.specs.Texts.{read_line, refusal_line, refusal_status, program_refusal, answers_refusal}
 use Rattle.scasp_command_inputs.specs.declared.refusals.Input.TheVariants as input
-use Rattle.scasp_command_inputs.specs.declared.status.Status.TheVariants.{Done, NoAnswer, Usage, Text, Read, Write, Spent, Overflow, Memory, Refused, Limit}
+use Rattle.scasp_command_inputs.specs.declared.status.Status.TheVariants.{Done, NoAnswer, Usage, Text, Read, Write, Spent, Overflow, Memory, Refused, Limit, NoModel}
 
 d7 : decimal 7 ≡ 55 ∷ []
 d7 = decimal_digit 7 (lit< tt)
@@ -36,6 +36,6 @@ limit_status = refl
 
 -- the codes of all statuses
 exit_codes :
-    code_of Done ∷ code_of NoAnswer ∷ code_of Usage ∷ code_of Text ∷ code_of Read ∷ code_of Write ∷ code_of Spent ∷ code_of Overflow ∷ code_of Memory ∷ code_of Refused ∷ code_of Limit ∷ []
-    ≡ 0 ∷ 1 ∷ 2 ∷ 3 ∷ 4 ∷ 5 ∷ 6 ∷ 7 ∷ 8 ∷ 9 ∷ 11 ∷ []
+    code_of Done ∷ code_of NoAnswer ∷ code_of Usage ∷ code_of Text ∷ code_of Read ∷ code_of Write ∷ code_of Spent ∷ code_of Overflow ∷ code_of Memory ∷ code_of Refused ∷ code_of Limit ∷ code_of NoModel ∷ []
+    ≡ 0 ∷ 1 ∷ 2 ∷ 3 ∷ 4 ∷ 5 ∷ 6 ∷ 7 ∷ 8 ∷ 9 ∷ 11 ∷ 12 ∷ []
 exit_codes = refl

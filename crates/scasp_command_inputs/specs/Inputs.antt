@@ -9,6 +9,7 @@ use Rattle.scasp_answers.specs.Blocks.States.{Entry}
 use Rattle.scasp_answers.specs.declared.blocks.fault.AnswerFault.{AnswerFault}
 use Rattle.scasp_answers.specs.Files.Texts.{with_names}
 use Rattle.scasp_io.specs.Counts.{Rose}
+use Rattle.scasp_abduce.specs.Translation.{IsTranslation}
 use Rattle.scasp_command_inputs.specs.Texts.{read_line, refusal_line, refusal_status, program_refusal, answers_refusal}
 use Rattle.scasp_command_inputs.specs.declared.refusals.Input.TheVariants as input
 use Rattle.scasp_command_inputs.specs.declared.status.Status.{Status}
@@ -40,10 +41,21 @@ AreBytes told bytes = IfSome told (λ all. bytes ≡ all)
 -- ---- files that are read
 
 -- the file, of which these bytes are told, spells this program behind a table of names, and the table is this one then
-pub record IsProgramBehind (before : List (List ℕ)) (told : Option (List ℕ)) (p : Program) (names : List (List ℕ)) : Type 0 where
+pub record IsWrittenBehind (before : List (List ℕ)) (told : Option (List ℕ)) (p : Program) (names : List (List ℕ)) : Type 0 where
   pub bytes : List ℕ
   pub are : AreBytes told bytes
   pub read : program_in before bytes ≡ Ok (reading_of (p, names))
+
+-- the same of the first program of a command
+abbrev pub IsWritten : Option (List ℕ) → Program → List (List ℕ) → Type 0
+IsWritten told p names = IsWrittenBehind list_names told p names
+
+-- the file spells a program of which this one is the translation, without abducible predicates, and the table is this one then
+pub record IsProgramBehind (before : List (List ℕ)) (told : Option (List ℕ)) (p : Program) (names : List (List ℕ)) : Type 0 where
+  pub written : Program
+  pub table : List (List ℕ)
+  pub is : IsWrittenBehind before told written table
+  pub translated : IsTranslation table written p names
 
 -- the same of the first program of a command
 abbrev pub IsProgram : Option (List ℕ) → Program → List (List ℕ) → Type 0

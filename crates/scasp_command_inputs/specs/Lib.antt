@@ -1,4 +1,5 @@
 pub mod Codes
+pub mod Domains
 pub mod Examples
 pub mod Halts
 pub mod Inputs

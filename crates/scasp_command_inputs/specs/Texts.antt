@@ -16,6 +16,7 @@ abbrev pub input_word : Input → List ℕ
 input_word input.Program = codes "program"
 input_word input.Answers = codes "answers"
 input_word input.Commands = codes "commands"
+input_word input.Domain = codes "domain"
 
 abbrev pub read_line : Input → List ℕ
 read_line i = codes "read " ++ input_word i ++ codes "\n"

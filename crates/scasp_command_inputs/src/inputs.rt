@@ -1,15 +1,16 @@
 //! The files of a command.
-ghost use Rattle.std.specs.Prelude.{◌≡◌, ◌≤◌, ℕ, List, Ok, IfOk, IfErr, map};
-ghost use Rattle.scasp_name.specs.Texts.{list_names};
+ghost use Rattle.std.specs.Prelude.{◌≡◌, ◌≤◌, ℕ, List, Some, Ok, IfOk, IfErr, map};
+ghost use Rattle.scasp_abduce.specs.Translation.{IsTranslation};
 ghost use Rattle.scasp_reader.specs.Programs.Programs.{program_in, reading_of};
 ghost use Rattle.scasp_answers.specs.Files.View.{entry_of};
 ghost use Rattle.scasp_command_inputs.specs.Halts.{IfLine};
 ghost use Rattle.scasp_answers.specs.Files.Texts.{with_names};
-ghost use Rattle.scasp_command_inputs.specs.Inputs.{answers_in, outside, HasAnswers, IsNoAnswers, IsNoProgram, IsNoProgramBehind, IsProgram, IsProgramBehind, RefusesAnswers, RefusesProgram, RefusesProgramBehind};
+ghost use Rattle.scasp_command_inputs.specs.Inputs.{answers_in, outside, HasAnswers, IsNoAnswers, IsNoProgram, IsNoProgramBehind, IsProgram, IsProgramBehind, IsWritten, IsWrittenBehind, RefusesAnswers, RefusesProgram, RefusesProgramBehind};
 
 use crate::halt::{Halt, line};
 use crate::refusals::{answers_refusal, program_refusal};
 use crate::status::Status;
+use scasp_abduce::translate;
 use scasp_answers::{
     AnswerErr, AnswerFault, AnswerKind, BYTE_LIMIT as ANSWER_LIMIT, Entries, read_answers,
 };
@@ -21,7 +22,7 @@ use scasp_reader_terms::{Count, Fault, Kind, Stop};
 use scasp_syntax::{Nested, Program};
 use std::alloc::Global;
 
-/// The program that the bytes spell behind these names, and the table of names then; or the line of the first fault.
+/// The program that the bytes spell behind these names, as it is written, and the table of names then; or the line of the first fault.
 fn read_text_behind(alloc: Global, bytes: &[u8], names: Names) -> Result<(Program, Names), Halt>
     ensures ok { IfOk result (λ x. program_in names bytes.now ≡ Ok (reading_of x)) }
     ensures err { IfErr result (λ halt. IfLine halt (RefusesProgramBehind names bytes.now)) }
@@ -36,25 +37,49 @@ fn read_text_behind(alloc: Global, bytes: &[u8], names: Names) -> Result<(Progra
     }
 }
 
-/// The program that the bytes spell, and its table of names; or the line of the first fault.
+/// The translation of the program, in which no predicate is abducible, and the table with its new names.
+fn translated(alloc: Global, program: Program, names: Names) -> Result<(Program, Names), Halt>
+    ensures ok { IfOk result (λ x. IsTranslation names program x.0 x.1) }
+    ensures err { IfErr result (λ halt. halt ≡ Halt.Memory) }
+{
+    match translate(alloc, program, names) {
+        Ok(read) => Ok(read),
+        Err(Memory) => Err(Halt::Memory),
+    }
+}
+
+/// The translation of the program that the bytes spell behind these names, and the table of names then; or the line of the
+/// first fault.
+fn next_text(alloc: Global, bytes: &[u8], names: Names) -> Result<(Program, Names), Halt>
+    ensures ok { IfOk result (λ x. IsProgramBehind names (Some bytes.now) x.0 x.1) }
+    ensures err { IfErr result (λ halt. IfLine halt (RefusesProgramBehind names bytes.now)) }
+{
+    match read_text_behind(alloc, bytes, names) {
+        Ok((program, names)) => translated(alloc, program, names),
+        Err(halt) => Err(halt),
+    }
+}
+
+/// The translation of the program that the bytes spell, and the table of names behind it; or the line of the first fault.
 pub fn read_text(alloc: Global, bytes: &[u8]) -> Result<(Program, Names), Halt>
-    ensures ok { IfOk result (λ x. program_in list_names bytes.now ≡ Ok (reading_of x)) }
+    ensures ok { IfOk result (λ x. IsProgram (Some bytes.now) x.0 x.1) }
     ensures err { IfErr result (λ halt. IfLine halt (RefusesProgram bytes.now)) }
 {
     let Ok(names) = Names::new(alloc) else {
         return Err(Halt::Memory);
     };
-    read_text_behind(alloc, bytes, names)
+    next_text(alloc, bytes, names)
 }
 
-/// The program in a file, read behind these names, and the table of names then; or the line that tells why there is none.
-pub fn next_program_in_file<F: Files>(
+/// The program as it is written in a file, read behind these names, and the table of names then; or the line that tells why
+/// there is none.
+fn next_written_in_file<F: Files>(
     alloc: Global,
     file: &str,
     names: Names,
     files: &mut F,
 ) -> Result<(Program, Names), Halt>
-    ensures ok { IfOk result (λ x. IsProgramBehind names (F.told files.old file.now) x.0 x.1) }
+    ensures ok { IfOk result (λ x. IsWrittenBehind names (F.told files.old file.now) x.0 x.1) }
     ensures err { IfErr result (λ halt. IfLine halt (IsNoProgramBehind names (outside (F.told files.old) (F.faults files.old) (F.faults files.new)) file.now)) }
     ensures stays { (other : List ℕ) → F.told files.new other ≡ F.told files.old other }
     ensures counts { (other : List ℕ) → F.faults files.old other ≤ F.faults files.new other }
@@ -70,7 +95,44 @@ pub fn next_program_in_file<F: Files>(
     }
 }
 
-/// The program in a file, and its table of names; or the line that tells why there is none.
+/// The program as it is written in a file, with its abducible predicates, and its table of names; or the line that tells why
+/// there is none.
+pub fn written_in_file<F: Files>(
+    alloc: Global,
+    file: &str,
+    files: &mut F,
+) -> Result<(Program, Names), Halt>
+    ensures ok { IfOk result (λ x. IsWritten (F.told files.old file.now) x.0 x.1) }
+    ensures err { IfErr result (λ halt. IfLine halt (IsNoProgram (outside (F.told files.old) (F.faults files.old) (F.faults files.new)) file.now)) }
+    ensures stays { (other : List ℕ) → F.told files.new other ≡ F.told files.old other }
+    ensures counts { (other : List ℕ) → F.faults files.old other ≤ F.faults files.new other }
+{
+    let Ok(names) = Names::new(alloc) else {
+        return Err(Halt::Memory);
+    };
+    next_written_in_file(alloc, file, names, files)
+}
+
+/// The translation of the program in a file, read behind these names, and the table of names then; or the line that tells why
+/// there is none.
+pub fn next_program_in_file<F: Files>(
+    alloc: Global,
+    file: &str,
+    names: Names,
+    files: &mut F,
+) -> Result<(Program, Names), Halt>
+    ensures ok { IfOk result (λ x. IsProgramBehind names (F.told files.old file.now) x.0 x.1) }
+    ensures err { IfErr result (λ halt. IfLine halt (IsNoProgramBehind names (outside (F.told files.old) (F.faults files.old) (F.faults files.new)) file.now)) }
+    ensures stays { (other : List ℕ) → F.told files.new other ≡ F.told files.old other }
+    ensures counts { (other : List ℕ) → F.faults files.old other ≤ F.faults files.new other }
+{
+    match next_written_in_file(alloc, file, names, files) {
+        Ok((program, names)) => translated(alloc, program, names),
+        Err(halt) => Err(halt),
+    }
+}
+
+/// The translation of the program in a file, and the table of names behind it; or the line that tells why there is none.
 pub fn program_in_file<F: Files>(
     alloc: Global,
     file: &str,

@@ -19,6 +19,7 @@ pub enum Input {
     Program,
     Answers,
     Commands,
+    Domain,
 }
 
 fn input_word(file: Input) -> &'static str
@@ -28,6 +29,7 @@ fn input_word(file: Input) -> &'static str
         Input::Program => "program",
         Input::Answers => "answers",
         Input::Commands => "commands",
+        Input::Domain => "domain",
     }
 }
 

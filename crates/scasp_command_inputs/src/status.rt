@@ -24,6 +24,8 @@ pub enum Status {
     Memory,
     /// A block that was checked is not accepted.
     Refused,
+    /// Every block is accepted, and above one no model was made.
+    NoModel,
     /// A count passes its limit: bytes of a file; clauses, items of a body, variables, arguments or brackets of a program's text.
     Limit,
 }
@@ -32,7 +34,7 @@ impl Status {
     ghost use Rattle.std.specs.Prelude.{◌≡◌};
     ghost use Rattle.scasp_command_inputs.specs.Codes.{code_of};
 
-    /// The exit code of the program: 0 to 9, and 11 for `Limit`.
+    /// The exit code of the program: 0 to 9, 11 for `Limit` and 12 for `NoModel`.
     pub fn code(self) -> u8
         ensures { result ≡ code_of self }
     {
@@ -48,6 +50,7 @@ impl Status {
             Status::Memory => 8,
             Status::Refused => 9,
             Status::Limit => 11,
+            Status::NoModel => 12,
         }
     }
 }

@@ -1,6 +1,5 @@
 -- The blocks among entries.
-use Rattle.std.proofs.Common.{◌≡◌, ◌∙◌, ℕ, Bool, true, false, ◌&&◌, List, [], ◌∷◌, ◌++◌, map, refl, ap, sym}
-use Rattle.std.specs.Prelude.{if◌then◌else◌}
+use Rattle.std.proofs.Common.{◌≡◌, ◌∙◌, ℕ, Bool, ◌&&◌, List, [], ◌∷◌, ◌++◌, map, refl, ap}
 use Rattle.std.specs.List.{concat, list_all}
 use Rattle.scasp_graph.specs.Judged.{judged}
 use Rattle.scasp_graph.specs.Map.{map_faults}
@@ -12,7 +11,7 @@ use Rattle.scasp_checker_rules.specs.Refusals.{first}
 use Rattle.scasp_checker_rules.specs.declared.refusal.Refusal.{Refusal}
 use Rattle.scasp_answers.specs.Blocks.States.{Entry, block, ended_entry, rejected_entry}
 use Rattle.scasp_recheck.specs.Checks.{checked_by, checked_of, verdict_of}
-use Rattle.scasp_command_check.specs.Texts.{block_lines, is_accepted, line_by, passes, rechecked_of}
+use Rattle.scasp_command_check.specs.Texts.{block_lines, is_accepted, line_by, passes}
 use Rattle.scasp_command_check.specs.Worths.{worth_by, worth_of}
 use Rattle.scasp_command_recheck.specs.Blocks.{block_certs, block_numbers}
 use Rattle.scasp_command_recheck.specs.Lines.{lines_by}
@@ -21,7 +20,6 @@ use Rattle.scasp_command_recheck.specs.Views.{AreBlocks}
 use Rattle.scasp_command_recheck.specs.Worths.{worth_in}
 use Rattle.scasp_command_recheck.specs.declared.blocks.Blocks.{Blocks}
 use Rattle.scasp_recheck.specs.Meaning.{certs_in, program_of}
-use Rattle.scasp_touched.specs.Touched.{touched_count}
 
 worth-by : (fs : List Refusal) (ks : List ℕ) → worth_in (checked_by (first fs) (verdict_of (judged ks))) ≡ worth_by fs ks
 worth-by (f ∷ fs) ks = refl
@@ -67,12 +65,3 @@ pub text-of : (b : Blocks) (p : Program) (entries : List Entry) (n visited : ℕ
     → text ≡ program_line n ++ concat (lines_by (program_of b.recheck) b.numbers (certs_in b.recheck)) ++ visited_line visited
     → text ≡ program_text n p entries visited
 text-of b p entries n visited text h e = e ∙ ap (λ ls. program_line n ++ concat ls ++ visited_line visited) (lines-of b p entries h)
-
--- the blocks behind an update
-pub updated : (a b : Blocks) (p q : Program) (entries : List Entry) → AreBlocks a p entries → program_of b.recheck ≡ q → b.numbers ≡ a.numbers
-    → certs_in b.recheck ≡ certs_in a.recheck → AreBlocks b q entries
-updated a b p q entries h e f g = record { program = e; numbers = f ∙ h.numbers; certs = g ∙ h.certs }
-
-pub visited-by : (a : Blocks) (p q : Program) (entries : List Entry) (n : ℕ) → AreBlocks a p entries
-    → n ≡ touched_count (program_of a.recheck) q (certs_in a.recheck) → n ≡ touched_count p q (block_certs entries)
-visited-by a p q entries n h e = e ∙ (λ i. touched_count (h.program i) q (h.certs i))

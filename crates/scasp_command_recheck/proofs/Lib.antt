@@ -1,2 +1,4 @@
 pub mod BlockLemmas
+pub mod CourseLemmas
+pub mod FaultLemmas
 pub mod LineLemmas

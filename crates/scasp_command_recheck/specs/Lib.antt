@@ -1,4 +1,5 @@
 pub mod Blocks
+pub mod Courses
 pub mod Lines
 pub mod Texts
 pub mod Views

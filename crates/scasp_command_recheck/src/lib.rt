@@ -1,8 +1,9 @@
-//! The text of the command `recheck`: what each block of an answer file is worth under one program after another.
+//! The command `recheck`: what each block of an answer file is worth under one program after another.
 #![tactic(auto)]
 
 mod blocks;
+mod course;
 mod parts;
 mod text;
 
-pub use blocks::Blocks;
+pub use course::recheck_files;

@@ -1,7 +1,7 @@
 -- Words that are a command, and words that are none, computed.
-use Rattle.std.specs.Prelude.{◌≡◌, ℕ, None, Some, List, [], ◌∷◌, codes, refl}
+use Rattle.std.specs.Prelude.{◌≡◌, ℕ, None, Some, List, [], ◌∷◌, codes, replicate, refl}
 use Rattle.scasp_command_words.specs.Commands.{command_of}
-use Rattle.scasp_command_words.specs.declared.command.Command.TheVariants.{Run, Check, Trial}
+use Rattle.scasp_command_words.specs.declared.command.Command.TheVariants.{Run, Check, Trial, Extend, Recheck}
 
 abbrev run_p : List (List ℕ) → List (List ℕ)
 run_p options = codes "run" ∷ codes "p" ∷ options
@@ -26,6 +26,18 @@ one_node = refl
 
 most_nodes : command_of (trial_n (codes "1000")) ≡ Some (Trial 1000)
 most_nodes = refl
+
+extend_three : command_of (codes "extend" ∷ codes "p" ∷ codes "a" ∷ codes "d" ∷ []) ≡ Some (Extend (codes "p") (codes "a") (codes "d"))
+extend_three = refl
+
+abbrev recheck_a : List (List ℕ) → List (List ℕ)
+recheck_a programs = codes "recheck" ∷ codes "a" ∷ programs
+
+two_programs : command_of (recheck_a (codes "p" ∷ codes "q" ∷ [])) ≡ Some (Recheck (codes "a") (codes "p" ∷ codes "q" ∷ []))
+two_programs = refl
+
+most_programs : command_of (recheck_a (replicate 100 (codes "p"))) ≡ Some (Recheck (codes "a") (replicate 100 (codes "p")))
+most_programs = refl
 
 -- a file may have any name
 named_as_an_option : command_of (codes "run" ∷ codes "--budget" ∷ []) ≡ Some (Run (codes "--budget") 50000 1)
@@ -83,3 +95,18 @@ no_count = refl
 
 two_counts : command_of (codes "trial" ∷ codes "1" ∷ codes "2" ∷ []) ≡ None
 two_counts = refl
+
+no_domain : command_of (codes "extend" ∷ codes "p" ∷ codes "a" ∷ []) ≡ None
+no_domain = refl
+
+two_domains : command_of (codes "extend" ∷ codes "p" ∷ codes "a" ∷ codes "d" ∷ codes "d" ∷ []) ≡ None
+two_domains = refl
+
+one_program : command_of (recheck_a (codes "p" ∷ [])) ≡ None
+one_program = refl
+
+no_answer_file : command_of (codes "recheck" ∷ []) ≡ None
+no_answer_file = refl
+
+too_many_programs : command_of (recheck_a (replicate 101 (codes "p"))) ≡ None
+too_many_programs = refl

@@ -1,11 +1,11 @@
 //! Commands.
 ghost use Rattle.std.specs.Prelude.{◌≡◌, Some, None, IfOk, IsErrOf, map, string_bytes};
-ghost use Rattle.scasp_command_words.specs.Commands.{command_of, run_of, check_of, trial_of};
+ghost use Rattle.scasp_command_words.specs.Commands.{command_of, run_of, check_of, trial_of, extend_of, recheck_of};
 
 use crate::error::WordErr;
 use crate::number::number_between;
 use crate::options::{Options, with_options};
-use crate::word::Word;
+use crate::word::{Word, Words};
 use std::alloc::Global;
 
 /// How many calls the search for answers to a query may make where the words do not say.
@@ -16,6 +16,12 @@ pub const DEFAULT_ANSWERS: u64 = 1;
 
 /// How many nodes a trial program may have.
 pub const MOST_NODES: u64 = 1_000;
+
+/// The fewest programs that answers are checked under, one after another.
+pub const FEWEST_PROGRAMS: usize = 2;
+
+/// The most programs that answers are checked under, one after another.
+pub const MOST_PROGRAMS: usize = 100;
 
 /// What the words ask for.
 #[derive(Debug, Drop)]
@@ -36,6 +42,18 @@ pub enum Command {
     /// The first answer of the trial program of so many nodes.
     Trial {
         n: u32,
+    },
+    /// A whole model above each answer in a file, over the terms in another.
+    Extend {
+        program: Word,
+        answers: Word,
+        domain: Word,
+    },
+    /// Whether the answers in a file are right under one program after another.
+    Recheck {
+        answers: Word,
+        /// The files of the programs.
+        files: Words,
     },
 }
 
@@ -89,6 +107,38 @@ fn trial_command(words: &[String]) -> Result<Command, WordErr>
     Ok(Command::Trial { n: n as u32 })
 }
 
+/// The command that the words behind `extend` are: a program, answers and a domain.
+fn extend_command(alloc: Global, words: &[String]) -> Result<Command, WordErr>
+    ensures ok { IfOk result (λ command. extend_of (map string_bytes words.now) ≡ Some command) }
+    ensures usage { IsErrOf result WordErr.Usage → extend_of (map string_bytes words.now) ≡ None }
+{
+    match words {
+        [program, answers, domain] => Ok(Command::Extend {
+            program: Word::from_text(alloc, program.as_str())?,
+            answers: Word::from_text(alloc, answers.as_str())?,
+            domain: Word::from_text(alloc, domain.as_str())?,
+        }),
+        _ => Err(WordErr::Usage),
+    }
+}
+
+/// The command that the words behind `recheck` are: answers, and 2 to 100 programs.
+fn recheck_command(alloc: Global, words: &[String]) -> Result<Command, WordErr>
+    ensures ok { IfOk result (λ command. recheck_of (map string_bytes words.now) ≡ Some command) }
+    ensures usage { IsErrOf result WordErr.Usage → recheck_of (map string_bytes words.now) ≡ None }
+{
+    let [answers, files @ ..] = words else {
+        return Err(WordErr::Usage);
+    };
+    if files.len() < FEWEST_PROGRAMS || files.len() > MOST_PROGRAMS {
+        return Err(WordErr::Usage);
+    }
+    Ok(Command::Recheck {
+        answers: Word::from_text(alloc, answers.as_str())?,
+        files: Words::from_texts(alloc, files)?,
+    })
+}
+
 /// The command that the words are.
 ///
 /// # Errors
@@ -102,6 +152,8 @@ pub fn parse_words(alloc: Global, words: &Vec<String>) -> Result<Command, WordEr
         [word, behind @ ..] if word.as_str() == "run" => run_command(alloc, behind),
         [word, behind @ ..] if word.as_str() == "check" => check_command(alloc, behind),
         [word, behind @ ..] if word.as_str() == "trial" => trial_command(behind),
+        [word, behind @ ..] if word.as_str() == "extend" => extend_command(alloc, behind),
+        [word, behind @ ..] if word.as_str() == "recheck" => recheck_command(alloc, behind),
         _ => Err(WordErr::Usage),
     }
 }

@@ -7,7 +7,10 @@ mod number;
 mod options;
 mod word;
 
-pub use command::{Command, DEFAULT_ANSWERS, DEFAULT_BUDGET, MOST_NODES, parse_words};
+pub use command::{
+    Command, DEFAULT_ANSWERS, DEFAULT_BUDGET, FEWEST_PROGRAMS, MOST_NODES, MOST_PROGRAMS,
+    parse_words,
+};
 pub use error::WordErr;
 pub use number::number_between;
-pub use word::Word;
+pub use word::{Word, Words};

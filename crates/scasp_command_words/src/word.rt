@@ -1,4 +1,4 @@
-//! One word.
+//! One word, and lists of words.
 use std::alloc::{AllocError, Global};
 use std::marker::Model;
 
@@ -33,5 +33,41 @@ impl Word {
         ensures { result.now ≡ self.now }
     {
         self.text.as_str()
+    }
+}
+
+/// Some words of a command; contracts see the bytes of each.
+#[derive(Debug, Drop)]
+pub struct Words {
+    list: Vec<Word>,
+}
+
+impl Model for Words {
+    ghost use Rattle.std.specs.Prelude.{ℕ, List};
+
+    ghost Value = { List (List ℕ) };
+
+    ghost view = { λ w. w.list.items };
+}
+
+impl Words {
+    ghost use Rattle.std.specs.Prelude.{◌≡◌, map, string_bytes, IfOk};
+
+    /// The words with these texts.
+    pub fn from_texts(alloc: Global, texts: &[String]) -> Result<Words, AllocError>
+        ensures { IfOk result (λ words. words ≡ map string_bytes texts.now) }
+    {
+        let mut list = Vec::new(alloc);
+        for text in texts {
+            list.push(Word::from_text(alloc, text.as_str())?)?;
+        }
+        Ok(Words { list })
+    }
+
+    /// The words, in order.
+    pub fn as_slice(&self) -> &[Word]
+        ensures { result.now ≡ self.now }
+    {
+        self.list.as_slice()
     }
 }

@@ -31,7 +31,7 @@ query = record { body = Call (literal true 6) ∷ []; names = [] }
 
 -- p :- not q, x. q :- not x. x :- p. :- r. p. ?- s.
 abbrev program : Program
-program = record { clauses = rule 2 (literal false 3 ∷ literal true 4 ∷ []) ∷ rule 3 (literal false 4 ∷ []) ∷ rule 4 (literal true 2 ∷ []) ∷ denial ∷ rule 2 [] ∷ []; queries = query ∷ []; well_formed = refl }
+program = record { clauses = rule 2 (literal false 3 ∷ literal true 4 ∷ []) ∷ rule 3 (literal false 4 ∷ []) ∷ rule 4 (literal true 2 ∷ []) ∷ denial ∷ rule 2 [] ∷ []; queries = query ∷ []; abducibles = []; well_formed = refl; choices = refl }
 
 abbrev planned : ℕ → List RulePlan → Plan
 planned name rules = record { pred = pred_of (atom name); rules = rules }

@@ -6,8 +6,6 @@ mod listing;
 mod regions;
 mod scope;
 mod scopes;
-#[cfg(test)]
-mod tests;
 
 pub use chains::unbound_from;
 pub use scope::{Opening, Rest};

@@ -5,7 +5,5 @@ mod ahead;
 mod bodies;
 mod frames;
 mod tasks;
-#[cfg(test)]
-mod tests;
 
 pub use frames::Frames;

@@ -32,7 +32,7 @@ entry a level plus = record { pred = pred_of a; level = level; plus = plus }
 
 -- p :- not q. q :- not p.
 abbrev even : Program
-even = record { clauses = rule p (literal false q ∷ []) ∷ rule q (literal false p ∷ []) ∷ []; queries = []; well_formed = refl }
+even = record { clauses = rule p (literal false q ∷ []) ∷ rule q (literal false p ∷ []) ∷ []; queries = []; abducibles = []; well_formed = refl; choices = refl }
 
 signed : map_faults even [] (entry p 0 true ∷ entry q 0 false ∷ []) ≡ []
 signed = refl
@@ -55,7 +55,7 @@ covered = refl
 
 -- p :- p, q. :- p. where q is higher
 abbrev denied : Program
-denied = record { clauses = rule p (literal true p ∷ literal true q ∷ []) ∷ record { head = None; body = literal true p ∷ []; vars = 0 } ∷ []; queries = []; well_formed = refl }
+denied = record { clauses = rule p (literal true p ∷ literal true q ∷ []) ∷ record { head = None; body = literal true p ∷ []; vars = 0 } ∷ []; queries = []; abducibles = []; well_formed = refl; choices = refl }
 
 denial_not_covered : map_faults denied [] [] ≡ 2 ∷ []
 denial_not_covered = refl
@@ -85,7 +85,7 @@ not_earlier = refl
 
 -- p :- not p.
 abbrev odd : Program
-odd = record { clauses = rule p (literal false p ∷ []) ∷ []; queries = []; well_formed = refl }
+odd = record { clauses = rule p (literal false p ∷ []) ∷ []; queries = []; abducibles = []; well_formed = refl; choices = refl }
 
 odd_by_itself : IsOddRule odd 1
 odd_by_itself =
@@ -108,7 +108,7 @@ s = record { minus = false; name = 5; args = nil }
 
 -- p :- q. q :- r, s. r :- not q. s :- p. The walk p, q, r, q, s, p has one negated edge.
 abbrev long : Program
-long = record { clauses = rule p (literal true q ∷ []) ∷ rule q (literal true r ∷ literal true s ∷ []) ∷ rule r (literal false q ∷ []) ∷ rule s (literal true p ∷ []) ∷ []; queries = []; well_formed = refl }
+long = record { clauses = rule p (literal true q ∷ []) ∷ rule q (literal true r ∷ literal true s ∷ []) ∷ rule r (literal false q ∷ []) ∷ rule s (literal true p ∷ []) ∷ []; queries = []; abducibles = []; well_formed = refl; choices = refl }
 
 odd_by_a_long_walk : IsOddRule long 1
 odd_by_a_long_walk =

@@ -133,4 +133,4 @@ module _ (p : Problem) (q : Query) (n : ℕ) where
 
   pub finds-or-grows : (budget calls : ℕ) (states : List State) → calls ≤ budget → HasEvent (search_for p q) budget states calls ⊎ ComesTo (IsBeyond n) (search_for p q) budget states calls
   finds-or-grows budget calls states l =
-      finds (search_for p q) (IsBeyond n) (λ _. ⊤) (λ s _. all-true ((search_for p q).next s)) (λ s _. settles s) budget calls l states (all-true states)
+      finds (search_for p q) (IsBeyond n) (λ _. ⊤) (λ s _. inr (all-true ((search_for p q).next s))) (λ s _. settles s) budget calls l states (all-true states)

@@ -52,7 +52,7 @@ at-end m budget calls = (1, λ before. (record { event = ended; calls = calls; m
 
 -- ---- all states
 
-module _ {S A : Type 0} (m : Machine S A) (X P : S → Type 0) (keeps : (s : S) → P s → Each P (m.next s)) (settles : (s : S) → P s → Settles m X s) (budget : ℕ) where
+module _ {S A : Type 0} (m : Machine S A) (X P : S → Type 0) (keeps : (s : S) → P s → X s ⊎ Each P (m.next s)) (settles : (s : S) → P s → Settles m X s) (budget : ℕ) where
   -- the states have an end where one call more is spent
   abbrev Later : ℕ → Type 0
   Later calls = (ss : List S) → Each P ss → Ends m X budget ss (calls + 1)
@@ -62,7 +62,7 @@ module _ {S A : Type 0} (m : Machine S A) (X P : S → Type 0) (keeps : (s : S) 
   stepped s ss calls none room = reached-step m budget calls calls s (s ∷ ss) ss (reached-none m budget calls (s ∷ ss)) none room
 
   -- by what the first state is
-  decide : (s : S) (ss : List S) (calls : ℕ) → calls ≤ budget → P s → Each P ss → (calls < budget → Later calls)
+  decide : (s : S) (ss : List S) (calls : ℕ) → calls ≤ budget → Each P (m.next s) → Each P ss → (calls < budget → Later calls)
       → (m.pays s ≡ false → Ends m X budget (m.next s ++ ss) calls) → Ends m X budget (s ∷ ss) calls
   decide s ss calls l h hs later free = by (m.answer s) refl (m.pays s) refl (nat_eq calls budget) refl
     where
@@ -73,7 +73,7 @@ module _ {S A : Type 0} (m : Machine S A) (X P : S → Type 0) (keeps : (s : S) 
           let r = stepped s ss calls e (rw (f, g) refl) in
           let one : calls + cost (m.pays s) ≡ calls + 1 = ap (λ x. calls + cost x) f in
           let less : calls < budget = grind (arith, nat_tests, l, g) in
-          let more : Ends m X budget (m.next s ++ ss) (calls + 1) = later less (m.next s ++ ss) (Each-append P (m.next s) ss (keeps s h) hs) in
+          let more : Ends m X budget (m.next s ++ ss) (calls + 1) = later less (m.next s ++ ss) (Each-append P (m.next s) ss h hs) in
           reached-ends m X budget (s ∷ ss) (m.next s ++ ss) calls (calls + cost (m.pays s)) r (subst (Ends m X budget (m.next s ++ ss)) (sym one) more)
       by None e false f c g =
           let r = stepped s ss calls e (rw f refl) in
@@ -89,14 +89,19 @@ module _ {S A : Type 0} (m : Machine S A) (X P : S → Type 0) (keeps : (s : S) 
       f t (Contains-here t ts) h.0 (ts ++ ss) (Each-append P ts ss h.1 hs)
       (in-order calls ts (λ u i. f u (Contains-there t ts u i)) h.1 ss hs e)
 
+  -- X holds of the first state, or P of those after it
+  kept : (calls : ℕ) (s : S) (ss : List S) → (Each P (m.next s) → Ends m X budget (s ∷ ss) calls) → X s ⊎ Each P (m.next s) → Ends m X budget (s ∷ ss) calls
+  kept calls s ss f (inl x) = inr (record { state = s; rest = ss; after = calls; reached = reached-none m budget calls (s ∷ ss); is = x })
+  kept calls s ss f (inr k) = f k
+
   first : (calls : ℕ) → calls ≤ budget → (calls < budget → Later calls) → (s : S) → Settles m X s → P s
       → (ss : List S) → Each P ss → Ends m X budget ss calls → Ends m X budget (s ∷ ss) calls
   first calls l later _ (met s x) h ss hs e =
       inr (record { state = s; rest = ss; after = calls; reached = reached-none m budget calls (s ∷ ss); is = x })
   first calls l later _ (costs s c) h ss hs e =
-      decide s ss calls l h hs later (λ f. absurd (let wrong : true ≡ false = sym c ∙ f in cc))
+      kept calls s ss (λ k. decide s ss calls l k hs later (λ f. absurd (let wrong : true ≡ false = sym c ∙ f in cc))) (keeps s h)
   first calls l later _ (goes_on s f) h ss hs e =
-      decide s ss calls l h hs later (λ _. in-order calls (m.next s) (λ t i. first calls l later t (f t i)) (keeps s h) ss hs e)
+      kept calls s ss (λ k. decide s ss calls l k hs later (λ _. in-order calls (m.next s) (λ t i. first calls l later t (f t i)) k ss hs e)) (keeps s h)
 
   stack : (calls : ℕ) → calls ≤ budget → (calls < budget → Later calls) → (ss : List S) → Each P ss → Ends m X budget ss calls
   stack calls l later [] hs = inl (at-end m budget calls)

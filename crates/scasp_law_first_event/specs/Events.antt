@@ -1,12 +1,16 @@
 -- That a search comes to an event.
-use Rattle.std.specs.Prelude.{◌≡◌, ◌⊎◌, ℕ, ◌<◌, ◌≤◌, true, List, ◌∷◌}
+use Rattle.std.specs.Prelude.{◌≡◌, ◌⊎◌, ℕ, ◌<◌, ◌≤◌, true, false, List, ◌∷◌}
+use Rattle.std.specs.List.{Contains}
+use Rattle.scasp_list.specs.Each.{Each}
 use Rattle.scasp_search_rules.specs.declared.states.state.State.{State}
 use Rattle.scasp_search_rules.specs.Successors.Falls.{size}
 use Rattle.scasp_search_rules.specs.Successors.Machine.{Found, Finds, Machine, overflowed}
 use Rattle.scasp_search_rules.specs.Successors.Problems.{Problem}
-use Rattle.scasp_search_rules.specs.Successors.Search.{search_for}
+use Rattle.scasp_search_rules.specs.Successors.Search.{search_for, start}
 use Rattle.scasp_search_walk.specs.Walks.{Allows, Reached}
+use Rattle.scasp_syntax.specs.WellFormed.{is_query_well_formed}
 use Rattle.scasp_syntax.specs.declared.clause.Query.{Query}
+use Rattle.scasp_law_first_event.specs.Solved.{has_circle, is_solved}
 
 -- within some number of steps there is a first event
 abbrev pub HasEvent : {S A : Type 0} → Machine S A → ℕ → List S → ℕ → Type 0
@@ -30,6 +34,39 @@ FindsOrGrows =
     (p : Problem) (q : Query) (budget calls : ℕ) (states : List State) → calls ≤ budget
     → (n : ℕ) → HasEvent (search_for p q) budget states calls ⊎ ComesTo (IsBeyond n) (search_for p q) budget states calls
 
+-- its bindings are not in solved form, or name a variable that was not made
+abbrev pub IsUnsolved : State → Type 0
+IsUnsolved s = is_solved s ≡ false
+
+-- a variable is bound to a term in which it stands
+abbrev pub IsCircular : State → Type 0
+IsCircular s = has_circle s.bound ≡ true
+
+-- From any states there is a first event, or the search comes to a state whose bindings are not in solved form.
+abbrev pub FindsOrUnsolved : Type 0
+FindsOrUnsolved =
+    (p : Problem) (q : Query) (budget calls : ℕ) (states : List State) → calls ≤ budget
+    → HasEvent (search_for p q) budget states calls ⊎ ComesTo IsUnsolved (search_for p q) budget states calls
+
+-- the second state comes of the first by steps
+pub data Follows {S A : Type 0} (m : Machine S A) (s : S) : S → Type 0 where
+  itself : Follows m s s
+  after : (t u : S) → Follows m s t → Contains (m.next t) u → Follows m s u
+
+-- the state comes of the start of the search for answers to the query
+abbrev pub IsReachable : Problem → Query → State → Type 0
+IsReachable p q s = Follows (search_for p q) (start q p.checks) s
+
+-- the search comes to a state in which a variable is bound to a term in which it stands
+abbrev pub ComesToCircle : Problem → Query → Type 0
+ComesToCircle p q = (s : State) × IsReachable p q s × IsCircular s
+
+-- From states that come of its start each search has a first event, or it comes to a circle.
+abbrev pub FindsOrCircles : Type 0
+FindsOrCircles =
+    (p : Problem) (q : Query) (budget calls : ℕ) (states : List State) → is_query_well_formed q ≡ true → calls ≤ budget → Each (IsReachable p q) states
+    → HasEvent (search_for p q) budget states calls ⊎ ComesToCircle p q
+
 -- there is a first event, and it is an overflow or tells that a list was asked that overflows
 abbrev pub TellsOverflow : {S A : Type 0} → Machine S A → ℕ → List S → ℕ → Type 0
 TellsOverflow {S} {A} m budget states calls =
@@ -40,6 +77,18 @@ abbrev pub AllowedIsTold : Type 0
 AllowedIsTold =
     (p : Problem) (q : Query) (budget calls : ℕ) (states : List State) → calls ≤ budget → Allows (search_for p q) budget states calls
     → (n : ℕ) → TellsOverflow (search_for p q) budget states calls ⊎ ComesTo (IsBeyond n) (search_for p q) budget states calls
+
+-- where an overflow is allowed it is told, or the search comes to bindings that are not in solved form
+abbrev pub AllowedIsToldOrUnsolved : Type 0
+AllowedIsToldOrUnsolved =
+    (p : Problem) (q : Query) (budget calls : ℕ) (states : List State) → calls ≤ budget → Allows (search_for p q) budget states calls
+    → TellsOverflow (search_for p q) budget states calls ⊎ ComesTo IsUnsolved (search_for p q) budget states calls
+
+-- where an overflow is allowed from states that come of the start, it is told, or the search comes to a circle
+abbrev pub AllowedIsToldOrCircles : Type 0
+AllowedIsToldOrCircles =
+    (p : Problem) (q : Query) (budget calls : ℕ) (states : List State) → is_query_well_formed q ≡ true → calls ≤ budget → Each (IsReachable p q) states
+    → Allows (search_for p q) budget states calls → TellsOverflow (search_for p q) budget states calls ⊎ ComesToCircle p q
 
 -- and where it is told it is allowed
 abbrev pub ToldIsAllowed : (S A : Type 0) → Type 0

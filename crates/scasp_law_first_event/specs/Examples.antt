@@ -5,18 +5,22 @@ use Rattle.scasp_checker_rules.specs.ExampleWords.{program}
 use Rattle.scasp_cert.specs.Certificate.{Certificate}
 use Rattle.scasp_lines.specs.Samples.{atom, one, is_true, rule}
 use Rattle.scasp_rows.specs.PlainRows.{is_met}
+use Rattle.scasp_search_rules.specs.declared.states.state.Kind.TheVariants.{Existential}
 use Rattle.scasp_search_rules.specs.declared.states.state.State.{State}
+use Rattle.scasp_search_rules.specs.declared.states.tasks.Task.TheVariants.{Equate}
 use Rattle.scasp_search_rules.specs.Successors.ExampleWords.{problem}
 use Rattle.scasp_search_rules.specs.Successors.Machine.{Found, ended, first_event, spent}
 use Rattle.scasp_search_rules.specs.Successors.Problems.{Problem}
-use Rattle.scasp_search_rules.specs.Successors.Search.{search_for, start}
+use Rattle.scasp_search_rules.specs.Successors.Search.{nothing, search_for, start}
 use Rattle.scasp_syntax.specs.Tm.{Tm, var, app}
 use Rattle.scasp_syntax.specs.declared.atom.Atom.{Atom}
 use Rattle.scasp_syntax.specs.declared.clause.Item.TheVariants.{Call}
 use Rattle.scasp_syntax.specs.declared.clause.Query.{Query}
 use Rattle.scasp_syntax.specs.declared.program.Program.{Program}
+use Rattle.scasp_syntax.specs.declared.term.Term.TheVariants.{Var, App}
 use Rattle.scasp_unify.specs.Unification.{unifier}
 use Rattle.scasp_law_first_event.specs.Events.{HasEvent, TellsOverflow}
+use Rattle.scasp_law_first_event.specs.Solved.{is_solved}
 
 -- ---- p(X) :- p(f(X)). ?- p(X). It has no answer and no end.
 
@@ -72,3 +76,24 @@ flagged_found = found_or_end (first_event (search_for flagged ask_p) 5 100 state
 tells : TellsOverflow (search_for flagged ask_p) 5 states 0
 unfolding first_event is_met unifier
 tells = (flagged_found, (100, refl), inr refl)
+
+-- ---- a state in which a variable is bound to a term in which it stands, where each list is said to have a valuation
+
+abbrev trusting : Problem
+trusting = record plain { sat = λ cs. true }
+
+abbrev circular : State
+circular = record nothing {
+  made = record { kind = Existential; depth = 0 } ∷ record { kind = Existential; depth = 0 } ∷ [];
+  bound = record { x = 0; term = App 3 (one (var 0)) } ∷ [];
+  work = Equate (Var 0) (Var 1) ∷ [];
+}
+
+-- it is not in solved form
+is_circular : is_solved circular ≡ false
+is_circular = refl
+
+-- and no event comes: the second variable gets the name of the first, and so its argument, and so on
+goes_on : first_event (search_for trusting ask_p) 5 20 (circular ∷ []) 0 false ≡ None
+unfolding first_event is_met unifier
+goes_on = refl

@@ -6,6 +6,7 @@ pub mod ItemTokens
 pub mod Bodies
 pub mod RuleVariables
 pub mod Clauses
+pub mod Abducibles
 pub mod Queries
 pub mod PartTokens
 pub mod Denials

@@ -3,6 +3,7 @@ pub mod Values
 pub mod Atoms
 pub mod Items
 pub mod Bodies
+pub mod Abducibles
 pub mod Clauses
 pub mod Queries
 pub mod Texts

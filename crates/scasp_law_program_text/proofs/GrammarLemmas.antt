@@ -4,6 +4,7 @@ pub mod Terms
 pub mod Expressions
 pub mod Items
 pub mod Bodies
+pub mod Abducibles
 pub mod Clauses
 pub mod Endings
 pub mod Texts
@@ -12,6 +13,7 @@ pub mod GivenTerms
 pub mod GivenExpressions
 pub mod GivenItems
 pub mod GivenBodies
+pub mod GivenAbducibles
 pub mod GivenClauses
 pub mod GivenTexts
 pub mod Programs

@@ -39,7 +39,9 @@ program =
       clauses = rule 1 p (Call (is_not (r (var 0))) ∷ []) ∷ rule 1 (r (var 0)) (Call (is_true (s (f (var 0)))) ∷ [])
           ∷ rule 1 (s (var 0)) [] ∷ [];
       queries = ask (Call (is_not p)) ∷ [];
+      abducibles = [];
       well_formed = refl;
+      choices = refl;
     }
 
 abbrev pub certificate : Certificate

@@ -1,9 +1,11 @@
 -- What is asked of the literals.
-use Rattle.std.proofs.Common.{◌≡◌, ◌+◌, ◌≤◌, ℕ, Bool, true, false, not, ◌&&◌, ◌||◌, nat_eq, if◌then◌else◌, List, [], ◌∷◌, ◌++◌, append_assoc, append-nil, length, filter, map, drop, slice_get, Option, None, Some, arith, refl, ap, sym, ◌∙◌}
-use Rattle.std.proofs.lemmas.List.{at_drop_more, drop_all}
+use Rattle.std.proofs.Common.{◌≡◌, ◌+◌, ◌-◌, ◌<◌, ◌≤◌, ℕ, zero, suc, Bool, true, false, not, ◌&&◌, ◌||◌, nat_eq, if◌then◌else◌, List, [], ◌∷◌, ◌++◌, append-nil, length, filter, map, drop, reverse, slice_get, Option, None, Some, arith, refl, ap, sym, subst, ◌∙◌}
+use Rattle.std.proofs.lemmas.Bool.Decides.{Decides-eqb}
+use Rattle.std.proofs.lemmas.List.{at_drop_more, drop_all, reverse-append}
 use Rattle.std.proofs.lemmas.Option.{get_or_from_slice_get, slice_get_within}
 use Rattle.scasp_loops.specs.Held.{literal_of}
 use Rattle.scasp_loops.specs.Inside.Asked.{is_alike, is_left_firm, is_seen, only_if, standing}
+use Rattle.scasp_loops.specs.Inside.Hinted.{Within, is_other, key_of}
 use Rattle.scasp_loops.specs.Inside.Open.{OpensAt, open_among, open_in}
 use Rattle.scasp_loops.specs.Inside.Zipped.{literals_from}
 use Rattle.scasp_loops.specs.declared.entry.Entry.{Entry}
@@ -11,13 +13,14 @@ use Rattle.scasp_loops.specs.declared.entry.Marks.{Marks}
 use Rattle.scasp_loops.proofs.OpenLemmas.{whole}
 use Rattle.scasp_loops.proofs.ZipLemmas.{literal_there, literals_length}
 use Rattle.scasp_readings.specs.Readings.{reading}
-use Rattle.scasp_search_rules.specs.Successors.Calls.{ancestors, can_be_seen, differing, is_same, is_opposite, nearest, open_cases, opposites}
+use Rattle.scasp_search_rules.specs.Successors.Calls.{ancestors, can_be_seen, differing, is_same, is_free, is_opposite, nearest, open_cases, opposites}
 use Rattle.scasp_search_rules.specs.declared.states.outcomes.Repeated.{Repeated}
 use Rattle.scasp_search_rules.specs.declared.states.state.Literal.{Literal}
 use Rattle.scasp_search_rules.specs.declared.states.state.Made.{Made}
 use Rattle.scasp_search_rules.specs.declared.states.state.State.{State}
 use Rattle.scasp_search_state.specs.Words.{first_number}
 use Rattle.scasp_search_rules.specs.Successors.Variables.{meaning}
+use Rattle.scasp_syntax.specs.Programs.{pred_of}
 use Rattle.scasp_syntax.specs.Same.{same_bool, same_tms}
 use Rattle.scasp_syntax.specs.Values.{all_under}
 use Rattle.scasp_syntax.specs.declared.con.Con.{Con}
@@ -69,19 +72,74 @@ nearest_past bs l passed es ms n at e m o g k h = sym (nearest-first bs l passed
 pub nearest_none : (bs : List Binding) (l : Lit) (passed : Bool) (xs : List Literal) → xs ≡ [] → None ≡ nearest (reading bs) l passed xs
 nearest_none bs l passed xs e = ap (nearest (reading bs) l passed) (sym e)
 
--- ---- a walk over all literals
+-- ---- a walk back over literals
 
-rest-of : (es : List Entry) (ms : List Marks) (at : ℕ) (e : Entry) (m : Marks) → slice_get es at ≡ Some e → slice_get ms at ≡ Some m
-    → drop at (literals_from 0 es ms) ≡ literal_of at e m ∷ drop (at + 1) (literals_from 0 es ms)
-rest-of es ms at e m g k =
-    let ls : List Literal = literals_from 0 es ms in
-    let a : Literal = literal_of at e m in
-    let there : slice_get ls at ≡ Some a = literal_there es ms at e m g k in
-    at_drop_more (λ (xs : List Literal). xs) ls at a (slice_get_within ls at a there)
-    ∙ ap (λ (b : Literal). b ∷ drop (at + 1) ls) (get_or_from_slice_get ls at a a there)
+not_there : {T : Type 0} (xs : List T) (n : ℕ) → slice_get xs n ≡ None → length xs ≤ n
+not_there [] n g = omega arith
+not_there (x ∷ xs) zero g = absurd (cc g)
+not_there (x ∷ xs) (suc n) g = omega (arith, not_there xs n g)
 
-none-left : (es : List Entry) (ms : List Marks) (at : ℕ) → length ms ≤ length es → length ms ≤ at → drop at (literals_from 0 es ms) ≡ []
-none-left es ms at h w = drop_all at (literals_from 0 es ms) (omega (arith, w, literals_length es ms h))
+drop-there : (ls : List Literal) (n : ℕ) (a : Literal) → slice_get ls n ≡ Some a → drop n ls ≡ a ∷ drop (n + 1) ls
+drop-there ls n a g =
+    at_drop_more (λ (xs : List Literal). xs) ls n a (slice_get_within ls n a g)
+    ∙ ap (λ (b : Literal). b ∷ drop (n + 1) ls) (get_or_from_slice_get ls n a a g)
+
+-- none of those between passes the test
+skip_one : (p : Literal → Bool) (n : ℕ) (ls : List Literal) → ((a : Literal) → slice_get ls n ≡ Some a → p a ≡ false) → filter p (drop n ls) ≡ filter p (drop (n + 1) ls)
+skip_one p n ls f = by (slice_get ls n) refl
+  where
+    by : (o : Option Literal) → slice_get ls n ≡ o → filter p (drop n ls) ≡ filter p (drop (n + 1) ls)
+    by None g = ap (filter p) (drop_all n ls (not_there ls n g) ∙ sym (drop_all (n + 1) ls (omega (arith, not_there ls n g))))
+    by (Some a) g =
+        ap (filter p) (drop-there ls n a g)
+        ∙ ap (λ (b : Bool). if b then a ∷ filter p (drop (n + 1) ls) else filter p (drop (n + 1) ls)) (f a g)
+
+skip_by : (p : Literal → Bool) (d n : ℕ) (ls : List Literal) → ((j : ℕ) → (a : Literal) → n ≤ j → j < n + d → slice_get ls j ≡ Some a → p a ≡ false)
+    → filter p (drop n ls) ≡ filter p (drop (n + d) ls)
+skip_by p zero n ls f =
+    let e : n + 0 ≡ n = omega arith in
+    ap (λ (k : ℕ). filter p (drop k ls)) (sym e)
+skip_by p (suc d) n ls f =
+    let e : n + 1 + d ≡ n + suc d = omega arith in
+    skip_one p n ls (λ a g. f n a (omega arith) (omega arith) g)
+    ∙ skip_by p d (n + 1) ls (λ j a l h g. f j a (omega (arith, l)) (omega (arith, h)) g)
+    ∙ ap (λ (k : ℕ). filter p (drop k ls)) e
+
+skipped : (p : Literal → Bool) (key lo hi : ℕ) (ls : List Literal) → lo ≤ hi → ((a : Literal) → is_other key a ≡ true → p a ≡ false) → Within (is_other key) lo hi ls
+    → filter p (drop lo ls) ≡ filter p (drop hi ls)
+skipped p key lo hi ls h f w =
+    let e : lo + (hi - lo) ≡ hi = omega (arith, h) in
+    skip_by p (hi - lo) lo ls (λ j a l m g. f a (w.each j a l (omega (arith, m, h)) g))
+    ∙ ap (λ (k : ℕ). filter p (drop k ls)) e
+
+-- one that is looked at, and those before it that are not
+looked_at : (p : Literal → Bool) (key to at left : ℕ) (ls : List Literal) (a : Literal) (is : Bool) → ((b : Literal) → is_other key b ≡ true → p b ≡ false)
+    → to ≤ at → left ≡ at + 1 → slice_get ls at ≡ Some a → p a ≡ is → Within (is_other key) to at ls
+    → filter p (drop to ls) ≡ (if is then a ∷ filter p (drop left ls) else filter p (drop left ls))
+looked_at p key to at left ls a is f t n g h w =
+    skipped p key to at ls t f w ∙ ap (filter p) (drop-there ls at a g)
+    ∙ ap (λ (k : ℕ). filter p (a ∷ drop k ls)) (sym n)
+    ∙ ap (λ (b : Bool). if b then a ∷ filter p (drop left ls) else filter p (drop left ls)) h
+
+none_behind : (p : Literal → Bool) (key left count : ℕ) (ls : List Literal) → ((b : Literal) → is_other key b ≡ true → p b ≡ false)
+    → left ≤ count → length ls ≤ count → Within (is_other key) left count ls → filter p (drop left ls) ≡ []
+none_behind p key left count ls f h n w = skipped p key left count ls h f w ∙ ap (filter p) (drop_all count ls n)
+
+whole_left : (left : ℕ) (ls : List Literal) → left ≤ 0 → drop left ls ≡ ls
+whole_left zero ls h = refl
+whole_left (suc n) ls h = absurd (omega (arith, h))
+
+-- ---- names of other keys
+
+name_apart : (n m : ℕ) → not (nat_eq (key_of n) (key_of m)) ≡ true → nat_eq n m ≡ false
+name_apart n m h = by (nat_eq n m) refl
+  where
+    by : (b : Bool) → nat_eq n m ≡ b → b ≡ false
+    by false e = refl
+    by true e =
+        let q : nat_eq (key_of n) (key_of m) ≡ true = (Decides-eqb (key_of n) (key_of m)).1 (ap key_of ((Decides-eqb n m).0 e)) in
+        let r : false ≡ true = ap not (sym q) ∙ h in
+        sym r
 
 -- ---- a literal that is seen
 
@@ -99,62 +157,90 @@ unseen_apart bs cases l e m h =
     unalike (is_left_firm cases (literal_of 0 e m)) (not m.is_general) (same_bool e.lit.positive l.positive) (same_bool e.lit.atom.minus l.atom.minus) (nat_eq e.lit.atom.name l.atom.name)
     (same_tms (all_under (meaning (reading bs)) e.lit.atom.args) (all_under (meaning (reading bs)) l.atom.args)) h
 
-seen-first : (bs : List Binding) (cases : List ℕ) (l : Lit) (seen : Bool) (es : List Entry) (ms : List Marks) (at : ℕ) (e : Entry) (m : Marks) → slice_get es at ≡ Some e → slice_get ms at ≡ Some m
-    → is_seen bs cases l (literal_of 0 e m) ≡ seen
-    → filter (is_seen bs cases l) (drop at (literals_from 0 es ms))
-    ≡ (if seen then literal_of at e m ∷ filter (is_seen bs cases l) (drop (at + 1) (literals_from 0 es ms)) else filter (is_seen bs cases l) (drop (at + 1) (literals_from 0 es ms)))
-seen-first bs cases l seen es ms at e m g k h =
-    let rest : List Literal = filter (is_seen bs cases l) (drop (at + 1) (literals_from 0 es ms)) in
-    ap (filter (is_seen bs cases l)) (rest-of es ms at e m g k) ∙ ap (λ (b : Bool). if b then literal_of at e m ∷ rest else rest) h
+last_fails : (p q r : Bool) → r ≡ false → (p && q && r) ≡ false
+last_fails p q r e = ap (λ (b : Bool). p && q && b) e ∙ by p q
+  where
+    by : (p q : Bool) → (p && q && false) ≡ false
+    by true true = refl
+    by true false = refl
+    by false q = refl
 
-pub seen_here : (bs : List Binding) (cases : List ℕ) (l : Lit) (es : List Entry) (ms : List Marks) (at : ℕ) (e : Entry) (m : Marks) → slice_get es at ≡ Some e → slice_get ms at ≡ Some m
-    → is_seen bs cases l (literal_of 0 e m) ≡ true
-    → Some at ≡ first_number (filter (is_seen bs cases l) (drop at (literals_from 0 es ms)))
-seen_here bs cases l es ms at e m g k h = sym (ap first_number (seen-first bs cases l true es ms at e m g k h))
+other_unseen : (bs : List Binding) (cases : List ℕ) (l : Lit) (a : Literal) → is_other (key_of l.atom.name) a ≡ true → is_seen bs cases l a ≡ false
+other_unseen bs cases l a o =
+    sym (unseen_apart bs cases l (record { lit = a.lit; cases = a.cases }) (record { is_done = a.is_done; loops = a.loops; is_general = a.is_general })
+    (last_fails (same_bool a.lit.positive l.positive) (same_bool a.lit.atom.minus l.atom.minus) (nat_eq a.lit.atom.name l.atom.name) (name_apart a.lit.atom.name l.atom.name o)))
 
-pub seen_past : (bs : List Binding) (cases : List ℕ) (l : Lit) (es : List Entry) (ms : List Marks) (at : ℕ) (e : Entry) (m : Marks) → slice_get es at ≡ Some e → slice_get ms at ≡ Some m
-    → is_seen bs cases l (literal_of 0 e m) ≡ false
-    → filter (is_seen bs cases l) (drop (at + 1) (literals_from 0 es ms)) ≡ filter (is_seen bs cases l) (drop at (literals_from 0 es ms))
-seen_past bs cases l es ms at e m g k h = sym (seen-first bs cases l false es ms at e m g k h)
+pub seen_start : (bs : List Binding) (cases : List ℕ) (l : Lit) (ls : List Literal) (key left count : ℕ) → key ≡ key_of l.atom.name → left ≤ count → length ls ≤ count → Within (is_other key) left count ls
+    → None ≡ first_number (filter (is_seen bs cases l) (drop left ls))
+seen_start bs cases l ls key left count k h n w =
+    let v : Within (is_other (key_of l.atom.name)) left count ls = subst (λ (j : ℕ). Within (is_other j) left count ls) k w in
+    sym (ap first_number (none_behind (is_seen bs cases l) (key_of l.atom.name) left count ls (other_unseen bs cases l) h n v))
 
-pub seen_none : (bs : List Binding) (cases : List ℕ) (l : Lit) (es : List Entry) (ms : List Marks) (at : ℕ) → length ms ≤ length es → length ms ≤ at
-    → None ≡ first_number (filter (is_seen bs cases l) (drop at (literals_from 0 es ms)))
-seen_none bs cases l es ms at h w = ap (λ (xs : List Literal). first_number (filter (is_seen bs cases l) xs)) (sym (none-left es ms at h w))
+seen_next : (bs : List Binding) (cases : List ℕ) (l : Lit) (es : List Entry) (ms : List Marks) (key to left : ℕ) (e : Entry) (m : Marks) (is : Bool) → key ≡ key_of l.atom.name
+    → 0 < left → to ≤ left - 1 → slice_get es (left - 1) ≡ Some e → slice_get ms (left - 1) ≡ Some m → is_seen bs cases l (literal_of 0 e m) ≡ is
+    → Within (is_other key) to (left - 1) (literals_from 0 es ms)
+    → filter (is_seen bs cases l) (drop to (literals_from 0 es ms))
+    ≡ (if is then literal_of (left - 1) e m ∷ filter (is_seen bs cases l) (drop left (literals_from 0 es ms)) else filter (is_seen bs cases l) (drop left (literals_from 0 es ms)))
+seen_next bs cases l es ms key to left e m is k p t g h q w =
+    let ls = literals_from 0 es ms in
+    let v : Within (is_other (key_of l.atom.name)) to (left - 1) ls = subst (λ (j : ℕ). Within (is_other j) to (left - 1) ls) k w in
+    looked_at (is_seen bs cases l) (key_of l.atom.name) to (left - 1) left ls (literal_of (left - 1) e m) is (other_unseen bs cases l) t (omega (arith, p)) (literal_there es ms (left - 1) e m g h) q v
+
+pub seen_more : (bs : List Binding) (cases : List ℕ) (l : Lit) (es : List Entry) (ms : List Marks) (key to left : ℕ) (e : Entry) (m : Marks) (is : Bool) (found now : Option ℕ) → key ≡ key_of l.atom.name
+    → 0 < left → to ≤ left - 1 → slice_get es (left - 1) ≡ Some e → slice_get ms (left - 1) ≡ Some m → is ≡ is_seen bs cases l (literal_of 0 e m)
+    → Within (is_other key) to (left - 1) (literals_from 0 es ms) → now ≡ (if is then Some (left - 1) else found) → found ≡ first_number (filter (is_seen bs cases l) (drop left (literals_from 0 es ms)))
+    → now ≡ first_number (filter (is_seen bs cases l) (drop to (literals_from 0 es ms)))
+seen_more bs cases l es ms key to left e m is found now k p t g h q w n i = n ∙ by is ∙ sym (ap first_number (seen_next bs cases l es ms key to left e m is k p t g h (sym q) w))
+  where
+    by : (b : Bool) → (if b then Some (left - 1) else found)
+        ≡ first_number (if b then literal_of (left - 1) e m ∷ filter (is_seen bs cases l) (drop left (literals_from 0 es ms)) else filter (is_seen bs cases l) (drop left (literals_from 0 es ms)))
+    by true = refl
+    by false = i
+
+pub seen_whole : (bs : List Binding) (cases : List ℕ) (l : Lit) (ls : List Literal) (left : ℕ) (found : Option ℕ) → left ≤ 0 → found ≡ first_number (filter (is_seen bs cases l) (drop left ls))
+    → found ≡ first_number (filter (is_seen bs cases l) ls)
+seen_whole bs cases l ls left found h i = i ∙ ap (λ (xs : List Literal). first_number (filter (is_seen bs cases l) xs)) (whole_left left ls h)
 
 -- ---- literals of the other sign
+
+unopposed : (u x y z g f : Bool) → y ≡ false → (u && (x && y && z) && g && f) ≡ false
+unopposed u x y z g f e = ap (λ (b : Bool). u && (x && b && z) && g && f) e ∙ by u x
+  where
+    by : (u x : Bool) → (u && (x && false && z) && g && f) ≡ false
+    by true true = refl
+    by true false = refl
+    by false x = refl
+
+other_unopposed : (s : State) (l : Lit) (a : Literal) → is_other (key_of l.atom.name) a ≡ true → is_opposite s l a ≡ false
+other_unopposed s l a o =
+    unopposed (not (same_bool a.lit.positive l.positive)) (same_bool a.lit.atom.minus l.atom.minus) (nat_eq a.lit.atom.name l.atom.name)
+    (nat_eq (pred_of a.lit.atom).arity (pred_of l.atom).arity) (not a.is_general) (is_free s a.lit) (name_apart a.lit.atom.name l.atom.name o)
 
 abbrev apart : State → Lit → List Literal → List Con
 apart s l ls = map (differing l) (filter (is_opposite s l) ls)
 
-apart-first : (s : State) (l : Lit) (is : Bool) (es : List Entry) (ms : List Marks) (at : ℕ) (e : Entry) (m : Marks) → slice_get es at ≡ Some e → slice_get ms at ≡ Some m
-    → is_opposite s l (literal_of 0 e m) ≡ is
-    → apart s l (drop at (literals_from 0 es ms))
-    ≡ (if is then differing l (literal_of 0 e m) ∷ apart s l (drop (at + 1) (literals_from 0 es ms)) else apart s l (drop (at + 1) (literals_from 0 es ms)))
-apart-first s l is es ms at e m g k h =
-    let rest : List Literal = filter (is_opposite s l) (drop (at + 1) (literals_from 0 es ms)) in
-    ap (apart s l) (rest-of es ms at e m g k)
-    ∙ ap (λ (b : Bool). map (differing l) (if b then literal_of at e m ∷ rest else rest)) h ∙ by is
-  where
-    by : (b : Bool)
-        → map (differing l) (if b then literal_of at e m ∷ filter (is_opposite s l) (drop (at + 1) (literals_from 0 es ms)) else filter (is_opposite s l) (drop (at + 1) (literals_from 0 es ms)))
-        ≡ (if b then differing l (literal_of 0 e m) ∷ apart s l (drop (at + 1) (literals_from 0 es ms)) else apart s l (drop (at + 1) (literals_from 0 es ms)))
-    by true = refl
-    by false = refl
+pub apart_start : (s : State) (l : Lit) (ls : List Literal) (key left count : ℕ) → key ≡ key_of l.atom.name → left ≤ count → length ls ≤ count → Within (is_other key) left count ls
+    → map (differing l) (filter (is_opposite s l) (drop left ls)) ≡ reverse []
+apart_start s l ls key left count k h n w =
+    let v : Within (is_other (key_of l.atom.name)) left count ls = subst (λ (j : ℕ). Within (is_other j) left count ls) k w in
+    ap (map (differing l)) (none_behind (is_opposite s l) (key_of l.atom.name) left count ls (other_unopposed s l) h n v)
 
-pub apart_next : (s : State) (l : Lit) (made : List Con) (is : Bool) (es : List Entry) (ms : List Marks) (at : ℕ) (e : Entry) (m : Marks) → slice_get es at ≡ Some e → slice_get ms at ≡ Some m
-    → is ≡ is_opposite s l (literal_of 0 e m)
-    → (made ++ only_if is (differing l (literal_of 0 e m))) ++ map (differing l) (filter (is_opposite s l) (drop (at + 1) (literals_from 0 es ms)))
-    ≡ made ++ map (differing l) (filter (is_opposite s l) (drop at (literals_from 0 es ms)))
-apart_next s l made is es ms at e m g k h =
-    append_assoc made (only_if is (differing l (literal_of 0 e m))) (apart s l (drop (at + 1) (literals_from 0 es ms)))
-    ∙ ap (λ (xs : List Con). made ++ xs) (by is ∙ sym (apart-first s l is es ms at e m g k (sym h)))
+pub apart_next : (s : State) (l : Lit) (es : List Entry) (ms : List Marks) (key to left : ℕ) (e : Entry) (m : Marks) (is : Bool) (made now : List Con) → key ≡ key_of l.atom.name
+    → 0 < left → to ≤ left - 1 → slice_get es (left - 1) ≡ Some e → slice_get ms (left - 1) ≡ Some m → is ≡ is_opposite s l (literal_of 0 e m)
+    → Within (is_other key) to (left - 1) (literals_from 0 es ms) → now ≡ made ++ only_if is (differing l (literal_of 0 e m))
+    → map (differing l) (filter (is_opposite s l) (drop left (literals_from 0 es ms))) ≡ reverse made
+    → map (differing l) (filter (is_opposite s l) (drop to (literals_from 0 es ms))) ≡ reverse now
+apart_next s l es ms key to left e m is made now k p t g h q w n i =
+    let ls = literals_from 0 es ms in
+    let v : Within (is_other (key_of l.atom.name)) to (left - 1) ls = subst (λ (j : ℕ). Within (is_other j) to (left - 1) ls) k w in
+    ap (map (differing l)) (looked_at (is_opposite s l) (key_of l.atom.name) to (left - 1) left ls (literal_of (left - 1) e m) is (other_unopposed s l) t (omega (arith, p)) (literal_there es ms (left - 1) e m g h) (sym q) v)
+    ∙ by is ∙ sym (ap reverse n)
   where
-    by : (b : Bool) → only_if b (differing l (literal_of 0 e m)) ++ apart s l (drop (at + 1) (literals_from 0 es ms))
-        ≡ (if b then differing l (literal_of 0 e m) ∷ apart s l (drop (at + 1) (literals_from 0 es ms)) else apart s l (drop (at + 1) (literals_from 0 es ms)))
-    by true = refl
-    by false = refl
+    by : (b : Bool) → map (differing l) (if b then literal_of (left - 1) e m ∷ filter (is_opposite s l) (drop left (literals_from 0 es ms)) else filter (is_opposite s l) (drop left (literals_from 0 es ms)))
+        ≡ reverse (made ++ only_if b (differing l (literal_of 0 e m)))
+    by true = ap (λ (cs : List Con). differing l (literal_of 0 e m) ∷ cs) i ∙ sym (reverse-append made (differing l (literal_of 0 e m) ∷ []))
+    by false = i ∙ ap reverse (sym (append-nil made))
 
-pub apart_none : (s : State) (l : Lit) (made : List Con) (es : List Entry) (ms : List Marks) (at : ℕ) → length ms ≤ length es → length ms ≤ at
-    → made ≡ made ++ map (differing l) (filter (is_opposite s l) (drop at (literals_from 0 es ms)))
-apart_none s l made es ms at h w =
-    sym (append-nil made) ∙ ap (λ (xs : List Literal). made ++ apart s l xs) (sym (none-left es ms at h w))
+pub apart_whole : (s : State) (l : Lit) (ls : List Literal) (left : ℕ) (made : List Con) → left ≤ 0 → map (differing l) (filter (is_opposite s l) (drop left ls)) ≡ reverse made
+    → reverse made ≡ map (differing l) (filter (is_opposite s l) ls)
+apart_whole s l ls left made h i = sym i ∙ ap (λ (xs : List Literal). map (differing l) (filter (is_opposite s l) xs)) (whole_left left ls h)

@@ -1,10 +1,12 @@
 -- Literals at the end of a case.
-use Rattle.std.proofs.Common.{◌≡◌, ◌+◌, ◌≤◌, ℕ, zero, suc, Bool, true, false, ◌||◌, List, [], ◌∷◌, length, map, slice_get, slice_set, Some, arith, refl, ap, sym, ◌∙◌}
+use Rattle.std.proofs.Common.{◌≡◌, ◌+◌, ◌-◌, ◌<◌, ◌≤◌, ℕ, zero, suc, Bool, true, false, ◌||◌, List, [], ◌∷◌, length, map, slice_get, slice_set, Some, arith, refl, ap, sym, ◌∙◌}
 use Rattle.std.specs.List.{list_any}
 use Rattle.std.proofs.lemmas.Bool.{and_parts}
 use Rattle.scasp_loops.specs.Held.{literal_of}
 use Rattle.scasp_readings.specs.Readings.{reading}
-use Rattle.scasp_loops.specs.Inside.Changed.{changed, changed_to, general_if}
+use Rattle.scasp_loops.specs.Inside.Changed.{changed, general_if}
+use Rattle.scasp_loops.specs.Inside.Hinted.{Within, has_no_variable}
+use Rattle.scasp_loops.specs.Inside.Kept.{changed_behind}
 use Rattle.scasp_loops.specs.Inside.Zipped.{literals_from}
 use Rattle.scasp_loops.specs.declared.entry.Entry.{Entry}
 use Rattle.scasp_loops.specs.declared.entry.Marks.{Marks}
@@ -20,21 +22,44 @@ use Rattle.scasp_syntax.specs.declared.atom.Lit.{Lit}
 use Rattle.scasp_unify.specs.Unification.{term_vars, terms_vars}
 use Rattle.scasp_unify.specs.declared.bindings.Binding.{Binding}
 
--- ---- the first literals, so many
+-- ---- the literals from a place on
 
-pub kept_more : {T : Type 0} (n m : ℕ) (f : T → T) (xs : List T) → n + 1 ≡ m → changed n f (changed_to n f xs) ≡ changed_to m f xs
+pub kept_start : {T : Type 0} (n : ℕ) (f : T → T) (xs : List T) → length xs ≤ n → xs ≡ changed_behind n f xs
+kept_start zero f [] h = refl
+kept_start (suc n) f [] h = refl
+kept_start zero f (x ∷ xs) h = absurd (omega (arith, h))
+kept_start (suc n) f (x ∷ xs) h = ap (λ ys. x ∷ ys) (kept_start n f xs (omega (arith, h)))
+
+kept_more : {T : Type 0} (n m : ℕ) (f : T → T) (xs : List T) → n + 1 ≡ m → changed n f (changed_behind m f xs) ≡ changed_behind n f xs
 kept_more n zero f xs q = absurd (omega (arith, q))
 kept_more zero (suc m) f [] q = refl
 kept_more (suc n) (suc m) f [] q = refl
 kept_more zero (suc zero) f (x ∷ xs) q = refl
 kept_more zero (suc (suc m)) f (x ∷ xs) q = absurd (omega (arith, q))
-kept_more (suc n) (suc m) f (x ∷ xs) q = ap (λ ys. f x ∷ ys) (kept_more n m f xs (omega (arith, q)))
+kept_more (suc n) (suc m) f (x ∷ xs) q = ap (λ ys. x ∷ ys) (kept_more n m f xs (omega (arith, q)))
 
-pub all_kept : {T : Type 0} (n : ℕ) (f : T → T) (xs : List T) → length xs ≤ n → changed_to n f xs ≡ map f xs
-all_kept zero f [] h = refl
-all_kept (suc n) f [] h = refl
-all_kept zero f (x ∷ xs) h = absurd (omega (arith, h))
-all_kept (suc n) f (x ∷ xs) h = ap (λ ys. f x ∷ ys) (all_kept n f xs (omega (arith, h)))
+kept_skip : {T : Type 0} (lo hi : ℕ) (f : T → T) (xs : List T) → lo ≤ hi → ((j : ℕ) → (a : T) → lo ≤ j → j < hi → slice_get (changed_behind hi f xs) j ≡ Some a → f a ≡ a)
+    → changed_behind hi f xs ≡ changed_behind lo f xs
+kept_skip zero zero f [] h g = refl
+kept_skip zero (suc hi) f [] h g = refl
+kept_skip (suc lo) zero f [] h g = refl
+kept_skip (suc lo) (suc hi) f [] h g = refl
+kept_skip zero zero f (x ∷ xs) h g = refl
+kept_skip (suc lo) zero f (x ∷ xs) h g = absurd (omega (arith, h))
+kept_skip zero (suc hi) f (x ∷ xs) h g =
+    let e : f x ≡ x = g 0 x (omega arith) (omega arith) refl in
+    λ i. sym e i ∷ kept_skip zero hi f xs (omega arith) (λ j a l m t. g (suc j) a (omega arith) (omega (arith, m)) t) i
+kept_skip (suc lo) (suc hi) f (x ∷ xs) h g =
+    ap (λ ys. x ∷ ys) (kept_skip lo hi f xs (omega (arith, h)) (λ j a l m t. g (suc j) a (omega (arith, l)) (omega (arith, m)) t))
+
+behind_none : {T : Type 0} (f : T → T) (xs : List T) → changed_behind 0 f xs ≡ map f xs
+behind_none f [] = refl
+behind_none f (x ∷ xs) = ap (λ ys. f x ∷ ys) (behind_none f xs)
+
+pub all_kept : {T : Type 0} (n : ℕ) (f : T → T) (xs ys : List T) → n ≤ 0 → ys ≡ changed_behind n f xs → ys ≡ map f xs
+all_kept n f xs ys h e =
+    let z : n ≡ 0 = omega (arith, h) in
+    e ∙ ap (λ (k : ℕ). changed_behind k f xs) z ∙ behind_none f xs
 
 -- ---- marks
 
@@ -76,6 +101,14 @@ mutual
 literal-stays : (s : State) (us : List ℕ) (a : Literal) → are_ground a.lit.atom.args ≡ true → kept_literal s us a ≡ a
 literal-stays s us a h =
     rw (all-stay (meaning s) a.lit.atom.args h) (rw (none-at-all a.lit.atom.args h) (rw (or-false a.is_general) refl))
+
+-- the last one that was not read yet is read, and those before it have no variable
+pub kept_next : (bs : List Binding) (us : List ℕ) (to left : ℕ) (ls now new : List Literal) → 0 < left → to ≤ left - 1 → now ≡ changed_behind left (kept_literal (reading bs) us) ls
+    → new ≡ changed (left - 1) (kept_literal (reading bs) us) now → Within has_no_variable to (left - 1) new → new ≡ changed_behind to (kept_literal (reading bs) us) ls
+kept_next bs us to left ls now new p t n e w =
+    let f : Literal → Literal = kept_literal (reading bs) us in
+    let here : new ≡ changed_behind (left - 1) f ls = e ∙ ap (changed (left - 1) f) n ∙ kept_more (left - 1) left f ls (omega (arith, p)) in
+    here ∙ kept_skip to (left - 1) f ls t (λ j a l m g. literal-stays (reading bs) us a (w.each j a l m (ap (λ (xs : List Literal). slice_get xs j) here ∙ g)))
 
 stay_from : (k n : ℕ) (f : Literal → Literal) (es : List Entry) (ms : List Marks) (e : Entry) → slice_get es n ≡ Some e → ((j : ℕ) → (m : Marks) → f (literal_of j e m) ≡ literal_of j e m)
     → literals_from k es ms ≡ changed n f (literals_from k es ms)

@@ -1,6 +1,8 @@
 -- Lemmas of the proofs.
 pub mod AskLemmas
 pub mod EndLemmas
+pub mod HintLemmas
 pub mod OpenLemmas
+pub mod SoundLemmas
 pub mod StateLemmas
 pub mod ZipLemmas

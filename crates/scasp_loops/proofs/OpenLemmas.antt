@@ -3,11 +3,13 @@ use Rattle.std.proofs.Common.{◌≡◌, ◌+◌, ◌-◌, ◌<◌, ◌≤◌, �
 use Rattle.std.proofs.lemmas.List.{reverse-append, take_all}
 use Rattle.scasp_loops.specs.Held.{literal_of}
 use Rattle.scasp_loops.specs.Inside.Changed.{changed, done, looped, looped_at}
+use Rattle.scasp_loops.specs.Inside.Hinted.{Within, is_done}
 use Rattle.scasp_loops.specs.Inside.Open.{OpensAt, holding, left, looped_out, moved_if, open_among, open_in}
 use Rattle.scasp_loops.specs.Inside.Zipped.{literals_from}
 use Rattle.scasp_loops.specs.declared.entry.Entry.{Entry}
 use Rattle.scasp_loops.specs.declared.entry.Marks.{Marks}
-use Rattle.scasp_loops.proofs.ZipLemmas.{literals_length, literal_there, marks_changed}
+use Rattle.scasp_loops.proofs.HintLemmas.{joined, one_within}
+use Rattle.scasp_loops.proofs.ZipLemmas.{literals_length, literal_there, marks_changed, some_within}
 use Rattle.scasp_search_rules.specs.Successors.Calls.{at_number, finished, looping, marked, moved}
 use Rattle.scasp_search_rules.specs.Successors.Calls as calls
 use Rattle.scasp_search_rules.specs.declared.states.state.Literal.{Literal}
@@ -40,21 +42,67 @@ stands [] n h = absurd (omega (arith, h))
 stands (x ∷ xs) zero h = (x, refl)
 stands (x ∷ xs) (suc n) h = stands xs n (omega (arith, h))
 
-pub one_done : (es : List Entry) (ms : List Marks) (left : ℕ) (m : Marks) → 0 < left → left ≤ length es → slice_get ms (left - 1) ≡ Some m → m.is_done ≡ true → open_in (left - 1) es ms ≡ open_in left es ms
-one_done es ms left m p w h d =
-    let q : left ≡ left - 1 + 1 = omega (arith, p) in
-    let e = stands es (left - 1) (omega (arith, p, w)) in
-    sym (ap (λ (k : ℕ). open_in k es ms) q ∙ open_more es ms (left - 1) e.0 m e.1 h ∙ ap (λ (b : Bool). if b then open_in (left - 1) es ms else literal_of (left - 1) e.0 m ∷ open_in (left - 1) es ms) d)
+-- ---- those between are done
 
-pub one_open : (es : List Entry) (ms : List Marks) (left count : ℕ) (m : Marks) → 0 < left → slice_get ms (left - 1) ≡ Some m → m.is_done ≡ false → open_in left es ms ≡ open_in count es ms → OpensAt es ms count (left - 1)
-one_open es ms left count m p h d i =
+not_there : {T : Type 0} (xs : List T) (n : ℕ) → slice_get xs n ≡ None → length xs ≤ n
+not_there [] n g = omega arith
+not_there (x ∷ xs) zero g = absurd (cc g)
+not_there (x ∷ xs) (suc n) g = omega (arith, not_there xs n g)
+
+past_one : (n : ℕ) (ls : List Literal) → Within is_done n (n + 1) ls → open_among (take (n + 1) ls) ≡ open_among (take n ls)
+past_one n ls w = by (slice_get ls n) refl
+  where
+    by : (o : Option Literal) → slice_get ls n ≡ o → open_among (take (n + 1) ls) ≡ open_among (take n ls)
+    by None g = ap open_among (take_all (n + 1) ls (omega (arith, not_there ls n g)) ∙ sym (take_all n ls (not_there ls n g)))
+    by (Some a) g =
+        ap open_among (taken_more ls n a g) ∙ open_pushed (take n ls) a
+        ∙ ap (λ (b : Bool). if b then open_among (take n ls) else a ∷ open_among (take n ls)) (w.each n a (omega arith) (omega arith) g)
+
+past_by : (d n : ℕ) (ls : List Literal) → Within is_done n (n + d) ls → open_among (take (n + d) ls) ≡ open_among (take n ls)
+past_by zero n ls w =
+    let e : n + 0 ≡ n = omega arith in
+    ap (λ (k : ℕ). open_among (take k ls)) e
+past_by (suc d) n ls w =
+    let e : n + suc d ≡ n + d + 1 = omega arith in
+    let v : Within is_done (n + d) (n + d + 1) ls = record { each = λ j a l h g. w.each j a (omega (arith, l)) (omega (arith, h)) g } in
+    ap (λ (k : ℕ). open_among (take k ls)) e ∙ past_one (n + d) ls v
+    ∙ past_by d n ls (record { each = λ j a l h g. w.each j a l (omega (arith, h)) g })
+
+past_done : (ls : List Literal) (lo hi : ℕ) → lo ≤ hi → Within is_done lo hi ls → open_among (take hi ls) ≡ open_among (take lo ls)
+past_done ls lo hi h w =
+    let e : lo + (hi - lo) ≡ hi = omega (arith, h) in
+    ap (λ (k : ℕ). open_among (take k ls)) (sym e)
+    ∙ past_by (hi - lo) lo ls (record { each = λ j a l m g. w.each j a l (omega (arith, m, h)) g })
+
+pub one_done : (es : List Entry) (ms : List Marks) (to left count : ℕ) (m : Marks) → length ms ≤ length es → 0 < left → slice_get ms (left - 1) ≡ Some m → m.is_done ≡ true
+    → Within is_done to (left - 1) (literals_from 0 es ms) → Within is_done left count (literals_from 0 es ms) → Within is_done to count (literals_from 0 es ms)
+one_done es ms to left count m fit p h d v w =
+    let ls = literals_from 0 es ms in
+    let e = stands es (left - 1) (omega (arith, fit, some_within ms (left - 1) m h)) in
+    joined is_done to left count ls
+    (joined is_done to (left - 1) left ls v (one_within is_done (left - 1) left (literal_of (left - 1) e.0 m) ls (omega (arith, p)) (literal_there es ms (left - 1) e.0 m e.1 h) d))
+    w
+
+pub one_open : (es : List Entry) (ms : List Marks) (left count : ℕ) (m : Marks) → 0 < left → left ≤ count → slice_get ms (left - 1) ≡ Some m → m.is_done ≡ false
+    → Within is_done left count (literals_from 0 es ms) → OpensAt es ms count (left - 1)
+one_open es ms left count m p c h d w =
     let q : left ≡ left - 1 + 1 = omega (arith, p) in
     record {
       opens = λ e l g k.
           let s : m ≡ l = cc (h, k) in
-          sym i ∙ ap (λ (j : ℕ). open_in j es ms) q ∙ open_more es ms (left - 1) e l g k
+          past_done (literals_from 0 es ms) left count c w ∙ ap (λ (j : ℕ). open_in j es ms) q ∙ open_more es ms (left - 1) e l g k
           ∙ ap (λ (b : Bool). if b then open_in (left - 1) es ms else literal_of (left - 1) e l ∷ open_in (left - 1) es ms) (ap (λ (x : Marks). x.is_done) (sym s) ∙ d);
     }
+
+-- behind an open one all are done
+pub done_behind : (left count : ℕ) (ls : List Literal) → 0 < left → Within is_done left count ls → Within is_done (left - 1 + 1) count ls
+done_behind left count ls p w = record { each = λ j a l h g. w.each j a (omega (arith, l, p)) h g }
+
+pub all_done : (left count : ℕ) (ls : List Literal) → left ≤ 0 → Within is_done left count ls → Within is_done 0 count ls
+all_done left count ls p w = record { each = λ j a l h g. w.each j a (omega (arith, p)) h g }
+
+pub none_open : (es : List Entry) (ms : List Marks) (left count : ℕ) → left ≤ 0 → Within is_done left count (literals_from 0 es ms) → open_in count es ms ≡ []
+none_open es ms left count p w = past_done (literals_from 0 es ms) 0 count (omega arith) (all_done left count (literals_from 0 es ms) p w)
 
 -- ---- all literals
 

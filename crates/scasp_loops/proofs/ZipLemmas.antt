@@ -74,20 +74,20 @@ all_copied es ms n h w = take_all n (literals_from 0 es ms) (omega (arith, w, li
 
 -- ---- one more literal
 
-pub stands_set : (n : ℕ) (e : Entry) (es : List Entry) → n < length es → StandsAt n e es (slice_set es n e)
-stands_set n e [] h = absurd (omega (arith, h))
-stands_set zero e (d ∷ es) h = record { there = refl; first = refl }
-stands_set (suc n) e (d ∷ es) h =
-    let s = stands_set n e es (omega (arith, h)) in
-    record { there = s.there; first = ap (λ ds. d ∷ ds) s.first }
+pub stands_set : {T : Type 0} (n : ℕ) (x : T) (xs : List T) → n < length xs → StandsAt n x xs (slice_set xs n x)
+stands_set n x [] h = absurd (omega (arith, h))
+stands_set zero x (y ∷ xs) h = record { there = refl; first = refl }
+stands_set (suc n) x (y ∷ xs) h =
+    let s = stands_set n x xs (omega (arith, h)) in
+    record { there = s.there; first = ap (λ ys. y ∷ ys) s.first }
 
-pub stands_pushed : (n : ℕ) (e : Entry) (es : List Entry) → n ≡ length es → StandsAt n e es (es ++ e ∷ [])
-stands_pushed zero e [] h = record { there = refl; first = refl }
-stands_pushed (suc n) e [] h = absurd (omega (arith, h))
-stands_pushed zero e (d ∷ es) h = absurd (omega (arith, h))
-stands_pushed (suc n) e (d ∷ es) h =
-    let s = stands_pushed n e es (omega (arith, h)) in
-    record { there = s.there; first = ap (λ ds. d ∷ ds) s.first }
+pub stands_pushed : {T : Type 0} (n : ℕ) (x : T) (xs : List T) → n ≡ length xs → StandsAt n x xs (xs ++ x ∷ [])
+stands_pushed zero x [] h = record { there = refl; first = refl }
+stands_pushed (suc n) x [] h = absurd (omega (arith, h))
+stands_pushed zero x (y ∷ xs) h = absurd (omega (arith, h))
+stands_pushed (suc n) x (y ∷ xs) h =
+    let s = stands_pushed n x xs (omega (arith, h)) in
+    record { there = s.there; first = ap (λ ys. y ∷ ys) s.first }
 
 more_from : (k j : ℕ) (es ds : List Entry) (ms : List Marks) (e : Entry) (m : Marks) → k + length ms ≡ j → slice_get ds (length ms) ≡ Some e → take (length ms) ds ≡ take (length ms) es
     → literals_from k ds (ms ++ m ∷ []) ≡ literals_from k es ms ++ literal_of j e m ∷ []

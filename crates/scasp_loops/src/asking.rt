@@ -1,8 +1,10 @@
 //! Literals that a call repeats: the nearest one above, and one that is seen again.
-ghost use Rattle.std.specs.Prelude.{◌≡◌, ◌≤◌, false, filter, length, IfOk};
+ghost use Rattle.std.specs.Prelude.{◌≡◌, ◌≤◌, false, filter, if◌then◌else◌, length, IfOk, Some};
 ghost use Rattle.std.specs.List.{list_all};
 ghost use Rattle.scasp_loops.specs.Held.{literal_of};
 ghost use Rattle.scasp_loops.specs.Inside.Asked.{is_alike, is_left_firm, is_seen};
+ghost use Rattle.scasp_loops.specs.Inside.Hinted.{AreHinted, AreHints};
+ghost use Rattle.scasp_loops.specs.Inside.Kept.{literals_in};
 ghost use Rattle.scasp_loops.specs.Inside.Open.{open_among};
 ghost use Rattle.scasp_loops.specs.Inside.Zipped.{literals_from};
 ghost use Rattle.scasp_readings.specs.Readings.{reading};
@@ -11,7 +13,9 @@ ghost use Rattle.scasp_search_rules.specs.Successors.Reading.{among};
 ghost use Rattle.scasp_search_state.specs.Words.{first_number};
 
 use crate::entry::{Entry, Marks};
+use crate::hints::{Hint, key_of, same_among, same_before};
 use crate::innermost::{entry_at, last_open, marks_at};
+use crate::lists::Lists;
 use scasp_bound::Bound;
 use scasp_list::Memory;
 use scasp_readings::is_among;
@@ -52,15 +56,17 @@ pub(crate) fn nearest_open(
     alloc: Global,
     entries: &[Entry],
     marks: &[Marks],
+    hints: &[Hint],
     bound: &Bound,
     lit: &Lit,
 ) -> Result<Option<Repeated>, Memory>
-    requires { length marks.now ≤ length entries.now }
+    requires fit { length marks.now ≤ length entries.now }
+    requires hints { AreHints (literals_from 0 entries.now marks.now) hints.now }
     ensures { IfOk result (λ found. found ≡ nearest (reading bound.now.now) lit.now false (open_among (literals_from 0 entries.now marks.now))) }
 {
     let mut left = marks.len();
     let mut passed = false;
-    'above: while let Some(at) = last_open(entries, marks, left) {
+    'above: while let Some(at) = last_open(entries, marks, hints, left) {
         let entry = entry_at(entries, at);
         let marked = marks_at(marks, at);
         if is_same(alloc, bound, lit, entry, marked)? {
@@ -122,32 +128,40 @@ fn is_seen(
     }
 }
 
-/// The number of the earliest literal that a call sees again, where these cases are open.
-#[tactic(auto, using(crate::proofs::AskLemmas::seen_here, crate::proofs::AskLemmas::seen_past, crate::proofs::AskLemmas::seen_none))]
+/// The number at the place if it is so, and else the one that was found.
+fn earlier_if(is: bool, at: usize, found: Option<u64>) -> Option<u64>
+    ensures { result ≡ (if is then Some at else found) }
+{
+    if is { Some(at as u64) } else { found }
+}
+
+/// The number of the earliest literal that a call sees again, where these cases are open. It goes back over those whose name has
+/// the key of the call's.
+#[tactic(auto, using(crate::proofs::AskLemmas::seen_start, crate::proofs::AskLemmas::seen_whole, crate::proofs::ZipLemmas::literals_length))]
 pub(crate) fn first_seen(
     alloc: Global,
-    entries: &[Entry],
-    marks: &[Marks],
+    lists: &Lists,
+    latest: &[usize],
     bound: &Bound,
     cases: &[u64],
     lit: &Lit,
 ) -> Result<Option<u64>, Memory>
-    requires { length marks.now ≤ length entries.now }
-    ensures { IfOk result (λ found. found ≡ first_number (filter (is_seen bound.now.now cases.now lit.now) (literals_from 0 entries.now marks.now))) }
+    requires fit { length lists.now.marks.now ≤ length lists.now.entries.now }
+    requires hinted { AreHinted (literals_in lists.now) lists.now.hints.now latest.now }
+    ensures { IfOk result (λ found. found ≡ first_number (filter (is_seen bound.now.now cases.now lit.now) (literals_in lists.now))) }
 {
-    let mut at = 0;
-    'literals: while at < marks.len() {
-        if is_seen(
-            alloc,
-            bound,
-            cases,
-            lit,
-            entry_at(entries, at),
-            marks_at(marks, at),
-        )? {
-            return Ok(Some(at as u64));
-        }
-        at += 1;
+    let entries = lists.entries.as_slice();
+    let marks = lists.marks.as_slice();
+    let hints = lists.hints.as_slice();
+    let key = key_of(lit.atom.name);
+    let mut found = None;
+    let mut left = same_among(latest, key, marks.len());
+    'literals: while left > 0 {
+        let at = left - 1;
+        let entry = entry_at(entries, at);
+        let sees = is_seen(alloc, bound, cases, lit, entry, marks_at(marks, at))?;
+        found = earlier_if(sees, at, found);
+        left = same_before(hints, key, at);
     }
-    Ok(None)
+    Ok(found)
 }

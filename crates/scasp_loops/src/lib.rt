@@ -4,11 +4,11 @@
 mod asking;
 mod ending;
 mod entry;
+mod hints;
 mod innermost;
+mod lists;
 mod loops;
 mod opposing;
-#[cfg(test)]
-mod tests;
 
 pub use entry::{Entered, Entry, Marks};
 pub use loops::Loops;

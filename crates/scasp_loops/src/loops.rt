@@ -9,9 +9,10 @@ ghost use Rattle.scasp_search_state.specs.Words.{first_number};
 ghost use Rattle.scasp_trail.specs.Past.{earlier, is_marked, latest};
 
 use crate::asking::{first_seen, nearest_open};
-use crate::ending::end_each;
+use crate::ending::{end_each, note_each};
 use crate::entry::{Entered, Entry, Marks};
-use crate::innermost::{end_last, entry_at, loop_out, marks_at};
+use crate::innermost::{end_last, entry_at, loop_out, marks_at, note_done};
+use crate::lists::{Lists, next_hint, prepare};
 use crate::opposing::apart_from_opposites;
 use scasp_bound::Bound;
 use scasp_list::Memory;
@@ -25,8 +26,9 @@ use std::marker::Model;
 /// Literals that were gone into, in order. The number of each is its place.
 #[derive(Drop)]
 pub struct Loops {
-    entries: Trailed<Entry>,
-    marks: Trailed<Marks>,
+    lists: Lists,
+    /// Of each key of a name, the place behind the latest literal that has it.
+    latest: Trailed<usize>,
 }
 
 impl Model for Loops {
@@ -34,15 +36,16 @@ impl Model for Loops {
     ghost use Rattle.std.specs.Coded.{codes};
     ghost use Rattle.scasp_search_rules.specs.declared.states.state.Literal.{Literal};
     ghost use Rattle.scasp_trail.specs.Past.{Past};
-    ghost use Rattle.scasp_loops.specs.Inside.Zipped.{Fit, past_literals};
+    ghost use Rattle.scasp_loops.specs.Inside.Kept.{AreSound};
+    ghost use Rattle.scasp_loops.specs.Inside.Zipped.{past_literals};
 
     ghost Value = { Past Literal };
 
     ghost coded = { Prim.hlevel (codes, coded_tms) };
 
-    ghost view = { λ l. past_literals l.entries l.marks };
+    ghost view = { λ l. past_literals l.lists.entries l.lists.marks };
 
-    ghost invariant = { λ l. Fit l.entries l.marks };
+    ghost invariant = { λ l. AreSound l.lists l.latest };
 }
 
 impl Loops {
@@ -51,8 +54,12 @@ impl Loops {
         ensures { result ≡ record { now = []; before = [] } }
     {
         Loops {
-            entries: Trailed::new(alloc),
-            marks: Trailed::new(alloc),
+            lists: Lists {
+                entries: Trailed::new(alloc),
+                marks: Trailed::new(alloc),
+                hints: Trailed::new(alloc),
+            },
+            latest: Trailed::new(alloc),
         }
     }
 
@@ -61,7 +68,7 @@ impl Loops {
     pub fn len(&self) -> usize
         ensures { result ≡ length self.now.now }
     {
-        self.marks.len()
+        self.lists.marks.len()
     }
 
     /// The literal of this number.
@@ -71,8 +78,8 @@ impl Loops {
         ensures { slice_get self.now.now number ≡ Some (literal_of number result.entry.now result.marks) }
     {
         Entered {
-            entry: entry_at(self.entries.as_slice(), number),
-            marks: marks_at(self.marks.as_slice(), number),
+            entry: entry_at(self.lists.entries.as_slice(), number),
+            marks: marks_at(self.lists.marks.as_slice(), number),
         }
     }
 
@@ -80,7 +87,11 @@ impl Loops {
     pub fn literals(&self, alloc: Global) -> Result<Literals, Memory>
         ensures { IfOk result (λ made. made ≡ self.now.now) }
     {
-        copies(alloc, self.entries.as_slice(), self.marks.as_slice())
+        copies(
+            alloc,
+            self.lists.entries.as_slice(),
+            self.lists.marks.as_slice(),
+        )
     }
 
     /// The nearest literal that is open and is this one, as the bindings read both.
@@ -93,8 +104,10 @@ impl Loops {
     ) -> Result<Option<Repeated>, Memory>
         ensures { (s : State) → s.literals ≡ self.now.now → s.bound ≡ bound.now.now → IfOk result (λ found. found ≡ nearest s lit.now false (ancestors s)) }
     {
-        let entries = self.entries.as_slice();
-        let found = nearest_open(alloc, entries, self.marks.as_slice(), bound, lit)?;
+        let entries = self.lists.entries.as_slice();
+        let marks = self.lists.marks.as_slice();
+        let hints = self.lists.hints.as_slice();
+        let found = nearest_open(alloc, entries, marks, hints, bound, lit)?;
         Ok(found)
     }
 
@@ -110,8 +123,8 @@ impl Loops {
     ) -> Result<Option<u64>, Memory>
         ensures { (s : State) → s.literals ≡ self.now.now → s.bound ≡ bound.now.now → open_cases s ≡ cases.now → IfOk result (λ found. found ≡ first_number (filter (can_be_seen s lit.now) s.literals)) }
     {
-        let entries = self.entries.as_slice();
-        let found = first_seen(alloc, entries, self.marks.as_slice(), bound, cases, lit)?;
+        let latest = self.latest.as_slice();
+        let found = first_seen(alloc, &self.lists, latest, bound, cases, lit)?;
         Ok(found)
     }
 
@@ -126,9 +139,8 @@ impl Loops {
     ) -> Result<Cons, Memory>
         ensures { (s : State) → s.literals ≡ self.now.now → s.bound ≡ bound.now.now → s.made ≡ variables.now.now → IfOk result (λ made. made ≡ map (differing lit.now) (opposites s lit.now)) }
     {
-        let entries = self.entries.as_slice();
-        let marks = self.marks.as_slice();
-        let made = apart_from_opposites(alloc, entries, marks, bound, variables, lit)?;
+        let latest = self.latest.as_slice();
+        let made = apart_from_opposites(alloc, &self.lists, latest, bound, variables, lit)?;
         Ok(made)
     }
 
@@ -144,8 +156,15 @@ impl Loops {
             loops: false,
             is_general: false,
         };
-        put_entry(&mut self.entries, self.marks.len(), Entry { lit, cases })?;
-        self.marks.push(marks)?;
+        let alloc = cases.allocator();
+        let hint = next_hint(alloc, &self.lists, self.latest.as_slice(), &lit)?;
+        prepare(
+            &mut self.lists,
+            &mut self.latest,
+            Entry { lit, cases },
+            hint,
+        )?;
+        self.lists.marks.push(marks)?;
         Ok(())
     }
 
@@ -155,7 +174,12 @@ impl Loops {
         ensures now { (s : State) → s.literals ≡ self.old.now → OnOk result (record s { literals = self.new.now } ≡ marked (ancestors s) s) }
         ensures before { self.new.before ≡ self.old.before }
     {
-        loop_out(self.entries.as_slice(), &mut self.marks)?;
+        let lists = &mut self.lists;
+        loop_out(
+            lists.entries.as_slice(),
+            &mut lists.marks,
+            lists.hints.as_slice(),
+        )?;
         Ok(())
     }
 
@@ -165,7 +189,17 @@ impl Loops {
         ensures now { (s : State) → s.literals ≡ self.old.now → OnOk result (record s { literals = self.new.now } ≡ leave_literal s) }
         ensures before { self.new.before ≡ self.old.before }
     {
-        end_last(self.entries.as_slice(), &mut self.marks)?;
+        let lists = &mut self.lists;
+        end_last(
+            lists.entries.as_slice(),
+            &mut lists.marks,
+            lists.hints.as_slice(),
+        )?;
+        note_done(
+            lists.entries.as_slice(),
+            lists.marks.as_slice(),
+            &mut lists.hints,
+        )?;
         Ok(())
     }
 
@@ -180,7 +214,8 @@ impl Loops {
         ensures now { (s : State) → s.literals ≡ self.old.now → s.bound ≡ bound.now.now → OnOk result (self.new.now ≡ map (kept_literal s universals.now) s.literals) }
         ensures before { self.new.before ≡ self.old.before }
     {
-        end_each(alloc, &mut self.entries, &mut self.marks, bound, universals)?;
+        end_each(alloc, &mut self.lists, bound, universals)?;
+        note_each(alloc, &mut self.lists)?;
         Ok(())
     }
 
@@ -189,7 +224,7 @@ impl Loops {
     pub fn is_marked(&self) -> bool
         ensures { result ≡ is_marked self.now.before }
     {
-        self.marks.is_marked()
+        self.lists.marks.is_marked()
     }
 
     /// Marks the literals as they are now.
@@ -198,9 +233,9 @@ impl Loops {
         ensures before { OnOk result (self.new.before ≡ self.old.now ∷ self.old.before) }
         ensures unchanged { OnErr result (self.new ≡ self.old) }
     {
-        self.entries.mark()?;
-        if self.marks.mark().is_err() {
-            self.entries.leave();
+        self.lists.mark()?;
+        if self.latest.mark().is_err() {
+            self.lists.leave();
             return Err(Memory);
         }
         Ok(())
@@ -213,23 +248,8 @@ impl Loops {
         ensures now { self.new.now ≡ latest self.old.now self.old.before }
         ensures before { self.new.before ≡ earlier self.old.before }
     {
-        self.entries.leave();
-        self.marks.leave();
-    }
-}
-
-/// Puts the entry at the place, which is one of the list or the next one.
-#[tactic(auto, using(crate::proofs::ZipLemmas::stands_set, crate::proofs::ZipLemmas::stands_pushed))]
-fn put_entry(entries: &mut Trailed<Entry>, at: usize, entry: Entry) -> Result<(), Memory>
-    requires { at ≤ length entries.old.now }
-    ensures now { OnOk result (StandsAt at entry entries.old.now entries.new.now) }
-    ensures before { entries.new.before ≡ entries.old.before }
-    ensures unchanged { OnErr result (entries.new ≡ entries.old) }
-{
-    if at < entries.len() {
-        entries.set(at, entry)
-    } else {
-        entries.push(entry)
+        self.lists.leave();
+        self.latest.leave();
     }
 }
 

@@ -1,8 +1,9 @@
 //! Literals of the other sign.
-ghost use Rattle.std.specs.Prelude.{◌≡◌, ◌≤◌, [], ◌++◌, filter, length, map, IfOk, OnOk};
+ghost use Rattle.std.specs.Prelude.{◌≡◌, ◌≤◌, [], ◌++◌, filter, length, map, reverse, IfOk, OnOk};
 ghost use Rattle.scasp_loops.specs.Held.{literal_of};
 ghost use Rattle.scasp_loops.specs.Inside.Asked.{only_if, standing};
-ghost use Rattle.scasp_loops.specs.Inside.Zipped.{literals_from};
+ghost use Rattle.scasp_loops.specs.Inside.Hinted.{AreHinted};
+ghost use Rattle.scasp_loops.specs.Inside.Kept.{literals_in};
 ghost use Rattle.scasp_search_rules.specs.Successors.Calls.{differing, is_free, is_opposite, opposites};
 ghost use Rattle.scasp_search_rules.specs.Successors.Variables.{has_universal};
 ghost use Rattle.scasp_syntax.specs.Tm.{app, cons, items, nil};
@@ -10,7 +11,9 @@ ghost use Rattle.scasp_syntax.specs.View.{tm_of};
 ghost use Rattle.scasp_unify.specs.SimpleForm.{differ, list_term};
 
 use crate::entry::{Entry, Marks};
+use crate::hints::{key_of, same_among, same_before};
 use crate::innermost::{entry_at, marks_at};
+use crate::lists::Lists;
 use scasp_bound::Bound;
 use scasp_list::Memory;
 use scasp_name::{NIL, PAIR};
@@ -113,44 +116,61 @@ fn push_differing(
     Ok(())
 }
 
-/// That the arguments differ from those of each literal that is opposite.
-#[tactic(auto, using(crate::proofs::AskLemmas::apart_next, crate::proofs::AskLemmas::apart_none))]
+/// The constraints from the last to the first.
+fn turned(made: Cons) -> Cons
+    ensures { result ≡ reverse made }
+{
+    let mut list = made.into_vec();
+    list.reverse();
+    Cons::from(list)
+}
+
+/// That the arguments differ from those of each literal that is opposite. It goes back over those whose name has the key of the
+/// call's.
+#[tactic(auto, using(crate::proofs::AskLemmas::apart_start, crate::proofs::AskLemmas::apart_next, crate::proofs::AskLemmas::apart_whole, crate::proofs::ZipLemmas::literals_length))]
 fn all_differing(
     alloc: Global,
-    entries: &[Entry],
-    marks: &[Marks],
+    lists: &Lists,
+    latest: &[usize],
     bound: &Bound,
     variables: &Variables,
     lit: &Lit,
 ) -> Result<Cons, Memory>
-    requires { length marks.now ≤ length entries.now }
-    ensures { IfOk result (λ made. made ≡ map (differing lit.now) (filter (is_opposite (standing variables.now.now bound.now.now []) lit.now) (literals_from 0 entries.now marks.now))) }
+    requires fit { length lists.now.marks.now ≤ length lists.now.entries.now }
+    requires hinted { AreHinted (literals_in lists.now) lists.now.hints.now latest.now }
+    ensures { IfOk result (λ made. made ≡ map (differing lit.now) (filter (is_opposite (standing variables.now.now bound.now.now []) lit.now) (literals_in lists.now))) }
 {
+    let entries = lists.entries.as_slice();
+    let marks = lists.marks.as_slice();
+    let hints = lists.hints.as_slice();
+    let key = key_of(lit.atom.name);
     let mut made = Cons::new(alloc);
-    let mut at = 0;
-    'literals: while at < marks.len() {
+    let mut left = same_among(latest, key, marks.len());
+    'literals: while left > 0 {
+        let at = left - 1;
         let entry = entry_at(entries, at);
         let are_opposite = is_opposite(alloc, bound, variables, lit, entry, marks_at(marks, at))?;
         push_differing(alloc, are_opposite, lit, entry, &mut made)?;
-        at += 1;
+        left = same_before(hints, key, at);
     }
-    Ok(made)
+    Ok(turned(made))
 }
 
 /// That the arguments differ from those of each literal that is opposite, if the literal itself has no universal variable.
 pub(crate) fn apart_from_opposites(
     alloc: Global,
-    entries: &[Entry],
-    marks: &[Marks],
+    lists: &Lists,
+    latest: &[usize],
     bound: &Bound,
     variables: &Variables,
     lit: &Lit,
 ) -> Result<Cons, Memory>
-    requires { length marks.now ≤ length entries.now }
-    ensures { IfOk result (λ made. made ≡ map (differing lit.now) (opposites (standing variables.now.now bound.now.now (literals_from 0 entries.now marks.now)) lit.now)) }
+    requires fit { length lists.now.marks.now ≤ length lists.now.entries.now }
+    requires hinted { AreHinted (literals_in lists.now) lists.now.hints.now latest.now }
+    ensures { IfOk result (λ made. made ≡ map (differing lit.now) (opposites (standing variables.now.now bound.now.now (literals_in lists.now)) lit.now)) }
 {
     if is_free(alloc, bound, variables, lit)? {
-        all_differing(alloc, entries, marks, bound, variables, lit)
+        all_differing(alloc, lists, latest, bound, variables, lit)
     } else {
         Ok(Cons::new(alloc))
     }

@@ -16,7 +16,7 @@ literal positive name = Call (record { positive = positive; atom = atom name })
 
 -- p :- not p. q. :- q. r :- r.
 abbrev program : Program
-program = record { clauses = record { head = Some (atom 2); body = literal false 2 ∷ []; vars = 0 } ∷ record { head = Some (atom 3); body = []; vars = 0 } ∷ record { head = None; body = literal true 3 ∷ []; vars = 0 } ∷ record { head = Some (atom 4); body = literal true 4 ∷ []; vars = 0 } ∷ []; queries = []; well_formed = refl }
+program = record { clauses = record { head = Some (atom 2); body = literal false 2 ∷ []; vars = 0 } ∷ record { head = Some (atom 3); body = []; vars = 0 } ∷ record { head = None; body = literal true 3 ∷ []; vars = 0 } ∷ record { head = Some (atom 4); body = literal true 4 ∷ []; vars = 0 } ∷ []; queries = []; abducibles = []; well_formed = refl; choices = refl }
 
 listed : checks_of program (1 ∷ []) ≡ record { clause = 1; head = true } ∷ record { clause = 3; head = false } ∷ []
 listed = refl

@@ -1,3 +1,4 @@
+pub mod Abducibles
 pub mod Terms
 pub mod Items
 pub mod Programs

@@ -1,4 +1,4 @@
--- How a program is written: one clause a line, without its generated denials, and then one query a line.
+-- How a program is written: its abducible predicates, its clauses without the generated denials, and its queries, each on a line.
 use Rattle.std.specs.Prelude.{ℕ, zero, suc, ◌+◌, ◌-◌, Bool, true, false, ◌&&◌, ◌==◌, is_none, List, [], ◌∷◌, ◌++◌, map, filter, flat_map, length, take, drop, if◌then◌else◌, codes, Option, None, Some}
 use Rattle.scasp_syntax.specs.Denials.{denial_of}
 use Rattle.scasp_syntax.specs.Programs.{predicates_in}
@@ -12,6 +12,7 @@ use Rattle.scasp_syntax.specs.declared.clause.Query.{Query}
 use Rattle.scasp_cert.specs.Text.Names.{text_at}
 use Rattle.scasp_cert.specs.Text.Terms.{var_text}
 use Rattle.scasp_print_program.specs.Terms.{Style, atom_text}
+use Rattle.scasp_print_program.specs.Abducibles.{abducible_text}
 use Rattle.scasp_print_program.specs.Items.{items_text}
 
 -- ---- the texts of variables
@@ -90,6 +91,8 @@ written clauses queries =
 
 -- ---- programs
 
-unfoldable pub program_text : List (List ℕ) → List Clause → List Query → List ℕ
-program_text names clauses queries =
-    flat_map (clause_text names) (written clauses queries) ++ flat_map (query_text names) queries
+unfoldable pub program_text : List (List ℕ) → List Pred → List Clause → List Query → List ℕ
+program_text names abducibles clauses queries =
+    flat_map (abducible_text names) abducibles
+    ++ flat_map (clause_text names) (written clauses queries)
+    ++ flat_map (query_text names) queries

@@ -12,13 +12,20 @@ use scasp_print_words::{put, put_number, text_at};
 use scasp_syntax::{Atom, Clause, Items, Query, VarNames};
 use std::alloc::Global;
 
+/// Puts `V0`, `V1`, .. at the end.
+pub(crate) fn put_rule_variable(out: &mut Vec<u8>, var: u64) -> Result<(), Memory>
+    ensures { OnOk result (out.new.items ≡ out.old.items ++ var_text var) }
+{
+    put(out, "V")?;
+    put_number(out, var)
+}
+
 /// `V0`, `V1`, ..
 fn rule_variable(alloc: Global, var: u64) -> Result<VariableText, Memory>
     ensures { IfOk result (λ text. text ≡ var_text var) }
 {
     let mut text = Vec::new(alloc);
-    put(&mut text, "V")?;
-    put_number(&mut text, var)?;
+    put_rule_variable(&mut text, var)?;
     Ok(VariableText::new(text))
 }
 

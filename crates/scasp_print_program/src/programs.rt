@@ -1,8 +1,10 @@
 //! Programs.
 ghost use Rattle.std.specs.Prelude.{◌≡◌, ◌≤◌, ◌++◌, length, take, filter, flat_map, IfOk, OnOk};
 ghost use Rattle.scasp_syntax.specs.Programs.{predicates_in};
+ghost use Rattle.scasp_print_program.specs.Abducibles.{abducible_text};
 ghost use Rattle.scasp_print_program.specs.Programs as spec;
 
+use crate::abducibles::put_abducible;
 use crate::clauses::{put_clause, put_query};
 use scasp_graph::predicates;
 use scasp_list::Memory;
@@ -100,6 +102,16 @@ pub fn written_count(alloc: Global, program: &Program) -> Result<usize, Memory>
     }
 }
 
+/// Puts the clauses of predicates that may be assumed at the end, each on a line.
+fn put_abducibles(out: &mut Vec<u8>, names: &Names, preds: &[Pred]) -> Result<(), Memory>
+    ensures { OnOk result (out.new.items ≡ out.old.items ++ flat_map (abducible_text names.now) preds.now) }
+{
+    for pred in preds {
+        put_abducible(out, names, *pred)?;
+    }
+    Ok(())
+}
+
 /// Puts the clauses at the end, each on a line.
 fn put_clauses(
     out: &mut Vec<u8>,
@@ -130,14 +142,16 @@ fn put_queries(
     Ok(())
 }
 
-/// The text of a program: a clause a line, without its generated denials, and then a query a line. A rule's variables are written
-/// `V0`, `V1`, .., those of a query by their names; a linear item as its row, over all variables that it lists.
+/// The text of a program: a predicate that may be assumed a line, then a clause a line, without its generated denials, and
+/// then a query a line. A rule's variables are written `V0`, `V1`, .., those of a query by their names; a linear item as
+/// its row, over all variables that it lists.
 #[tactic(auto, unfolding(crate::specs::Programs::program_text))]
 pub fn print_program(alloc: Global, program: &Program, names: &Names) -> Result<Vec<u8>, Memory>
-    ensures { IfOk result (λ text. text.items ≡ spec.program_text names.now program.now.clauses program.now.queries) }
+    ensures { IfOk result (λ text. text.items ≡ spec.program_text names.now program.now.abducibles program.now.clauses program.now.queries) }
 {
     let mut text = Vec::new(alloc);
     let count = written_count(alloc, program)?;
+    put_abducibles(&mut text, names, program.abducibles.as_slice())?;
     put_clauses(
         &mut text,
         alloc,

@@ -3,5 +3,6 @@ pub mod TermKeeping
 pub mod SumKeeping
 pub mod ValueKeeping
 pub mod ItemKeeping
+pub mod AbducibleKeeping
 pub mod ClauseKeeping
 pub mod DenialLemmas

@@ -1,1 +1,3 @@
+pub mod OccurrenceLemmas
+pub mod ParameterLemmas
 pub mod PartLemmas

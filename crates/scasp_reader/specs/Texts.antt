@@ -1,3 +1,4 @@
+pub mod Abducibles
 pub mod Clauses
 pub mod Texts
 pub mod Examples

@@ -1,5 +1,7 @@
-//! The whole text of a program, as it is written: its clauses and queries, or the first fault with its place.
+//! The whole text of a program, as it is written: its clauses and queries and the predicates that may be
+//! assumed, or the first fault with its place.
 
+mod abducibles;
 mod clauses;
 mod texts;
 

@@ -123,6 +123,7 @@ fn factor(reader: &mut Reader<'_>, alloc: Global, room: u64) -> Result<Value, St
         Token::Name(_) => Err(no_operand(reader)),
         Token::Sign(sign) => factor_at_sign(reader, alloc, room, *sign),
         Token::Not
+        | Token::Abducible
         | Token::SkippedDirective
         | Token::UnclosedDirective
         | Token::OtherDirective

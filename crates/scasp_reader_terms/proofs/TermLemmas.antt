@@ -65,7 +65,7 @@ module _ (room : ℕ) (s : State) where
 
   -- a token that begins no term
   pub term_other : (t : Token) → token_of s.tokens ≡ Some t
-      → (t ≡ token.Not) ⊎ ((t ≡ token.SkippedDirective) ⊎ ((t ≡ token.UnclosedDirective) ⊎ ((t ≡ token.OtherDirective) ⊎ ((t ≡ token.BadByte) ⊎ ((t ≡ token.Unclosed) ⊎ (t ≡ token.End))))))
+      → (t ≡ token.Not) ⊎ ((t ≡ token.Abducible) ⊎ ((t ≡ token.SkippedDirective) ⊎ ((t ≡ token.UnclosedDirective) ⊎ ((t ≡ token.OtherDirective) ⊎ ((t ≡ token.BadByte) ⊎ ((t ≡ token.Unclosed) ⊎ (t ≡ token.End)))))))
       → term room s ≡ Err (unexpected_fault s)
   term_other t e (inl n) = at_token _ (e ∙ ap Some n)
   term_other t e (inr (inl n)) = at_token _ (e ∙ ap Some n)
@@ -73,7 +73,8 @@ module _ (room : ℕ) (s : State) where
   term_other t e (inr (inr (inr (inl n)))) = at_token _ (e ∙ ap Some n)
   term_other t e (inr (inr (inr (inr (inl n))))) = at_token _ (e ∙ ap Some n)
   term_other t e (inr (inr (inr (inr (inr (inl n)))))) = at_token _ (e ∙ ap Some n)
-  term_other t e (inr (inr (inr (inr (inr (inr n)))))) = at_token _ (e ∙ ap Some n)
+  term_other t e (inr (inr (inr (inr (inr (inr (inl n))))))) = at_token _ (e ∙ ap Some n)
+  term_other t e (inr (inr (inr (inr (inr (inr (inr n))))))) = at_token _ (e ∙ ap Some n)
 
 -- a thing more of a series: with a comma behind it, or without
 module _ {A : Type 0} (one : List A → Read A) (n : ℕ) (before : List A) (some : 0 < n) (s s1 s2 : State) (x : A) (is_one : one before s ≡ Ok (x, s1)) where

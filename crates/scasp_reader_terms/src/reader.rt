@@ -167,6 +167,7 @@ impl<'a> Reader<'a> {
                 | Token::Not
                 | Token::Variable(_)
                 | Token::Number(_)
+                | Token::Abducible
                 | Token::SkippedDirective
                 | Token::UnclosedDirective
                 | Token::OtherDirective
@@ -211,6 +212,7 @@ impl<'a> Reader<'a> {
             Some(Token::Sign(sign)) => matches!(sign, Sign::Close | Sign::CloseList),
             Some(
                 Token::Not
+                | Token::Abducible
                 | Token::SkippedDirective
                 | Token::UnclosedDirective
                 | Token::OtherDirective
@@ -278,7 +280,7 @@ impl<'a> Reader<'a> {
     }
 
     /// The number of a variable that the clause has had.
-    fn known_variable(&self, text: &str) -> Option<usize>
+    pub fn known_variable(&self, text: &str) -> Option<usize>
         ensures { result ≡ known_variable text.now self.now.variables }
     {
         if text == "_" {

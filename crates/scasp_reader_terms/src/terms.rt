@@ -65,6 +65,7 @@ impl Reader<'_> {
             Token::Name(text) => self.compound(alloc, room, text.as_str()),
             Token::Sign(sign) => self.term_at_sign(alloc, room, *sign),
             Token::Not
+            | Token::Abducible
             | Token::SkippedDirective
             | Token::UnclosedDirective
             | Token::OtherDirective

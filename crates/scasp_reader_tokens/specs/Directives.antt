@@ -15,6 +15,10 @@ begins_directive (b ∷ c ∷ bytes) = b == 35 && (is_lower c || c == 39)
 abbrev pub is_skipped_name : List ℕ → Bool
 is_skipped_name text = bytes_eq text (codes "show") || bytes_eq text (codes "pred")
 
+-- the name of the directive before a predicate that may be assumed
+abbrev pub is_abducible_name : List ℕ → Bool
+is_abducible_name text = bytes_eq text (codes "abducible")
+
 -- a stop that ends a directive: behind it stands a blank, a comment or nothing
 abbrev pub is_last_stop : List ℕ → Bool
 is_last_stop [] = false

@@ -5,7 +5,7 @@ use Rattle.scasp_num.specs.Gcd.{gcd, gcd_within}
 use Rattle.scasp_num.specs.Arithmetic.{number, lowest}
 use Rattle.scasp_num.specs.declared.linear.Op.TheVariants as op
 use Rattle.scasp_reader_tokens.specs.declared.sign.Sign.TheVariants as sign
-use Rattle.scasp_reader_tokens.specs.declared.token.Token.TheVariants.{Name, Not, Variable, Number, Sign, SkippedDirective, UnclosedDirective, OtherDirective, BadByte, Unclosed, End}
+use Rattle.scasp_reader_tokens.specs.declared.token.Token.TheVariants.{Name, Not, Variable, Number, Sign, Abducible, SkippedDirective, UnclosedDirective, OtherDirective, BadByte, Unclosed, End}
 use Rattle.scasp_reader_tokens.specs.declared.token.Placed.{Placed}
 use Rattle.scasp_reader_tokens.specs.Numbers.{literal_value}
 use Rattle.scasp_reader_tokens.specs.Quoted.{quoted_length, text_of, length_before_bad}
@@ -64,6 +64,15 @@ a_skipped_directive = refl
 a_directive_without_end : Spells (codes "#pred '.' .5") (placed 0 UnclosedDirective ∷ [])
 unfolding tokens_of
 a_directive_without_end = refl
+
+an_abducible_predicate : Spells (codes "#abducible p(X).")
+    (placed 0 Abducible ∷ placed 11 (Name (codes "p")) ∷ placed 12 (Sign sign.Open) ∷ placed 13 (Variable (codes "X")) ∷ placed 14 (Sign sign.Close) ∷ placed 15 (Sign sign.Stop) ∷ placed 16 End ∷ [])
+unfolding tokens_of
+an_abducible_predicate = refl
+
+a_longer_name : Spells (codes "#abducibles p.") (placed 0 OtherDirective ∷ [])
+unfolding tokens_of
+a_longer_name = refl
 
 another_directive : Spells (codes "#include a.") (placed 0 OtherDirective ∷ [])
 unfolding tokens_of

@@ -12,7 +12,7 @@ use Rattle.scasp_reader_tokens.specs.Comments.{line_length, block_length}
 use Rattle.scasp_reader_tokens.specs.Quoted.{quoted_length, text_of, good_length}
 use Rattle.scasp_reader_tokens.specs.Numbers.{digits, decimals, written_length, literal_value}
 use Rattle.scasp_reader_tokens.specs.Signs.{signs, entry_at}
-use Rattle.scasp_reader_tokens.specs.Directives.{begins_directive, is_skipped_name, length_to_stop}
+use Rattle.scasp_reader_tokens.specs.Directives.{begins_directive, is_skipped_name, is_abducible_name, length_to_stop}
 
 -- ---- what stands at the front: `Gap` without a token, `Found` with one, of so many bytes; `Last`, so many bytes on, behind which nothing is looked for
 
@@ -46,8 +46,14 @@ number bytes =
 abbrev pub skipped_directive : List ℕ → Front
 skipped_directive bytes = elim (length_to_stop 0 (drop 5 bytes)) [ None ↦ Last token.UnclosedDirective 0 | Some n ↦ Found token.SkippedDirective (n + 5) ]
 
+-- a directive of this name: one that is skipped, `#abducible`, or another
+abbrev pub directive_of : List ℕ → List ℕ → Front
+directive_of name bytes =
+    if is_skipped_name name then skipped_directive bytes
+    else (if is_abducible_name name then Found token.Abducible (length name + 1) else Last token.OtherDirective 0)
+
 abbrev pub directive : List ℕ → Front
-directive bytes = if is_skipped_name (take_while is_name_byte (drop 1 bytes)) then skipped_directive bytes else Last token.OtherDirective 0
+directive bytes = directive_of (take_while is_name_byte (drop 1 bytes)) bytes
 
 -- a sign, a directive, or a byte that begins no token
 abbrev pub sign_or_directive : List ℕ → Front

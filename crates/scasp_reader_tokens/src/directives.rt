@@ -1,6 +1,6 @@
 //! Directives.
 ghost use Rattle.std.specs.Prelude.{◌≡◌, ◌<◌, ◌≤◌, length, IfSome};
-ghost use Rattle.scasp_reader_tokens.specs.Directives.{begins_directive, is_skipped_name, is_last_stop, piece_length, length_to_stop};
+ghost use Rattle.scasp_reader_tokens.specs.Directives.{begins_directive, is_skipped_name, is_abducible_name, is_last_stop, piece_length, length_to_stop};
 
 use crate::bytes::{behind, is_blank, is_lower};
 use crate::comments::{block_len, line_len};
@@ -21,6 +21,13 @@ pub fn is_skipped_name(name: &str) -> bool
     ensures { result ≡ is_skipped_name name.now }
 {
     matches!(name, "show" | "pred")
+}
+
+/// Whether it is the name of the directive before a predicate that may be assumed.
+pub fn is_abducible_name(name: &str) -> bool
+    ensures { result ≡ is_abducible_name name.now }
+{
+    name == "abducible"
 }
 
 /// Whether a stop is here that ends a directive.

@@ -5,7 +5,7 @@ ghost use Rattle.scasp_reader_tokens.specs.Tokens.{block_comment, word, variable
 
 use crate::bytes::{behind, digits, is_blank, is_digit, is_lower, is_upper, name_at};
 use crate::comments::{block_len, line_len};
-use crate::directives::{begins_directive, is_skipped_name, len_to_stop};
+use crate::directives::{begins_directive, is_abducible_name, is_skipped_name, len_to_stop};
 use crate::numbers::{decimals, literal};
 use crate::quoted::{good_len, quoted_len, unescaped};
 use crate::sign::sign_at;
@@ -132,8 +132,11 @@ fn directive(bytes: &[u8]) -> Front
     ensures front { result ≡ directive bytes.now }
     ensures within { IsWithin (length bytes.now) result }
 {
-    if is_skipped_name(name_at(behind(bytes, 1))) {
+    let name = name_at(behind(bytes, 1));
+    if is_skipped_name(name) {
         skipped_directive(bytes)
+    } else if is_abducible_name(name) {
+        Front::Found(Token::Abducible, name.len() + 1)
     } else {
         Front::Last(Token::OtherDirective, 0)
     }

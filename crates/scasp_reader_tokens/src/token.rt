@@ -16,6 +16,8 @@ pub enum Token {
     /// A number, or None where it is too large.
     Number(Option<Rat>),
     Sign(Sign),
+    /// `#abducible`, before the name of a predicate that may be assumed.
+    Abducible,
     /// `#show` or `#pred`, up to its stop.
     SkippedDirective,
     /// `#show` or `#pred` without a stop; nothing is looked for behind it.

@@ -1,5 +1,5 @@
 //! Lists of certificates.
-ghost use Rattle.std.specs.Prelude.{◌≡◌};
+ghost use Rattle.std.specs.Prelude.{◌≡◌, IsTrue};
 ghost use Rattle.scasp_cert.specs.Certificate.{certificate_of};
 ghost use Rattle.scasp_sound.specs.MapLevels.{covered as covered_by};
 ghost use Rattle.scasp_touched.specs.Once.{IsNamed};
@@ -29,6 +29,8 @@ pub struct Certs {
 impl Filed {
     ghost use Rattle.std.specs.Prelude.{map, IfOk};
     ghost use Rattle.scasp_cert.specs.Certificate.{checks_of};
+    ghost use Rattle.scasp_syntax.specs.declared.program.Program.{Program as ThisProgram};
+    ghost use Rattle.scasp_recheck.specs.Checks.{verdict_on};
     ghost use Rattle.scasp_recheck.specs.Views.{filed_cert};
 
     /// The clauses of the checks.
@@ -53,6 +55,14 @@ impl Filed {
             named,
             covered,
         })
+    }
+
+    /// Whether the map is that of the other, and so are the clauses that it need not keep.
+    pub fn is_asked_as(&self, other: &Filed) -> bool
+        ensures { IsTrue result → (p : ThisProgram) → verdict_on p (filed_cert self.now) ≡ verdict_on p (filed_cert other.now) }
+    {
+        self.covered.as_slice() == other.covered.as_slice()
+            && self.cert.map.as_slice() == other.cert.map.as_slice()
     }
 }
 

@@ -4,6 +4,7 @@
 mod certs;
 mod checked;
 mod recheck;
+mod step;
 mod tally;
 
 pub use certs::Certs;

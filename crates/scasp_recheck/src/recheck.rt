@@ -5,6 +5,7 @@ ghost use Rattle.scasp_recheck.specs.Views.{certs_of};
 
 use crate::certs::Certs;
 use crate::checked::{Checked, check_anew};
+use crate::step::Step;
 use crate::tally::Tally;
 use scasp_cert::Cert;
 use scasp_list::{Memory, Sequence};
@@ -55,10 +56,11 @@ impl Recheck {
         ensures touched { IfOk result (λ tally. tally.touched ≡ touched_count (program_of self.now) program.now (certs_in self.now)) }
     {
         let edit = Edit::between(self.alloc, &self.program, program)?;
+        let mut step = Step::new(edit);
         let mut tally = Tally::new(self.alloc);
         let results = self.results.as_slice();
         for (place, filed) in self.certs.as_slice().iter().enumerate() {
-            tally.put(self.alloc, &edit, filed, results[place])?;
+            tally.put(self.alloc, &mut step, filed, results[place])?;
         }
         Ok(tally)
     }

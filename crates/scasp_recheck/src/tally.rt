@@ -5,9 +5,9 @@ ghost use Rattle.scasp_recheck.specs.Tallies.{tally_none, with_filed};
 ghost use Rattle.scasp_recheck.specs.Views.{filed_cert};
 
 use crate::certs::Filed;
-use crate::checked::{Checked, check_anew, kept};
+use crate::checked::{Checked, check_anew};
+use crate::step::Step;
 use scasp_list::{Memory, Sequence};
-use scasp_touched::Edit;
 use std::alloc::Global;
 
 /// What the first certificates come to under the new program, and how many of them the step touches.
@@ -29,23 +29,24 @@ impl Tally {
     }
 
     /// One certificate more, which came to this under the old program. It is checked anew where the step touches it.
-    pub fn put(
+    pub fn put<'a>(
         &mut self,
         alloc: Global,
-        edit: &Edit,
-        filed: &Filed,
+        step: &mut Step<'a>,
+        filed: &'a Filed,
         before: Checked,
     ) -> Result<(), Memory>
-        requires { before ≡ checked_of edit.now.old.now (filed_cert filed.now) }
-        ensures { OnOk result (self.new ≡ with_filed edit.now.old.now edit.now.new.now self.old filed.now) }
+        requires { before ≡ checked_of step.old.edit.old.now (filed_cert filed.now) }
+        ensures ok { OnOk result (self.new ≡ with_filed step.old.edit.old.now step.old.edit.new.now self.old filed.now) }
+        ensures edit { step.new.edit ≡ step.old.edit }
     {
-        if edit.touches(&filed.cert, &filed.named) {
+        if step.edit.touches(&filed.cert, &filed.named) {
             self.touched = self.touched.checked_add(1).ok_or(Memory)?;
             self.results
-                .push(check_anew(alloc, edit.new, &filed.cert)?)?;
+                .push(check_anew(alloc, step.edit.new, &filed.cert)?)?;
             return Ok(());
         }
-        self.results.push(kept(edit.new, filed, before))?;
+        self.results.push(step.kept(filed, before))?;
         Ok(())
     }
 }

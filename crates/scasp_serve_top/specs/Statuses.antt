@@ -27,3 +27,4 @@ IsServeStatus status.Overflow = ⊥
 IsServeStatus status.Memory = ⊤
 IsServeStatus status.Refused = ⊥
 IsServeStatus status.Limit = ⊤
+IsServeStatus status.NoModel = ⊥

@@ -64,6 +64,7 @@ pub(crate) fn serve_status(status: Status) -> ServeStatus
         Status::Write => ServeStatus::Write,
         Status::Memory => ServeStatus::Memory,
         Status::Limit => ServeStatus::Limit,
-        Status::NoAnswer | Status::Spent | Status::Overflow | Status::Refused => unreachable!(),
+        Status::NoAnswer | Status::Spent | Status::Overflow | Status::Refused | Status::NoModel =>
+            unreachable!(),
     }
 }

@@ -43,7 +43,7 @@ abbrev query : Query
 query = record { body = call true (atom 3 nil) ∷ call true (atom 5 nil) ∷ []; names = [] }
 
 abbrev program : Program
-program = record { clauses = rule ∷ denial ∷ fact ∷ []; queries = query ∷ []; well_formed = refl }
+program = record { clauses = rule ∷ denial ∷ fact ∷ []; queries = query ∷ []; abducibles = []; well_formed = refl; choices = refl }
 
 order : predicates program ≡ pred_of p0 ∷ pred_of (atom 3 nil) ∷ pred_of (atom 4 nil) ∷ pred_of (atom 5 nil) ∷ []
 order = refl

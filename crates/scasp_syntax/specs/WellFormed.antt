@@ -1,10 +1,12 @@
 -- What each program keeps of its variables and of its rows.
-use Rattle.std.specs.Prelude.{ℕ, Bool, true, ◌&&◌, nat_eq, nat_lt, List, [], ◌∷◌, length, Option, None, Some, ⊤}
+use Rattle.std.specs.Prelude.{ℕ, Bool, true, not, ◌&&◌, nat_eq, nat_lt, List, [], ◌∷◌, length, Option, None, Some, ⊤}
 use Rattle.std.specs.List.{list_all, list_any}
 use Rattle.scasp_num.specs.Linear.{IsNormal, is_normal}
+use Rattle.scasp_syntax.specs.Same.{same_pred}
 use Rattle.scasp_syntax.specs.Tm.{Tm, Tms, var, num, app, nil, cons}
 use Rattle.scasp_syntax.specs.View.{tm_of}
 use Rattle.scasp_syntax.specs.declared.atom.Atom.{Atom}
+use Rattle.scasp_syntax.specs.declared.atom.Pred.{Pred}
 use Rattle.scasp_syntax.specs.declared.clause.Clause.{Clause}
 use Rattle.scasp_syntax.specs.declared.clause.Item.{Item}
 use Rattle.scasp_syntax.specs.declared.clause.Item.TheVariants.{Call, Equal, Differ, Linear}
@@ -52,6 +54,11 @@ is_query_well_formed q = list_all (is_item_below (length q.names)) q.body
 abbrev pub are_well_formed : List Clause → List Query → Bool
 are_well_formed clauses queries =
     list_all is_clause_well_formed clauses && list_all is_query_well_formed queries
+
+-- the predicates are distinct, and none has `-`
+abbrev pub are_abducible : List Pred → Bool
+are_abducible [] = true
+are_abducible (p ∷ ps) = not p.minus && not (list_any (same_pred p) ps) && are_abducible ps
 
 -- a linear item's row is in normal form
 abbrev pub HasNormalRow : Item → Type 0

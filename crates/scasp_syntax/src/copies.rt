@@ -1,7 +1,7 @@
 //! Copies.
 ghost use Rattle.std.specs.Prelude.{◌≡◌, IfOk};
 
-use crate::atom::{Atom, Lit};
+use crate::atom::{Atom, Lit, Pred};
 use crate::clause::{Clause, FlatItem, Item, Lin, Query};
 use crate::con::Con;
 use crate::hint::Hint;
@@ -46,6 +46,12 @@ impl DeepCopy for u64 {
 
 impl DeepCopy for PredMap {
     fn copy(&self, _alloc: Global) -> Result<PredMap, Memory> {
+        Ok(*self)
+    }
+}
+
+impl DeepCopy for Pred {
+    fn copy(&self, _alloc: Global) -> Result<Pred, Memory> {
         Ok(*self)
     }
 }
@@ -175,6 +181,11 @@ impl DeepCopy for Program {
     fn copy(&self, alloc: Global) -> Result<Program, Memory> {
         let clauses = self.clauses.copy(alloc)?;
         let queries = self.queries.copy(alloc)?;
-        Ok(Program { clauses, queries })
+        let abducibles = self.abducibles.copy(alloc)?;
+        Ok(Program {
+            clauses,
+            queries,
+            abducibles,
+        })
     }
 }

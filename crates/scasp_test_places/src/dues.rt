@@ -6,7 +6,7 @@ use scasp_lines_places::{
 };
 use scasp_list::Memory;
 use scasp_syntax::{
-    Clauses, Con, Cons, Items, PredMaps, Program, Queries, Query, Term, Terms, VarNames,
+    Clauses, Con, Cons, Items, PredMaps, Preds, Program, Queries, Query, Term, Terms, VarNames,
 };
 use std::alloc::Global;
 use std::test::Fail;
@@ -87,6 +87,7 @@ fn top_of_nothing(alloc: Global) -> Result<u64, Memory> {
     let program = Program {
         clauses: Clauses::new(alloc),
         queries: Queries::new(alloc),
+        abducibles: Preds::new(alloc),
     };
     top(&program, &empty(alloc))
 }

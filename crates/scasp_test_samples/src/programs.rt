@@ -115,7 +115,12 @@ pub fn program(alloc: Global, rules: &[Rule], bodies: &[&[Literal]]) -> Result<P
 {
     let clauses = clauses(alloc, rules)?;
     let queries = queries(alloc, bodies)?;
-    Ok(Program { clauses, queries })
+    let abducibles = Sequence::new(alloc);
+    Ok(Program {
+        clauses,
+        queries,
+        abducibles,
+    })
 }
 
 /// The map of these entries: a predicate's atom, its level, and whether its sign is `+`.

@@ -23,6 +23,7 @@ fn show_token(shown: &mut String, token: &Token) -> Result<(), Fail> {
         Token::Number(None) => shown.push_str("too large")?,
         Token::Sign(Sign::Foreign) => shown.push_str("foreign")?,
         Token::Sign(sign) => write!(shown, "{sign:?}")?,
+        Token::Abducible => shown.push_str("abducible")?,
         Token::SkippedDirective => shown.push_str("skipped")?,
         Token::UnclosedDirective => shown.push_str("unclosed directive")?,
         Token::OtherDirective => shown.push_str("other directive")?,
@@ -114,7 +115,8 @@ static ROWS: [(&[u8], &str); 40] = [
         "0 skipped, 13 skipped, 33 end",
     ),
     (b"#show p/1.q", "0 unclosed directive"),
-    (b"p #abducible", "0 name p, 2 other directive"),
+    (b"p #abducible", "0 name p, 2 abducible, 12 end"),
+    (b"p #abducibles", "0 name p, 2 other directive"),
 ];
 
 #[test]

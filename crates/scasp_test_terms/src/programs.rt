@@ -51,6 +51,7 @@ fn program(alloc: Global) -> Result<Program, Memory> {
     Ok(Program {
         clauses,
         queries: Sequence::new(alloc),
+        abducibles: Sequence::new(alloc),
     })
 }
 

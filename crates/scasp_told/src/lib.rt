@@ -2,8 +2,6 @@
 #![tactic(auto)]
 
 mod cuts;
-#[cfg(test)]
-mod tests;
 mod told;
 
 pub use told::Told;

@@ -1,20 +1,15 @@
 -- What a check prints, and how it ends, is settled by the bytes of both files.
 use Rattle.std.proofs.Common.{◌≡◌, ◌≢◌, ◌≤◌, ◌∙◌, ◌+◌, ◌↔◌, ℕ, List, [], Option, None, Some, Result, Ok, Err, arith, ap, refl, sym, subst}
-use Rattle.std.specs.Prelude.{All, IsTrue}
-use denote.Struct.Props.{props}
+use Rattle.std.specs.Prelude.{All}
 use Rattle.scasp_name.specs.Texts.{list_names}
-use Rattle.scasp_syntax.specs.WellFormed.{are_well_formed}
-use Rattle.scasp_syntax.specs.declared.clause.Clause.{Clause}
-use Rattle.scasp_syntax.specs.declared.clause.Query.{Query}
 use Rattle.scasp_syntax.specs.declared.program.Program.{Program}
 use Rattle.scasp_reader_terms.specs.declared.fault.Fault.{Fault}
-use Rattle.scasp_reader.specs.declared.texts.texts.Reading.{Reading}
-use Rattle.scasp_reader.specs.Programs.Programs.{program_in, reading_of}
+use Rattle.scasp_reader.specs.Programs.Programs.{program_in}
 use Rattle.scasp_answers.specs.Blocks.States.{Entry}
 use Rattle.scasp_answers.specs.declared.blocks.fault.AnswerFault.{AnswerFault}
 use Rattle.scasp_io.specs.Counts.{Rose}
 use Rattle.scasp_command_words.specs.declared.command.Command.{Command}
-use Rattle.scasp_command_words.specs.declared.command.Command.TheVariants.{Run, Check, Trial}
+use Rattle.scasp_command_words.specs.declared.command.Command.TheVariants.{Run, Check, Trial, Extend, Recheck}
 use Rattle.scasp_command_check.specs.Meaning.{IsAccepted}
 use Rattle.scasp_command_check.specs.Texts.{recheck_text, rechecked_of}
 use Rattle.scasp_command_check.specs.declared.checking.Rechecked.{Rechecked}
@@ -22,8 +17,9 @@ use Rattle.scasp_command_check.specs.declared.checking.Rechecked.TheVariants as 
 use Rattle.scasp_command_check.proofs.MeaningLemmas.{means_accepted}
 use Rattle.scasp_top.specs.Agreeing.{ChecksAgree, ChecksMean}
 use Rattle.scasp_top.specs.Ends.{check_status, IsCheck}
+use Rattle.scasp_command_inputs.proofs.ProgramLemmas.{one-program, one-table}
 use Rattle.scasp_command_inputs.specs.Inputs.{answers_in, without_faults, AreBytes, Failed, IsAnswers, IsProgram, Outside, Says, unread, refused, unread_answers, refused_answers}
-use Rattle.scasp_top.specs.Outputs.{program_file, Checks, Outputs, nothing, usage, no_program, runs, no_answers, checks, tries}
+use Rattle.scasp_top.specs.Outputs.{program_file, Checks, Outputs, nothing, usage, no_program, runs, no_answers, checks, tries, extends, rechecks}
 use Rattle.scasp_command_inputs.specs.Texts.{answers_refusal, program_refusal, refusal_line, refusal_status}
 use Rattle.scasp_command_inputs.specs.declared.refusals.Input.TheVariants as input
 use Rattle.scasp_command_inputs.specs.declared.status.Status.{Status}
@@ -33,46 +29,16 @@ use Rattle.scasp_command_inputs.specs.declared.status.Status.TheVariants.{Done, 
 data Comes (bytes blocks text : List ℕ) (status : Status) : Type 0 where
   at_program : (f : Fault) → program_in list_names bytes ≡ Err f
       → Says (refusal_line input.Program f.at (program_refusal f.kind)) (refusal_status (program_refusal f.kind)) text status → Comes bytes blocks text status
-  at_answers : (p : Program) (names : List (List ℕ)) (f : AnswerFault) → program_in list_names bytes ≡ Ok (reading_of (p, names)) → answers_in names blocks ≡ Err f
+  at_answers : (p : Program) (names : List (List ℕ)) (f : AnswerFault) → IsProgram (Some bytes) p names → answers_in names blocks ≡ Err f
       → Says (refusal_line input.Answers f.at (answers_refusal f.kind)) (refusal_status (answers_refusal f.kind)) text status → Comes bytes blocks text status
-  at_end : (p : Program) (names : List (List ℕ)) (entries : List Entry) → program_in list_names bytes ≡ Ok (reading_of (p, names)) → answers_in names blocks ≡ Ok entries
+  at_end : (p : Program) (names : List (List ℕ)) (entries : List Entry) → IsProgram (Some bytes) p names → answers_in names blocks ≡ Ok entries
       → Says (recheck_text p entries) (check_status (Some (rechecked_of p entries))) text status → Comes bytes blocks text status
 
 -- ---- one text and one status come
 
-made : (cs : List Clause) (qs : List Query) → IsTrue (are_well_formed cs qs) → Program
-made cs qs h = record { clauses = cs; queries = qs; well_formed = h }
-
-one-made : (cs ds : List Clause) (qs rs : List Query) (h : IsTrue (are_well_formed cs qs)) (k : IsTrue (are_well_formed ds rs)) → cs ≡ ds → qs ≡ rs → made cs qs h ≡ made ds rs k
-one-made cs ds qs rs h k e f =
-    let P : List Clause → Type 0 = λ (xs : List Clause). (m : IsTrue (are_well_formed xs rs)) → made cs qs h ≡ made xs rs m in
-    let Q : List Query → Type 0 = λ (ys : List Query). (m : IsTrue (are_well_formed cs ys)) → made cs qs h ≡ made cs ys m in
-    let same : IsProp (IsTrue (are_well_formed cs qs)) = hlevel props in
-    subst P e (subst Q f (λ m. ap (made cs qs) (same h m))) k
-
--- the parts of what is read
-abbrev clauses_in : Result Reading Fault → List Clause
-clauses_in (Ok r) = r.clauses
-clauses_in (Err f) = []
-
-abbrev queries_in : Result Reading Fault → List Query
-queries_in (Ok r) = r.queries
-queries_in (Err f) = []
-
-abbrev names_in : Result Reading Fault → List (List ℕ)
-names_in (Ok r) = r.names
-names_in (Err f) = []
-
--- one program and one table of names are read
-one-program : (bytes : List ℕ) (p q : Program) (names others : List (List ℕ)) → program_in list_names bytes ≡ Ok (reading_of (p, names))
-    → program_in list_names bytes ≡ Ok (reading_of (q, others)) → p ≡ q
-unfolding made
-one-program bytes p q names others h g =
-    one-made p.clauses q.clauses p.queries q.queries p.well_formed q.well_formed (ap clauses_in (sym h ∙ g)) (ap queries_in (sym h ∙ g))
-
-one-table : (bytes : List ℕ) (p q : Program) (names others : List (List ℕ)) → program_in list_names bytes ≡ Ok (reading_of (p, names))
-    → program_in list_names bytes ≡ Ok (reading_of (q, others)) → names ≡ others
-one-table bytes p q names others h g = ap names_in (sym h ∙ g)
+-- a program that is read is not refused
+none-refused : (bytes : List ℕ) (f : Fault) (p : Program) (names : List (List ℕ)) → program_in list_names bytes ≡ Err f → IsProgram (Some bytes) p names → ⊥
+none-refused bytes f p names h g = cc (sym h ∙ ap (program_in list_names) (sym (g.is).are) ∙ (g.is).read)
 
 -- one line or text is said
 one-said : {A : Type 0} (line : A → List ℕ) (ending : A → Status) (a b : A) (text other : List ℕ) (end last : Status) → a ≡ b
@@ -92,25 +58,25 @@ one-comes bytes blocks text other end last (at_program f h s) (at_program g k t)
     let e : Err f ≡ Err g = sym h ∙ k in
     let same : f ≡ g = cc in
     one-said program-line (λ (x : Fault). refusal_status (program_refusal x.kind)) f g text other end last same s t
-one-comes bytes blocks text other end last (at_program f h s) (at_answers q others g k l t) = cc
-one-comes bytes blocks text other end last (at_program f h s) (at_end q others entries k l t) = cc
-one-comes bytes blocks text other end last (at_answers p names f h m s) (at_program g k t) = cc
+one-comes bytes blocks text other end last (at_program f h s) (at_answers q others g k l t) = absurd (none-refused bytes f q others h k)
+one-comes bytes blocks text other end last (at_program f h s) (at_end q others entries k l t) = absurd (none-refused bytes f q others h k)
+one-comes bytes blocks text other end last (at_answers p names f h m s) (at_program g k t) = absurd (none-refused bytes g p names k h)
 one-comes bytes blocks text other end last (at_answers p names f h m s) (at_answers q others g k l t) =
-    let table : names ≡ others = one-table bytes p q names others h k in
+    let table : names ≡ others = one-table list_names bytes p q names others h k in
     let e : answers_in names blocks ≡ answers_in others blocks = ap (λ (ns : List (List ℕ)). answers_in ns blocks) table in
     let both : Err f ≡ Err g = sym m ∙ e ∙ l in
     let same : f ≡ g = cc in
     one-said answers-line (λ (x : AnswerFault). refusal_status (answers_refusal x.kind)) f g text other end last same s t
 one-comes bytes blocks text other end last (at_answers p names f h m s) (at_end q others entries k l t) =
-    let e : answers_in names blocks ≡ answers_in others blocks = ap (λ (ns : List (List ℕ)). answers_in ns blocks) (one-table bytes p q names others h k) in cc
-one-comes bytes blocks text other end last (at_end p names entries h m s) (at_program g k t) = cc
+    let e : answers_in names blocks ≡ answers_in others blocks = ap (λ (ns : List (List ℕ)). answers_in ns blocks) (one-table list_names bytes p q names others h k) in cc
+one-comes bytes blocks text other end last (at_end p names entries h m s) (at_program g k t) = absurd (none-refused bytes g p names k h)
 one-comes bytes blocks text other end last (at_end p names entries h m s) (at_answers q others g k l t) =
-    let e : answers_in names blocks ≡ answers_in others blocks = ap (λ (ns : List (List ℕ)). answers_in ns blocks) (one-table bytes p q names others h k) in cc
+    let e : answers_in names blocks ≡ answers_in others blocks = ap (λ (ns : List (List ℕ)). answers_in ns blocks) (one-table list_names bytes p q names others h k) in cc
 one-comes bytes blocks text other end last (at_end p names entries h m s) (at_end q others blocks' k l t) =
-    let e : answers_in names blocks ≡ answers_in others blocks = ap (λ (ns : List (List ℕ)). answers_in ns blocks) (one-table bytes p q names others h k) in
+    let e : answers_in names blocks ≡ answers_in others blocks = ap (λ (ns : List (List ℕ)). answers_in ns blocks) (one-table list_names bytes p q names others h k) in
     let both : Ok entries ≡ Ok blocks' = sym m ∙ e ∙ l in
     let entries-same : entries ≡ blocks' = cc in
-    let same : p ≡ q = one-program bytes p q names others h k in
+    let same : p ≡ q = one-program list_names bytes p q names others h k in
     one-said {A = Program × List Entry} (λ (x : Program × List Entry). recheck_text x.0 x.1) (λ (x : Program × List Entry). check_status (Some (rechecked_of x.0 x.1)))
     (p, entries) (q, blocks') text other end last
     (ap (λ (x : Program). (x, entries)) same ∙ ap (λ (es : List Entry). (q, es)) entries-same) s t
@@ -128,13 +94,15 @@ program-file-is : (program answers : List ℕ) (command : Command) (file : List 
 program-file-is program answers (Run other budget asked) file e named = cc
 program-file-is program answers (Check p a) file e named = cc
 program-file-is program answers (Trial n) file e named = cc
+program-file-is program answers (Extend p a d) file e named = cc
+program-file-is program answers (Recheck a fs) file e named = cc
 
 module _ (program answers : List ℕ) (o : Outside) (bytes blocks : List ℕ) (told : o.told program ≡ Some bytes) (told' : o.told answers ≡ Some blocks) where
   these : (file all named : List ℕ) → o.told file ≡ Some all → named ≡ file → (read : List ℕ) → AreBytes (o.told named) read → read ≡ all
   these file all named t is read are = told-bytes (o.told named) read all (ap o.told is ∙ t) are
 
-  spelled : (named : List ℕ) (p : Program) (names : List (List ℕ)) → named ≡ program → IsProgram (o.told named) p names → program_in list_names bytes ≡ Ok (reading_of (p, names))
-  spelled named p names is h = ap (program_in list_names) (sym (these program bytes named told is h.bytes h.are)) ∙ h.read
+  spelled : (named : List ℕ) (p : Program) (names : List (List ℕ)) → named ≡ program → IsProgram (o.told named) p names → IsProgram (Some bytes) p names
+  spelled named p names is h = subst (λ (t : Option (List ℕ)). IsProgram t p names) (ap o.told is ∙ told) h
 
   whole-check : (p : Program) (entries : List Entry) (text : List ℕ) (status : Status) → status ≢ Memory → (end : Option Rechecked) → IsCheck p entries text end
       → status ≡ check_status end → Says (recheck_text p entries) (check_status (Some (rechecked_of p entries))) text status
@@ -150,6 +118,8 @@ module _ (program answers : List ℕ) (o : Outside) (bytes blocks : List ℕ) (t
       at_program r.fault (ap (program_in list_names) (sym same) ∙ r.is) r.says
   comes text status k (runs file budget asked p names is has r) = cc
   comes text status k (tries n is t) = cc
+  comes text status k (extends p a d is e) = cc
+  comes text status k (rechecks a fs is r) = cc
   comes text status k (no_answers pf af p names is has (unread_answers rose says)) = absurd (calm o af rose)
   comes text status k (no_answers pf af p names is has (refused_answers read are r)) =
       let named : pf ≡ program = cc in

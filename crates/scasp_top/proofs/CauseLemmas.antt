@@ -1,138 +1,127 @@
 -- The causes of the statuses for faults.
-use Rattle.std.proofs.Common.{◌≡◌, ◌⊎◌, inl, inr, ℕ, Bool, true, false, Option, None, Some, List, refl, sym, subst, ◌∙◌, ap}
+use Rattle.std.proofs.Common.{◌≡◌, ◌⊎◌, inl, inr, ℕ, Option, None, Some, List, [], ◌∷◌, sym, subst}
 use Rattle.scasp_io.specs.Counts.{Rose}
+use Rattle.scasp_io.specs.Taken.{TakesWhole}
 use Rattle.scasp_command_words.specs.declared.command.Command.{Command}
-use Rattle.scasp_command_words.specs.declared.command.Command.TheVariants.{Run, Check, Trial}
+use Rattle.scasp_command_words.specs.declared.command.Command.TheVariants.{Run, Check, Trial, Extend, Recheck}
 use Rattle.scasp_command_run.specs.declared.ends.RunEnd.{RunEnd}
 use Rattle.scasp_command_run.specs.declared.ends.RunEnd.TheVariants as run
 use Rattle.scasp_command_check.specs.declared.checking.Rechecked.{Rechecked}
 use Rattle.scasp_command_check.specs.declared.checking.Rechecked.TheVariants as check
 use Rattle.scasp_command_trial.specs.declared.first.Trial.{Trial as Trying}
 use Rattle.scasp_command_trial.specs.declared.first.Trial.TheVariants as trial
-use Rattle.scasp_top.specs.Ends.{run_status, check_status, trial_status}
-use Rattle.scasp_command_inputs.specs.Inputs.{Outside, without_faults, unread, refused, unread_answers, refused_answers}
-use Rattle.scasp_top.specs.Outputs.{program_file, HasReadFault, Outputs, nothing, usage, no_program, runs, no_answers, checks, tries, is_refused, is_tried}
-use Rattle.scasp_io.specs.Taken.{TakesWhole}
+use Rattle.scasp_command_extend.proofs.FaultLemmas.{extends-end, extends-without}
+use Rattle.scasp_command_recheck.proofs.FaultLemmas.{rechecks-end, rechecks-without}
+use Rattle.scasp_command_recheck.specs.Courses.{AnyFailed}
+use Rattle.scasp_command_inputs.proofs.FaultLemmas.{EndsBy, IsQuiet, answers-end, answers-without, memory-quiet, program-ends, program-without, quiet, refusal-quiet, wider}
+use Rattle.scasp_command_inputs.specs.Inputs.{Failed, Outside, without_faults}
 use Rattle.scasp_command_inputs.specs.Reports.{Reports, whole, part}
-use Rattle.scasp_command_inputs.specs.Texts.{Refusal, refusal_status, program_refusal, answers_refusal}
+use Rattle.scasp_command_inputs.specs.Texts.{program_refusal, refusal_status}
 use Rattle.scasp_command_inputs.specs.declared.status.Status.{Status}
-use Rattle.scasp_command_inputs.specs.declared.status.Status.TheVariants.{Done, NoAnswer, Usage, Text, Read, Write, Spent, Overflow, Memory, Refused, Limit}
+use Rattle.scasp_command_inputs.specs.declared.status.Status.TheVariants.{Done, NoAnswer, Usage, Read, Write, Spent, Overflow, Memory, Refused}
+use Rattle.scasp_top.specs.Ends.{run_status, check_status, trial_status}
+use Rattle.scasp_top.specs.Outputs.{program_file, HasReadFault, Outputs, nothing, usage, no_program, runs, no_answers, checks, tries, extends, rechecks, is_refused, is_tried}
 
--- the status of a fault of the outside
-is_fault : Status → Bool
-is_fault Done = false
-is_fault NoAnswer = false
-is_fault Usage = false
-is_fault Text = false
-is_fault Read = true
-is_fault Write = true
-is_fault Spent = false
-is_fault Overflow = false
-is_fault Memory = false
-is_fault Refused = false
-is_fault Limit = false
+usage-quiet : IsQuiet Usage
+usage-quiet = (λ e. cc, λ e. cc)
 
-refusal-calm : (r : Refusal) → is_fault (refusal_status r) ≡ false
-unfolding is_fault
-refusal-calm r = elim (r.limit) as (λ b. is_fault (refusal_status (record { limit = b; word = r.word })) ≡ false) [ true ↦ refl | false ↦ refl ]
+run-quiet : (end : Option RunEnd) → IsQuiet (run_status end)
+run-quiet None = memory-quiet
+run-quiet (Some run.Done) = (λ (e : Done ≡ Read). cc, λ (e : Done ≡ Write). cc)
+run-quiet (Some run.NoAnswer) = (λ (e : NoAnswer ≡ Read). cc, λ (e : NoAnswer ≡ Write). cc)
+run-quiet (Some run.Spent) = (λ (e : Spent ≡ Read). cc, λ (e : Spent ≡ Write). cc)
+run-quiet (Some run.Overflow) = (λ (e : Overflow ≡ Read). cc, λ (e : Overflow ≡ Write). cc)
 
-run-calm : (end : Option RunEnd) → is_fault (run_status end) ≡ false
-unfolding is_fault
-run-calm None = refl
-run-calm (Some run.Done) = refl
-run-calm (Some run.NoAnswer) = refl
-run-calm (Some run.Spent) = refl
-run-calm (Some run.Overflow) = refl
+check-quiet : (end : Option Rechecked) → IsQuiet (check_status end)
+check-quiet None = memory-quiet
+check-quiet (Some check.Accepted) = (λ (e : Done ≡ Read). cc, λ (e : Done ≡ Write). cc)
+check-quiet (Some check.Refused) = (λ (e : Refused ≡ Read). cc, λ (e : Refused ≡ Write). cc)
 
-check-calm : (end : Option Rechecked) → is_fault (check_status end) ≡ false
-unfolding is_fault
-check-calm None = refl
-check-calm (Some check.Accepted) = refl
-check-calm (Some check.Refused) = refl
+trial-quiet : (t : Trying) → IsQuiet (trial_status t)
+trial-quiet (trial.Right calls lines any) = (λ (e : Done ≡ Read). cc, λ (e : Done ≡ Write). cc)
+trial-quiet trial.Ended = (λ (e : NoAnswer ≡ Read). cc, λ (e : NoAnswer ≡ Write). cc)
+trial-quiet trial.Spent = (λ (e : Spent ≡ Read). cc, λ (e : Spent ≡ Write). cc)
+trial-quiet trial.Overflow = (λ (e : Overflow ≡ Read). cc, λ (e : Overflow ≡ Write). cc)
 
-trial-calm : (t : Trying) → is_fault (trial_status t) ≡ false
-unfolding is_fault
-trial-calm (trial.Right calls lines any) = refl
-trial-calm trial.Ended = refl
-trial-calm trial.Spent = refl
-trial-calm trial.Overflow = refl
-
--- the status of no fault, or that of a failed read
-Cause : Option Command → Outside → Status → Type 0
-Cause asked o status = (is_fault status ≡ false) ⊎ ((status ≡ Read) × HasReadFault asked o)
-
-calm : (asked : Option Command) (o : Outside) (status : Status) (s : Status) → status ≡ s → is_fault s ≡ false → Cause asked o status
-unfolding Cause
-calm asked o status s is h = inl (ap is_fault is ∙ h)
+-- the faults of the command that the words ask for
+fault-of : (asked : Option Command) (o : Outside) (command : Command) → asked ≡ Some command → HasReadFault (Some command) o → HasReadFault asked o
+fault-of asked o command is = subst (λ (a : Option Command). HasReadFault a o) (sym is)
 
 -- a failed read of the program's file
 program-fault : (asked : Option Command) (o : Outside) (command : Command) (file : List ℕ) → asked ≡ Some command → program_file command ≡ Some file
-    → Rose (o.before file) (o.after file) → HasReadFault asked o
-program-fault asked o command file is named rose =
-    let P : Option Command → Type 0 = λ a. HasReadFault a o in
-    subst P (sym is) (by command named)
+    → Failed o file → HasReadFault asked o
+program-fault asked o command file is named rose = fault-of asked o command is (by command named)
   where
-    of : (other : List ℕ) → Some other ≡ Some file → Rose (o.before other) (o.after other)
+    of : (other : List ℕ) → Some other ≡ Some file → Failed o other
     of other e =
         let same : file ≡ other = cc in
-        subst (λ (x : List ℕ). Rose (o.before x) (o.after x)) same rose
+        subst (λ (x : List ℕ). Failed o x) same rose
 
     by : (command : Command) → program_file command ≡ Some file → HasReadFault (Some command) o
     by (Run other budget answers) e = of other e
     by (Check program answers) e = inl (of program e)
     by (Trial n) e = cc
+    by (Extend program answers domain) e = cc
+    by (Recheck answers files) e = cc
 
-answers-fault : (asked : Option Command) (o : Outside) (program answers : List ℕ) → asked ≡ Some (Check program answers) → Rose (o.before answers) (o.after answers) → HasReadFault asked o
-answers-fault asked o program answers is rose =
-    let P : Option Command → Type 0 = λ a. HasReadFault a o in
-    subst P (sym is) (inr rose)
+-- ---- the status of no fault, or that of a failed read
 
-cause-of : (asked : Option Command) (o : Outside) (text : List ℕ) (status : Status) → Outputs asked o text status → Cause asked o status
-unfolding is_fault Cause
-cause-of asked o text status (nothing says) = calm asked o status Memory says.ending_is refl
-cause-of asked o text status (usage is says) = calm asked o status Usage says.ending_is refl
-cause-of asked o text status (no_program command file is named (unread rose says)) = inr (says.ending_is, program-fault asked o command file is named rose)
-cause-of asked o text status (no_program command file is named (refused bytes are r)) = calm asked o status _ (r.says).ending_is (refusal-calm (program_refusal (r.fault).kind))
-cause-of asked o text status (runs file budget answers p names is program r) = calm asked o status _ r.ending (run-calm r.end)
-cause-of asked o text status (no_answers program answers p names is read (unread_answers rose says)) = inr (says.ending_is, answers-fault asked o program answers is rose)
-cause-of asked o text status (no_answers program answers p names is read (refused_answers bytes are r)) = calm asked o status _ (r.says).ending_is (refusal-calm (answers_refusal (r.fault).kind))
-cause-of asked o text status (checks program answers p names entries is read has c) = calm asked o status _ c.ending (check-calm c.end)
-cause-of asked o text status (tries n is (is_refused r)) = calm asked o status _ (r.says).ending_is (refusal-calm (program_refusal (r.fault).kind))
-cause-of asked o text status (tries n is (is_tried p names read t)) = calm asked o status _ (t.says).ending_is (trial-calm t.trial)
+module _ (asked : Option Command) (o : Outside) (text : List ℕ) (status : Status) where
+  ends : Outputs asked o text status → EndsBy (HasReadFault asked o) status
+  ends (nothing says) = quiet (HasReadFault asked o) status Memory says.ending_is memory-quiet
+  ends (usage is says) = quiet (HasReadFault asked o) status Usage says.ending_is usage-quiet
+  ends (no_program command file is named refusal) =
+      wider (Failed o file) (HasReadFault asked o) status (program-fault asked o command file is named) (program-ends o _ file text status refusal)
+  ends (runs file budget answers p names is program r) = quiet (HasReadFault asked o) status (run_status r.end) r.ending (run-quiet r.end)
+  ends (no_answers program answers p names is read refusal) =
+      wider (Failed o answers) (HasReadFault asked o) status (λ h. fault-of asked o (Check program answers) is (inr h)) (answers-end o names answers text status refusal)
+  ends (checks program answers p names entries is read has c) = quiet (HasReadFault asked o) status (check_status c.end) c.ending (check-quiet c.end)
+  ends (tries n is (is_refused r)) =
+      quiet (HasReadFault asked o) status (refusal_status (program_refusal (r.fault).kind)) (r.says).ending_is (refusal-quiet (program_refusal (r.fault).kind))
+  ends (tries n is (is_tried p names read t)) = quiet (HasReadFault asked o) status (trial_status t.trial) (t.says).ending_is (trial-quiet t.trial)
+  ends (extends program answers domain is e) =
+      wider _ (HasReadFault asked o) status (fault-of asked o (Extend program answers domain) is) (extends-end o program answers domain text status e)
+  ends (rechecks answers files is r) =
+      wider _ (HasReadFault asked o) status (fault-of asked o (Recheck answers files) is) (rechecks-end o answers files text status r)
+
+  -- where no read fails, what is printed is so too where none can fail
+  without : ¬ HasReadFault asked o → Outputs asked o text status → Outputs asked (without_faults o) text status
+  without fine (nothing says) = nothing says
+  without fine (usage is says) = usage is says
+  without fine (no_program command file is named refusal) =
+      no_program command file is named (program-without o _ file text status (λ h. fine (program-fault asked o command file is named h)) refusal)
+  without fine (runs file budget answers p names is program r) = runs file budget answers p names is program r
+  without fine (no_answers program answers p names is read refusal) =
+      no_answers program answers p names is read
+      (answers-without o names answers text status (λ h. fine (fault-of asked o (Check program answers) is (inr h))) refusal)
+  without fine (checks program answers p names entries is read has c) = checks program answers p names entries is read has c
+  without fine (tries n is t) = tries n is t
+  without fine (extends program answers domain is e) =
+      extends program answers domain is
+      (extends-without o program answers domain text status (λ h. fine (fault-of asked o (Extend program answers domain) is h)) e)
+  without fine (rechecks answers files is r) =
+      rechecks answers files is
+      (rechecks-without o answers files text status (λ h. fine (fault-of asked o (Recheck answers files) is h)) r)
 
 -- ---- the clauses
 
 pub read-cause : (asked : Option Command) (o : Outside) (before after : Option (List ℕ)) (faults faults' : ℕ) (status : Status)
     → Reports (Outputs asked o) before after faults faults' status → status ≡ Read → HasReadFault asked o
-unfolding is_fault Cause
-read-cause asked o before after faults faults' status (whole w) read = by (cause-of asked o w.text status w.may)
+read-cause asked o before after faults faults' status (whole w) read = by (ends asked o w.text status w.may)
   where
-    by : Cause asked o status → HasReadFault asked o
-    by (inl h) = cc (ap is_fault read, h)
+    by : EndsBy (HasReadFault asked o) status → HasReadFault asked o
+    by (inl h) = absurd (h.0 read)
     by (inr h) = h.1
 read-cause asked o before after faults faults' status (part is rose w) read = cc
 
 pub write-cause : (asked : Option Command) (o : Outside) (before after : Option (List ℕ)) (faults faults' : ℕ) (status : Status)
     → Reports (Outputs asked o) before after faults faults' status → status ≡ Write → Rose faults faults'
-unfolding is_fault Cause
-write-cause asked o before after faults faults' status (whole w) write = by (cause-of asked o w.text status w.may)
+write-cause asked o before after faults faults' status (whole w) write = by (ends asked o w.text status w.may)
   where
-    by : Cause asked o status → Rose faults faults'
-    by (inl h) = cc (ap is_fault write, h)
+    by : EndsBy (HasReadFault asked o) status → Rose faults faults'
+    by (inl h) = absurd (h.1 write)
     by (inr h) = cc (h.0, write)
 write-cause asked o before after faults faults' status (part is rose w) write = rose
-
--- where no read fails, what is printed is so too where none can fail
-without : (asked : Option Command) (o : Outside) (text : List ℕ) (status : Status) → ¬ HasReadFault asked o → Outputs asked o text status → Outputs asked (without_faults o) text status
-without asked o text status fine (nothing says) = nothing says
-without asked o text status fine (usage is says) = usage is says
-without asked o text status fine (no_program command file is named (unread rose says)) = absurd (fine (program-fault asked o command file is named rose))
-without asked o text status fine (no_program command file is named (refused bytes are r)) = no_program command file is named (refused bytes are r)
-without asked o text status fine (runs file budget answers p names is program r) = runs file budget answers p names is program r
-without asked o text status fine (no_answers program answers p names is read (unread_answers rose says)) = absurd (fine (answers-fault asked o program answers is rose))
-without asked o text status fine (no_answers program answers p names is read (refused_answers bytes are r)) = no_answers program answers p names is read (refused_answers bytes are r)
-without asked o text status fine (checks program answers p names entries is read has c) = checks program answers p names entries is read has c
-without asked o text status fine (tries n is t) = tries n is t
 
 pub completes : (asked : Option Command) (o : Outside) (before after : Option (List ℕ)) (faults faults' : ℕ) (status : Status)
     → Reports (Outputs asked o) before after faults faults' status → ¬ HasReadFault asked o → ¬ Rose faults faults'
@@ -154,3 +143,23 @@ pub command-completes : (asked : Option Command) (command : Command) (o : Outsid
     → (status ≡ Memory) ⊎ TakesWhole (λ text. Outputs asked (without_faults o) text status) before after
 command-completes asked command o before after faults faults' status is reports =
     completes asked o before after faults faults' status (command-reports asked command o before after faults faults' status is reports)
+
+-- ---- files of which no read fails
+
+module _ (o : Outside) (sure : (file : List ℕ) → ¬ Failed o file) where
+  none-failed : (files : List (List ℕ)) → ¬ AnyFailed o files
+  none-failed [] h = h
+  none-failed (file ∷ files) (inl h) = sure file h
+  none-failed (file ∷ files) (inr h) = none-failed files h
+
+  pub sure-reads : (asked : Option Command) → ¬ HasReadFault asked o
+  sure-reads None h = h
+  sure-reads (Some (Run file budget answers)) h = sure file h
+  sure-reads (Some (Check program answers)) (inl h) = sure program h
+  sure-reads (Some (Check program answers)) (inr h) = sure answers h
+  sure-reads (Some (Trial n)) h = h
+  sure-reads (Some (Extend program answers domain)) (inl h) = sure program h
+  sure-reads (Some (Extend program answers domain)) (inr (inl h)) = sure answers h
+  sure-reads (Some (Extend program answers domain)) (inr (inr h)) = sure domain h
+  sure-reads (Some (Recheck answers files)) (inl h) = sure answers h
+  sure-reads (Some (Recheck answers files)) (inr h) = none-failed files h

@@ -3,13 +3,15 @@ use Rattle.std.proofs.Common.{◌≡◌, ◌≤◌, ℕ, Option, Some, List, ref
 use Rattle.scasp_syntax.specs.declared.program.Program.{Program}
 use Rattle.scasp_answers.specs.Blocks.States.{Entry}
 use Rattle.scasp_command_words.specs.declared.command.Command.{Command}
-use Rattle.scasp_command_words.specs.declared.command.Command.TheVariants.{Run, Check, Trial}
+use Rattle.scasp_command_words.specs.declared.command.Command.TheVariants.{Run, Check, Trial, Extend, Recheck}
 use Rattle.scasp_command_inputs.specs.Halts.{IfLine, Tells}
 use Rattle.scasp_command_inputs.specs.Inputs.{outside, HasAnswers, IsAnswers, IsNoAnswers, IsNoProgram, IsProgram, Outside}
-use Rattle.scasp_top.specs.Outputs.{program_file, Checks, Outputs, Runs, TriesNodes, nothing, no_program, runs, no_answers, checks, tries}
+use Rattle.scasp_top.specs.Outputs.{program_file, Checks, Outputs, Runs, TriesNodes, nothing, no_program, runs, no_answers, checks, tries, extends, rechecks}
 use Rattle.scasp_command_inputs.specs.Reports.{Reports}
 use Rattle.scasp_command_inputs.specs.declared.halt.Halt.{Halt}
 use Rattle.scasp_command_inputs.specs.declared.status.Status.{Status}
+use Rattle.scasp_command_extend.specs.Commands.{Extends}
+use Rattle.scasp_command_recheck.specs.Courses.{Rechecks}
 use Rattle.scasp_command_inputs.proofs.InputLemmas.{no_answers-since}
 use Rattle.scasp_command_inputs.proofs.ReportLemmas.{reports-widen, tells-widen}
 
@@ -61,3 +63,21 @@ pub goes-on-trial : (n : ℕ) (o : Outside) (h : Halt) (taken taken' : Option (L
 goes-on-trial n o h taken taken' faults faults' status line =
     reports-widen (Tells h) (Outputs (Some (Trial n)) o) taken taken' faults faults' status
     (tells-widen (TriesNodes n) (Outputs (Some (Trial n)) o) h line (λ text s t. tries n refl t) (λ text s says. nothing says))
+
+-- the answers are extended
+pub goes-on-extend : (program answers domain : List ℕ) (told : List ℕ → Option (List ℕ)) (first after : List ℕ → ℕ)
+    (taken taken' : Option (List ℕ)) (faults faults' : ℕ) (status : Status)
+    → Reports (Extends (outside told first after) program answers domain) taken taken' faults faults' status
+    → Reports (Outputs (Some (Extend program answers domain)) (outside told first after)) taken taken' faults faults' status
+goes-on-extend program answers domain told first after taken taken' faults faults' status =
+    reports-widen (Extends (outside told first after) program answers domain) (Outputs (Some (Extend program answers domain)) (outside told first after))
+    taken taken' faults faults' status (λ text s e. extends program answers domain refl e)
+
+-- the answers are checked under one program after another
+pub goes-on-recheck : (answers : List ℕ) (files : List (List ℕ)) (told : List ℕ → Option (List ℕ)) (first after : List ℕ → ℕ)
+    (taken taken' : Option (List ℕ)) (faults faults' : ℕ) (status : Status)
+    → Reports (Rechecks (outside told first after) answers files) taken taken' faults faults' status
+    → Reports (Outputs (Some (Recheck answers files)) (outside told first after)) taken taken' faults faults' status
+goes-on-recheck answers files told first after taken taken' faults faults' status =
+    reports-widen (Rechecks (outside told first after) answers files) (Outputs (Some (Recheck answers files)) (outside told first after)) taken taken' faults faults' status
+    (λ text s r. rechecks answers files refl r)

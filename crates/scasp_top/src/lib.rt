@@ -2,7 +2,9 @@
 #![tactic(auto)]
 
 mod check_command;
+mod extend_command;
 mod laws;
+mod recheck_command;
 mod run_command;
 mod top;
 mod trial_command;

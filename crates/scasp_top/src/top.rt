@@ -9,6 +9,8 @@ ghost use Rattle.scasp_top.specs.Outputs.{HasReadFault, Outputs};
 ghost use Rattle.scasp_command_inputs.specs.Reports.{Reports};
 
 use crate::check_command::check_files;
+use crate::extend_command::extend_answers;
+use crate::recheck_command::recheck_programs;
 use crate::run_command::run_file;
 use crate::trial_command::try_nodes;
 use scasp_command_inputs::{Status, print};
@@ -17,7 +19,7 @@ use scasp_io::{Files, Sink, SureFiles, SureSink};
 use std::alloc::Global;
 
 const USAGE_LINE: &[u8] =
-    b"usage: scasp run FILE [--budget N] [--answers N] | check PROGRAM ANSWERS | trial N\n";
+    b"usage: scasp run FILE [--budget N] [--answers N] | check PROGRAM ANSWERS | trial N | extend PROGRAM ANSWERS DOMAIN | recheck ANSWERS FILE FILE [FILE]..\n";
 
 /// The whole command: reads the files that the words name, prints, and says how it ended.
 pub fn scasp<F: Files, K: Sink>(
@@ -47,6 +49,26 @@ pub fn scasp<F: Files, K: Sink>(
             check_files(alloc, program.as_str(), answers.as_str(), files, out)
         }
         Ok(Command::Trial { n }) => try_nodes(alloc, n, out),
+        Ok(
+            Command::Extend {
+                program,
+                answers,
+                domain,
+            },
+        ) => extend_answers(
+            alloc,
+            program.as_str(),
+            answers.as_str(),
+            domain.as_str(),
+            files,
+            out,
+        ),
+        Ok(
+            Command::Recheck {
+                answers,
+                files: programs,
+            },
+        ) => recheck_programs(alloc, answers.as_str(), programs.as_slice(), files, out),
         Err(WordErr::Usage) => print(USAGE_LINE, Status::Usage, out),
         Err(WordErr::Memory) => Status::Memory,
     }

@@ -2,8 +2,6 @@
 #![tactic(auto)]
 
 mod change;
-#[cfg(test)]
-mod tests;
 mod trailed;
 
 pub use trailed::Trailed;

@@ -1,8 +1,6 @@
 //! The variables of a state, whose changes can be undone.
 #![tactic(auto)]
 
-#[cfg(test)]
-mod tests;
 mod variables;
 
 pub use variables::Variables;

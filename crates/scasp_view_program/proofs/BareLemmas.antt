@@ -1,14 +1,20 @@
 -- What the lines are without their numbers.
 use Rattle.std.proofs.Common.{◌≡◌, ◌<◌, ◌≤◌, ℕ, zero, suc, ◌+◌, ◌-◌, Bool, true, false, if◌then◌else◌, List, [], ◌∷◌, ◌++◌, length, take, drop, flat_map, refl, sym, ◌∙◌, ap, ap₂, arith, length-take-le, le-ltb, lt-ltb, sub-le, zero-add}
 use Rattle.std.proofs.Math.Seq.{take-length, take-nil}
+use Rattle.scasp_syntax.specs.declared.atom.Pred.{Pred}
 use Rattle.scasp_syntax.specs.declared.clause.Clause.{Clause}
 use Rattle.scasp_syntax.specs.declared.clause.Query.{Query}
 use Rattle.scasp_reader.specs.Programs.Programs.{program_in}
+use Rattle.scasp_print_program.specs.Abducibles.{abducible_text}
 use Rattle.scasp_print_program.specs.Programs.{are_denials, clause_text, negated_predicates, program_text, query_text, written}
-use Rattle.scasp_view_program.specs.Lines.{clause_lines, query_lines}
+use Rattle.scasp_view_program.specs.Lines.{abducible_lines, clause_lines, query_lines}
 use Rattle.scasp_view_program.specs.Meaning.{bare_line, bare_text}
 
 module _ (names : List (List ℕ)) where
+  bare-abducibles : (ps : List Pred) → flat_map bare_line (abducible_lines names ps) ≡ flat_map (abducible_text names) ps
+  bare-abducibles [] = refl
+  bare-abducibles (p ∷ ps) = ap (λ (z : List ℕ). abducible_text names p ++ z) (bare-abducibles ps)
+
   -- behind the written clauses nothing is left
   bare-generated : (count n : ℕ) (cs : List Clause) → count < n → flat_map bare_line (clause_lines names count n cs) ≡ []
   bare-generated count n [] h = refl
@@ -37,14 +43,14 @@ written-first clauses queries =
     let n = length clauses - length ps in
     first-of n clauses (sub-le (length clauses) (length ps)) (are_denials ps (drop n clauses))
 
-pub numbers-added : (names : List (List ℕ)) (clauses : List Clause) (queries : List Query) → bare_text names clauses queries ≡ program_text names clauses queries
+pub numbers-added : (names : List (List ℕ)) (abducibles : List Pred) (clauses : List Clause) (queries : List Query) → bare_text names abducibles clauses queries ≡ program_text names abducibles clauses queries
 unfolding program_text
-numbers-added names clauses queries =
+numbers-added names abducibles clauses queries =
     let count = length (written clauses queries) in
     ap₂ (λ (x y : List ℕ). x ++ y)
-    (bare-written names count count 0 clauses (sym (zero-add count)) ∙ ap (flat_map (clause_text names)) (written-first clauses queries))
+    (ap₂ (λ (x y : List ℕ). x ++ y) (bare-abducibles names abducibles) (bare-written names count count 0 clauses (sym (zero-add count)) ∙ ap (flat_map (clause_text names)) (written-first clauses queries)))
     (bare-queries names 1 queries)
 
-pub read-as : (names table : List (List ℕ)) (clauses : List Clause) (queries : List Query)
-    → program_in table (bare_text names clauses queries) ≡ program_in table (program_text names clauses queries)
-read-as names table clauses queries = ap (program_in table) (numbers-added names clauses queries)
+pub read-as : (names table : List (List ℕ)) (abducibles : List Pred) (clauses : List Clause) (queries : List Query)
+    → program_in table (bare_text names abducibles clauses queries) ≡ program_in table (program_text names abducibles clauses queries)
+read-as names table abducibles clauses queries = ap (program_in table) (numbers-added names abducibles clauses queries)

@@ -4,10 +4,12 @@ use Rattle.std.proofs.Common.{refl, lit<}
 use Rattle.std.proofs.lemmas.Fmt.{decimal_digit}
 use Rattle.scasp_syntax.specs.Denials.{denial_of}
 use Rattle.scasp_syntax.specs.Tm.{var, nil, cons}
+use Rattle.scasp_syntax.specs.declared.atom.Pred.{Pred}
 use Rattle.scasp_syntax.specs.declared.clause.Clause.{Clause}
 use Rattle.scasp_syntax.specs.declared.clause.Query.{Query}
 use Rattle.scasp_reader.specs.Bodies.Atoms.{atom_of}
 use Rattle.scasp_reader.specs.Bodies.Items.{call_of}
+use Rattle.scasp_print_program.specs.Abducibles.{abducible_text}
 use Rattle.scasp_print_program.specs.Programs.{clause_text, query_text}
 use Rattle.scasp_print_program.specs.Terms.{atom_text, lit_text}
 use Rattle.scasp_view_program.specs.Lines.{numbered_text}
@@ -29,15 +31,18 @@ rule = record { head = Some (atom_of true 2 (cons (var 0) nil)); body = call_of 
 abbrev denial : Clause
 denial = denial_of (record { minus = true; name = 2; arity = 1 })
 
+abbrev assumed : Pred
+assumed = record { minus = false; name = 3; arity = 1 }
+
 abbrev query : Query
 query = record { body = call_of true (atom_of true 2 (cons (var 0) nil)) ∷ []; names = Some 4 ∷ [] }
 
-numbered : numbered_text (codes "[]" ∷ codes "[|]" ∷ codes "p" ∷ codes "q" ∷ codes "X" ∷ []) (rule ∷ denial ∷ []) (query ∷ [])
-    ≡ codes "1\t-p(V0) :- not q(V0).\n2 generated\t:- p(V0), -p(V0).\nquery 1\t?- -p(X).\n"
-unfolding clause_text query_text atom_text lit_text
+numbered : numbered_text (codes "[]" ∷ codes "[|]" ∷ codes "p" ∷ codes "q" ∷ codes "X" ∷ []) (assumed ∷ []) (rule ∷ denial ∷ []) (query ∷ [])
+    ≡ codes "\t#abducible q(V0).\n1\t-p(V0) :- not q(V0).\n2 generated\t:- p(V0), -p(V0).\nquery 1\t?- -p(X).\n"
+unfolding abducible_text clause_text query_text atom_text lit_text
 numbered = simp (d0, d1, d2) refl
 
-bare : bare_text (codes "[]" ∷ codes "[|]" ∷ codes "p" ∷ codes "q" ∷ codes "X" ∷ []) (rule ∷ denial ∷ []) (query ∷ [])
-    ≡ codes "-p(V0) :- not q(V0).\n?- -p(X).\n"
-unfolding clause_text query_text atom_text lit_text
+bare : bare_text (codes "[]" ∷ codes "[|]" ∷ codes "p" ∷ codes "q" ∷ codes "X" ∷ []) (assumed ∷ []) (rule ∷ denial ∷ []) (query ∷ [])
+    ≡ codes "#abducible q(V0).\n-p(V0) :- not q(V0).\n?- -p(X).\n"
+unfolding abducible_text clause_text query_text atom_text lit_text
 bare = simp (d0) refl

@@ -5,10 +5,21 @@ ghost use Rattle.scasp_view_program.specs.Lines as spec;
 
 use scasp_list::Memory;
 use scasp_name::Names;
-use scasp_print_program::{put_clause, put_query, written_count};
+use scasp_print_program::{put_abducible, put_clause, put_query, written_count};
 use scasp_print_words::{put, put_number};
-use scasp_syntax::{Clause, Program, Query};
+use scasp_syntax::{Clause, Pred, Program, Query};
 use std::alloc::Global;
+
+/// Puts the predicates that may be assumed at the end, each behind a tab, without a number.
+fn put_abducibles(out: &mut Vec<u8>, names: &Names, preds: &[Pred]) -> Result<(), Memory>
+    ensures { OnOk result (out.new.items ≡ out.old.items ++ spec.text_of (spec.abducible_lines names.now preds.now)) }
+{
+    for pred in preds {
+        put(out, "\t")?;
+        put_abducible(out, names, *pred)?;
+    }
+    Ok(())
+}
 
 /// What stands between the number of a clause and the clause.
 fn mark(is_generated: bool) -> &'static str
@@ -87,17 +98,18 @@ fn count_written(alloc: Global, program: &Program) -> Result<usize, Memory>
     written_count(alloc, program)
 }
 
-/// The text of a program with the number of each clause in front, as trees name it; a generated denial is marked as such. Behind
-/// the clauses stand the queries with their own numbers.
+/// The text of a program with the number of each clause in front, as trees name it; a generated denial is marked as such. Before
+/// the clauses stand the predicates that may be assumed, without a number, and behind them the queries with their own numbers.
 ///
 /// # Errors
 ///
 /// Want of memory.
 pub fn print_numbered(alloc: Global, program: &Program, names: &Names) -> Result<Vec<u8>, Memory>
-    ensures { IfOk result (λ text. text.items ≡ spec.numbered_text names.now program.now.clauses program.now.queries) }
+    ensures { IfOk result (λ text. text.items ≡ spec.numbered_text names.now program.now.abducibles program.now.clauses program.now.queries) }
 {
     let written = count_written(alloc, program)? as u64;
     let mut text = Vec::new(alloc);
+    put_abducibles(&mut text, names, program.abducibles.as_slice())?;
     put_clauses(&mut text, alloc, names, written, program.clauses.as_slice())?;
     put_queries(&mut text, alloc, names, program.queries.as_slice())?;
     Ok(text)

@@ -3,19 +3,21 @@ use Rattle.std.proofs.Common.{◌≡◌, ◌⊎◌, inl, inr, ℕ, Bool, true, f
 use Rattle.scasp_command_inputs.proofs.InputLemmas.{line-widen}
 use Rattle.scasp_command_inputs.proofs.ReportLemmas.{reports-widen, tells-widen}
 use Rattle.scasp_command_inputs.specs.Halts.{IfLine, Tells as TellsHalt}
-use Rattle.scasp_command_inputs.specs.Inputs.{Outside, Says, unread as unread_program, refused, without_faults}
+use Rattle.scasp_command_inputs.specs.Inputs.{Outside, Says, unread as unread_program, refused, refused_answers, unread_answers, without_faults}
 use Rattle.scasp_command_inputs.specs.Reports.{Reports, whole, part}
-use Rattle.scasp_command_inputs.specs.Texts.{Refusal, program_refusal, refusal_status}
+use Rattle.scasp_command_inputs.specs.Texts.{Refusal, answers_refusal, program_refusal, refusal_status}
 use Rattle.scasp_command_inputs.specs.declared.halt.Halt.{Halt}
 use Rattle.scasp_command_inputs.specs.declared.status.Status.{Status}
 use Rattle.scasp_command_inputs.specs.declared.status.Status.TheVariants as status
 use Rattle.scasp_io.specs.Counts.{Rose}
 use Rattle.scasp_io.specs.Taken.{TakesWhole}
+use Rattle.scasp_view_answers.specs.Answers.{accepted_all}
+use Rattle.scasp_view_top.specs.Answers.{blocks, no_answers, status_of, under_none}
 use Rattle.scasp_view_top.specs.Outputs.{HasFault, HasReadFault, Outputs, Tells, nothing, shown, usage, usage_line}
 use Rattle.scasp_view_top.specs.Places.{past, place as at_place, read, too_long, unread}
 use Rattle.scasp_view_top.specs.Programs.{no_program, program}
 use Rattle.scasp_view_words.specs.declared.asked.Asked.{Asked}
-use Rattle.scasp_view_words.specs.declared.asked.Asked.TheVariants.{Place, Program}
+use Rattle.scasp_view_words.specs.declared.asked.Asked.TheVariants.{Answers, Place, Program}
 
 -- ---- lines that are shown
 
@@ -41,10 +43,16 @@ is_fault status.Overflow = false
 is_fault status.Memory = false
 is_fault status.Refused = false
 is_fault status.Limit = false
+is_fault status.NoModel = false
 
 refusal-calm : (r : Refusal) → is_fault (refusal_status r) ≡ false
 unfolding is_fault
 refusal-calm r = elim (r.limit) as (λ b. is_fault (refusal_status (record { limit = b; word = r.word })) ≡ false) [ true ↦ refl | false ↦ refl ]
+
+status-calm : (b : Bool) → is_fault (status_of b) ≡ false
+unfolding is_fault
+status-calm true = refl
+status-calm false = refl
 
 -- The status of no fault, and the same may be told where no read can fail; or that of a failed read.
 Cause : Asked → Outside → List ℕ → Status → Type 0
@@ -64,6 +72,15 @@ cause-of (Program file) o text s (no_program (unread_program rose says)) = inr (
 cause-of (Program file) o text s (no_program (refused bytes are r)) =
     calm (Program file) o text s _ (r.says).ending_is (refusal-calm (program_refusal (r.fault).kind)) (no_program (refused bytes are r))
 cause-of (Program file) o text s (program p names is says) = calm (Program file) o text s _ says.ending_is refl (program p names is says)
+cause-of (Answers file answers options) o text s (under_none (unread_program rose says)) = inr (says.ending_is, inl rose)
+cause-of (Answers file answers options) o text s (under_none (refused bytes are r)) =
+    calm (Answers file answers options) o text s _ (r.says).ending_is (refusal-calm (program_refusal (r.fault).kind)) (under_none (refused bytes are r))
+cause-of (Answers file answers options) o text s (no_answers p names is (unread_answers rose says)) = inr (says.ending_is, inr rose)
+cause-of (Answers file answers options) o text s (no_answers p names is (refused_answers bytes are r)) =
+    calm (Answers file answers options) o text s _ (r.says).ending_is (refusal-calm (answers_refusal (r.fault).kind))
+    (no_answers p names is (refused_answers bytes are r))
+cause-of (Answers file answers options) o text s (blocks p names entries table is has b) =
+    calm (Answers file answers options) o text s _ (b.shows).ending_is (status-calm (accepted_all p table options entries)) (blocks p names entries table is has b)
 
 fault-of : (asked : Option Asked) (o : Outside) (a : Asked) → asked ≡ Some a → HasFault a o → HasReadFault asked o
 fault-of asked o a is h = let P : Option Asked → Type 0 = λ x. HasReadFault x o in subst P (sym is) h

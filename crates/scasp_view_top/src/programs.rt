@@ -5,7 +5,7 @@ ghost use Rattle.scasp_command_inputs.specs.declared.status.Status.TheVariants.{
 ghost use Rattle.scasp_view_program.specs.Lines.{numbered_text};
 ghost use Rattle.scasp_view_top.specs.Programs.{TellsProgram};
 
-use scasp_command_inputs::{Halt, Status, program_in_file};
+use scasp_command_inputs::{Halt, Status, written_in_file};
 use scasp_io::Files;
 use scasp_list::Memory;
 use scasp_name::Names;
@@ -15,7 +15,7 @@ use std::alloc::Global;
 
 /// The program with its numbers.
 fn numbered(alloc: Global, program: &Program, names: &Names) -> Halt
-    ensures { IfLine result (Says (numbered_text names.now program.now.clauses program.now.queries) Done) }
+    ensures { IfLine result (Says (numbered_text names.now program.now.abducibles program.now.clauses program.now.queries) Done) }
 {
     match print_numbered(alloc, program, names) {
         Ok(text) => Halt::Line(text, Status::Done),
@@ -23,11 +23,11 @@ fn numbered(alloc: Global, program: &Program, names: &Names) -> Halt
     }
 }
 
-/// The program in a file with its numbers; or the line that tells why there is none.
+/// The program in a file as it is written, with its numbers; or the line that tells why there is none.
 pub(crate) fn program_shown<F: Files>(alloc: Global, file: &str, files: &mut F) -> Halt
     ensures { IfLine result (TellsProgram (outside (F.told files.old) (F.faults files.old) (F.faults files.new)) file.now) }
 {
-    match program_in_file(alloc, file, files) {
+    match written_in_file(alloc, file, files) {
         Ok((program, names)) => numbered(alloc, &program, &names),
         Err(halt) => halt,
     }

@@ -8,6 +8,7 @@ ghost use Rattle.scasp_io.specs.Taken.{TakesWhole};
 ghost use Rattle.scasp_view_top.specs.Outputs.{HasReadFault, Outputs};
 ghost use Rattle.scasp_view_words.specs.Asked.{asked_of};
 
+use crate::answers::answers_shown;
 use crate::places::place_shown;
 use crate::programs::program_shown;
 use scasp_command_inputs::{Halt, Status, line, tell};
@@ -16,7 +17,8 @@ use scasp_io::{Files, Sink};
 use scasp_view_words::{Asked, parse_words};
 use std::alloc::Global;
 
-const USAGE_LINE: &[u8] = b"usage: scasp_view PROGRAM | at FILE BYTE\n";
+const USAGE_LINE: &[u8] =
+    b"usage: scasp_view PROGRAM | PROGRAM ANSWERS [--checks] [--once] [--query Q] [--plain] | at FILE BYTE\n";
 
 /// What the words ask to be shown, or the line that tells how they are written.
 fn shown_for<F: Files>(alloc: Global, words: &Vec<String>, files: &mut F) -> Halt
@@ -25,6 +27,13 @@ fn shown_for<F: Files>(alloc: Global, words: &Vec<String>, files: &mut F) -> Hal
     match parse_words(alloc, words) {
         Ok(Asked::Place(place)) => place_shown(alloc, &place, files),
         Ok(Asked::Program { file }) => program_shown(alloc, file.as_str(), files),
+        Ok(
+            Asked::Answers {
+                program,
+                answers,
+                options,
+            },
+        ) => { answers_shown(alloc, program.as_str(), answers.as_str(), options, files) }
         Err(WordErr::Usage) => line(alloc, USAGE_LINE, Status::Usage),
         Err(WordErr::Memory) => Halt::Memory,
     }

@@ -1,3 +1,4 @@
 pub mod Places
+pub mod Options
 pub mod Asked
 pub mod Examples

@@ -2,7 +2,9 @@
 #![tactic(auto)]
 
 mod asked;
+mod options;
 mod place;
 
 pub use asked::{Asked, parse_words};
+pub use options::Options;
 pub use place::Place;

@@ -30,7 +30,9 @@ abbrev program : Program
 program = record {
   clauses = rule 1 (p (var 0)) (Call (is_not (q (var 0))) ∷ []) ∷ rule 0 (q a) [] ∷ [];
   queries = record { body = Call (is_true (p (var 0))) ∷ []; names = None ∷ [] } ∷ [];
+  abducibles = [];
   well_formed = refl;
+  choices = refl;
 }
 
 abbrev certificate : Certificate

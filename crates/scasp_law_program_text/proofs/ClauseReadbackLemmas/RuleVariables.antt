@@ -1,5 +1,5 @@
 -- The variables of a rule have texts of their own.
-use Rattle.std.proofs.Common.{◌≡◌, ℕ, zero, suc, ◌+◌, ◌<◌, ◌≤◌, ◌^◌, Bool, true, false, not, ◌&&◌, ◌||◌, List, length, decimal, refl, sym, ap, ◌∙◌, arith, lit<}
+use Rattle.std.proofs.Common.{◌≡◌, ℕ, zero, suc, ◌+◌, ◌<◌, ◌≤◌, ◌^◌, Bool, true, false, not, ◌&&◌, ◌||◌, List, length, decimal, slice_get, Some, refl, sym, ap, ◌∙◌, arith, lit<}
 use Rattle.std.specs.Str.{bytes_eq}
 use Rattle.std.proofs.lemmas.Bool.{and_from}
 use Rattle.std.proofs.lemmas.Slice.Eq.{bytes_eq-Decides}
@@ -16,6 +16,12 @@ use Rattle.scasp_law_program_text.specs.ClauseReadback.Parts.{rule_style}
 pub length-rule : (x n : ℕ) → length (rule_variables x n) ≡ n
 length-rule x zero = refl
 length-rule x (suc n) = ap suc (length-rule (x + 1) n)
+
+-- the text of each
+pub rule-at : (y n x : ℕ) → x < n → slice_get (rule_variables y n) x ≡ Some (var_text (y + x))
+rule-at y zero x h = absurd (omega (arith, h))
+rule-at y (suc n) zero h = let e : y ≡ y + 0 = omega arith in ap (λ z. Some (var_text z)) e
+rule-at y (suc n) (suc x) h = let e : y + 1 + x ≡ y + suc x = omega arith in rule-at (y + 1) n x (omega (arith, h)) ∙ ap (λ z. Some (var_text z)) e
 
 same-digits : (x y : ℕ) → x < 10 ^ 64 → y < 10 ^ 64 → decimal x ≡ decimal y → x ≡ y
 same-digits x y hx hy e = sym (spells x hx).1 ∙ ap (digits_value 0) e ∙ (spells y hy).1

@@ -19,26 +19,22 @@ use Rattle.scasp_print_program.specs.Programs.{rule_variables}
 use Rattle.scasp_law_program_text.specs.CompoundReadback.Styles.{is_anonymous}
 use Rattle.scasp_law_program_text.specs.ClauseReadback.Counting.{count_body}
 use Rattle.scasp_law_program_text.specs.ClauseReadback.Fitting.{atom_fits, body_fits}
-use Rattle.scasp_law_program_text.specs.ClauseReadback.Parts.{is_count, rule_style, parts_fit, count_head, count_parts, clause_fits, query_fits}
-use Rattle.scasp_law_program_text.proofs.ClauseReadbackLemmas.RuleVariables.{length-rule}
+use Rattle.scasp_law_program_text.specs.ClauseReadback.Parts.{is_count, rule_style, parts_fit, count_head, count_parts, clause_fits, query_fits, abducible_fits}
+use Rattle.scasp_law_program_text.proofs.ClauseReadbackLemmas.RuleVariables.{length-rule, rule-at}
 use Rattle.scasp_law_program_text.specs.TermFitting.Readers.{known, IsReader, Keeps, Covers}
 use Rattle.scasp_law_program_text.proofs.TermFittingLemmas.Steps.{Follows, covers_before, reader_behind, Post, Post_give, Post_then, Post_taken, Post_expect}
 use Rattle.scasp_law_program_text.proofs.FittingLemmas.Atoms.{IsAtom, atom_holds}
 use Rattle.scasp_law_program_text.proofs.FittingLemmas.Bodies.{IsBody, body_holds}
 
--- a clause or a query fits with every table that keeps the names that are then known
+-- a clause, of any kind, fits with every table that keeps the names that are then known
 abbrev pub IsPart : Part → Style → Type 0
 IsPart (part.Clause c) k = (names : List (List ℕ)) → Keeps k.names names → clause_fits names c ≡ true
 IsPart (part.Query q) k = (names : List (List ℕ)) → Keeps k.names names → query_fits names q ≡ true
+IsPart (part.Abducible a) k = (names : List (List ℕ)) → Keeps k.names names → abducible_fits names a ≡ true
 IsPart part.Directive k = Unit {0}
 IsPart part.End k = Unit {0}
 
 -- ---- the variables of a rule
-
-rule-at : (y n x : ℕ) → x < n → slice_get (rule_variables y n) x ≡ Some (var_text (y + x))
-rule-at y zero x h = absurd (omega (arith, h))
-rule-at y (suc n) zero h = let e : y ≡ y + 0 = omega arith in ap (λ z. Some (var_text z)) e
-rule-at y (suc n) (suc x) h = let e : y + 1 + x ≡ y + suc x = omega arith in rule-at (y + 1) n x (omega (arith, h)) ∙ ap (λ z. Some (var_text z)) e
 
 named-text : (x : ℕ) → is_anonymous (var_text x) ≡ false
 named-text x = refl

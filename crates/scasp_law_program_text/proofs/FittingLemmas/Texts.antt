@@ -6,6 +6,8 @@ use Rattle.std.proofs.lemmas.Bool.{and_from}
 use Rattle.std.proofs.lemmas.Bool.Decides.{nat_tests}
 use Rattle.std.proofs.lemmas.List.Folds.{list_all-append}
 use Rattle.scasp_syntax.specs.Denials.{with_denials}
+use Rattle.scasp_syntax.specs.Programs.{first_occurrences}
+use Rattle.scasp_syntax.specs.WellFormed.{are_abducible}
 use Rattle.scasp_reader_tokens.specs.declared.sign.Sign.{Sign}
 use Rattle.scasp_reader_tokens.specs.declared.sign.Sign.TheVariants as sign
 use Rattle.scasp_reader_tokens.specs.declared.token.Token.{Token}
@@ -22,17 +24,19 @@ use Rattle.scasp_reader.specs.declared.texts.texts.Parts.{Parts}
 use Rattle.scasp_reader.specs.declared.texts.texts.Reading.{Reading}
 use Rattle.scasp_reader.specs.declared.texts.texts.TheConstants.{BYTE_LIMIT, CLAUSE_LIMIT}
 use Rattle.scasp_reader.specs.Texts.Clauses.{clause_at_sign, clause_at, without_variables, clause}
-use Rattle.scasp_reader.specs.Texts.Texts.{part_at, next_part, no_parts, part_count, with_part, is_end, parts_within, parts, settled, told, reading_of, read}
+use Rattle.scasp_reader.specs.Texts.Texts.{part_at, next_part, no_parts, part_count, with_part, is_end, parts_within, parts, read_parts, settled, told, reading_of, read}
 use Rattle.scasp_reader.specs.Programs.Programs.{completed, program_in}
+use Rattle.scasp_reader.proofs.ProgramsLemmas.ClauseKeeping.{read-abducible}
 use Rattle.scasp_print_program.specs.Terms.{Style}
 use Rattle.scasp_print_program.specs.Programs.{program_text}
 use Rattle.scasp_law_program_text.specs.CompoundReadback.Styles.{IsTable}
-use Rattle.scasp_law_program_text.specs.ClauseReadback.Parts.{clause_fits, query_fits}
+use Rattle.scasp_law_program_text.specs.ClauseReadback.Parts.{abducible_fits, clause_fits, query_fits}
 use Rattle.scasp_law_program_text.specs.ClauseReadback.Texts.{text_fits}
 use Rattle.scasp_law_program_text.proofs.ClauseReadbackLemmas.Texts.{program-read}
 use Rattle.scasp_law_program_text.specs.TermFitting.Readers.{known, IsReader, Keeps}
 use Rattle.scasp_law_program_text.proofs.TermFittingLemmas.Tokens.{reader-starts}
 use Rattle.scasp_law_program_text.proofs.TermFittingLemmas.Steps.{Follows, follows_behind, reader_behind, Post, Post_ok, Post_err, Post_from, Post_map}
+use Rattle.scasp_law_program_text.proofs.FittingLemmas.Abducibles.{abducible_holds, first-all, first-fewer}
 use Rattle.scasp_law_program_text.proofs.FittingLemmas.Clauses.{IsPart, with_body_holds, headed_holds}
 use Rattle.scasp_law_program_text.proofs.FittingLemmas.Queries.{query_holds}
 
@@ -60,12 +64,14 @@ clause_holds s r = by (token_of s.tokens)
     by : (o : Option Token) → Post IsPart (without_variables s) (clause_at o (without_variables s))
     by (Some (token.Name text)) = headed_holds (without_variables s) (reader_without s r) refl
     by (Some (token.Sign g)) = sign_by g
+    by (Some token.Abducible) = abducible_holds (without_variables s) (reader_without s r)
     by o = Post_err IsPart (without_variables s) _
 
 -- a part that is counted stands behind fewer than there may be
 abbrev IsCounted : ℕ → Part → Type 0
 IsCounted n (part.Clause c) = n < CLAUSE_LIMIT
 IsCounted n (part.Query q) = n < CLAUSE_LIMIT
+IsCounted n (part.Abducible a) = n < CLAUSE_LIMIT
 IsCounted n part.Directive = Unit {0}
 IsCounted n part.End = Unit {0}
 
@@ -75,6 +81,7 @@ IsNextPart n p k = IsPart p k × IsCounted n p
 counted-part : (n : ℕ) (p : Part) → n < CLAUSE_LIMIT → IsCounted n p
 counted-part n (part.Clause c) h = h
 counted-part n (part.Query q) h = h
+counted-part n (part.Abducible a) h = h
 counted-part n part.Directive h = tt
 counted-part n part.End h = tt
 
@@ -110,6 +117,7 @@ next_part_holds n s r = by (place_of s.tokens) (token_of s.tokens)
 record AreParts (p : Parts) (k : Style) : Type 0 where
   clauses : (names : List (List ℕ)) → Keeps k.names names → list_all (clause_fits names) p.clauses ≡ true
   queries : (names : List (List ℕ)) → Keeps k.names names → list_all (query_fits names) p.queries ≡ true
+  abducibles : (names : List (List ℕ)) → Keeps k.names names → list_all (abducible_fits names) p.abducibles ≡ true
   few : part_count p ≤ CLAUSE_LIMIT
 
 all-push : {A : Type 0} (f : A → Bool) (xs : List A) (x : A) → list_all f xs ≡ true → f x ≡ true → list_all f (xs ++ x ∷ []) ≡ true
@@ -119,6 +127,7 @@ parts-later : (p : Parts) (k j : Style) → Keeps k.names j.names → AreParts p
 parts-later p k j keeps h = record {
   clauses = λ names g. h.clauses names (λ i text e. g i text (keeps i text e));
   queries = λ names g. h.queries names (λ i text e. g i text (keeps i text e));
+  abducibles = λ names g. h.abducibles names (λ i text e. g i text (keeps i text e));
   few = h.few;
 }
 
@@ -126,12 +135,20 @@ part-more : (p : Parts) (q : Part) (k : Style) → AreParts p k → IsNextPart (
 part-more p (part.Clause c) k h g = record {
   clauses = λ names keeps. all-push (clause_fits names) p.clauses c (h.clauses names keeps) (g.0 names keeps);
   queries = h.queries;
+  abducibles = h.abducibles;
   few = (let less = g.1 in omega (arith, less, length-append p.clauses (c ∷ [])));
 }
 part-more p (part.Query q) k h g = record {
   clauses = h.clauses;
   queries = λ names keeps. all-push (query_fits names) p.queries q (h.queries names keeps) (g.0 names keeps);
+  abducibles = h.abducibles;
   few = (let less = g.1 in omega (arith, less, length-append p.queries (q ∷ [])));
+}
+part-more p (part.Abducible a) k h g = record {
+  clauses = h.clauses;
+  queries = h.queries;
+  abducibles = λ names keeps. all-push (abducible_fits names) p.abducibles a (h.abducibles names keeps) (g.0 names keeps);
+  few = (let less = g.1 in omega (arith, less, length-append p.abducibles (a ∷ [])));
 }
 part-more p part.Directive k h g = h
 part-more p part.End k h g = h
@@ -158,32 +175,47 @@ parts_within_holds (suc n) p s r h =
 parts_hold : (s : State) → IsReader s → Post AreParts (without_variables s) (parts s)
 unfolding parts
 parts_hold s r =
-    parts_within_holds (length s.tokens) no_parts s r (λ fine. record { clauses = λ names keeps. refl; queries = λ names keeps. refl; few = omega arith })
+    parts_within_holds (length s.tokens) no_parts s r (λ fine. record { clauses = λ names keeps. refl; queries = λ names keeps. refl; abducibles = λ names keeps. refl; few = omega arith })
 
 -- ---- texts
 
--- the table is one, and the clauses and queries fit with it
+-- the table is one, and the clauses of all kinds fit with it
 abbrev Fits : Reading → Type 0
-Fits r = IsTable r.names × (text_fits r.names r.clauses r.queries ≡ true)
+Fits r = IsTable r.names × (text_fits r.names r.abducibles r.clauses r.queries ≡ true)
 
-text-fits : (p : Parts) (t : State) → AreParts p (known t) → text_fits t.names p.clauses p.queries ≡ true
-text-fits p t h =
+text-fits : (p : Parts) (t : State) → are_abducible (first_occurrences p.abducibles) ≡ true → AreParts p (known t) → text_fits t.names (first_occurrences p.abducibles) p.clauses p.queries ≡ true
+text-fits p t a h =
+    let ps = first_occurrences p.abducibles in
+    let each = list_all (abducible_fits t.names) ps in
     let cs = list_all (clause_fits t.names) p.clauses in
     let qs = list_all (query_fits t.names) p.queries in
-    let few = nat_le (length p.clauses + length p.queries) CLAUSE_LIMIT in
-    and_from (cs && qs) few (and_from cs qs (h.clauses t.names (λ i text e. e)) (h.queries t.names (λ i text e. e))) (small (length p.clauses + length p.queries) h.few)
+    let number = length p.clauses + length p.queries + length ps in
+    let fewer = first-fewer p.abducibles in
+    let few = h.few in
+    and_from (are_abducible ps && each && cs && qs) (nat_le number CLAUSE_LIMIT)
+    (and_from (are_abducible ps && each && cs) qs
+    (and_from (are_abducible ps && each) cs
+    (and_from (are_abducible ps) each a (first-all (abducible_fits t.names) p.abducibles (h.abducibles t.names (λ i text e. e))))
+    (h.clauses t.names (λ i text e. e)))
+    (h.queries t.names (λ i text e. e)))
+    (small number (omega (arith, few, fewer)))
   where
     small : (n : ℕ) → n ≤ CLAUSE_LIMIT → nat_le n CLAUSE_LIMIT ≡ true
     small n le = grind (arith, nat_tests, le)
 
-pub read-fits : (names : List (List ℕ)) (bytes : List ℕ) (r : Reading) → read names bytes ≡ Ok r → IsTable names → IsTable r.names × (text_fits r.names r.clauses r.queries ≡ true)
+pub read-fits : (names : List (List ℕ)) (bytes : List ℕ) (r : Reading) → read names bytes ≡ Ok r → IsTable names → IsTable r.names × (text_fits r.names r.abducibles r.clauses r.queries ≡ true)
 unfolding read
 read-fits names bytes r e table = by (nat_lt BYTE_LIMIT (length bytes)) e
   where
+    distinct : are_abducible r.abducibles ≡ true
+    distinct = read-abducible names bytes r e
+
     last : (p : Parts) (t : State) (o : Option Fault) → IsReader t → (o ≡ None → AreParts p (known t)) → settled p t o ≡ Ok r → Fits r
     last p t None rt h e =
-        let q : record { clauses = p.clauses; queries = p.queries; names = t.names } ≡ r = cc in
-        subst Fits q (rt.style.table, text-fits p t (h refl))
+        let q : read_parts p t.names ≡ r = cc in
+        let a = subst (λ (w : Reading). are_abducible w.abducibles ≡ true) (sym q) distinct in
+        let fits : Fits (read_parts p t.names) = (rt.style.table, text-fits p t a (h refl)) in
+        subst Fits q fits
     last p t (Some f) rt h e = cc
 
     step : (s : State) (x : Result (Parts × State) Fault) → Post AreParts (without_variables s) x → told x ≡ Ok r → Fits r
@@ -196,16 +228,16 @@ read-fits names bytes r e table = by (nat_lt BYTE_LIMIT (length bytes)) e
 
 -- ---- programs
 
-pub program-read-again : (names : List (List ℕ)) (bytes : List ℕ) (r : Reading) → program_in names bytes ≡ Ok r → IsTable names → length (program_text r.names r.clauses r.queries) ≤ BYTE_LIMIT
-    → program_in r.names (program_text r.names r.clauses r.queries) ≡ Ok r
+pub program-read-again : (names : List (List ℕ)) (bytes : List ℕ) (r : Reading) → program_in names bytes ≡ Ok r → IsTable names → length (program_text r.names r.abducibles r.clauses r.queries) ≤ BYTE_LIMIT
+    → program_in r.names (program_text r.names r.abducibles r.clauses r.queries) ≡ Ok r
 program-read-again names bytes r e table small = by (read names bytes) refl e
   where
-    by : (o : Result Reading Fault) → read names bytes ≡ o → completed o ≡ Ok r → program_in r.names (program_text r.names r.clauses r.queries) ≡ Ok r
+    by : (o : Result Reading Fault) → read names bytes ≡ o → completed o ≡ Ok r → program_in r.names (program_text r.names r.abducibles r.clauses r.queries) ≡ Ok r
     by (Err f) q e = cc
     by (Ok x) q e =
         let fits = read-fits names bytes x q table in
         let whole : Reading = record x { clauses = with_denials x.clauses x.queries } in
         let same : whole ≡ r = cc in
-        let again : length (program_text whole.names whole.clauses whole.queries) ≤ BYTE_LIMIT =
-        subst (λ (y : Reading). length (program_text y.names y.clauses y.queries) ≤ BYTE_LIMIT) (sym same) small in
-        subst (λ (y : Reading). program_in y.names (program_text y.names y.clauses y.queries) ≡ Ok y) same (program-read x.names fits.0 x.clauses x.queries fits.1 again)
+        let again : length (program_text whole.names whole.abducibles whole.clauses whole.queries) ≤ BYTE_LIMIT =
+        subst (λ (y : Reading). length (program_text y.names y.abducibles y.clauses y.queries) ≤ BYTE_LIMIT) (sym same) small in
+        subst (λ (y : Reading). program_in y.names (program_text y.names y.abducibles y.clauses y.queries) ≡ Ok y) same (program-read x.names fits.0 x.abducibles x.clauses x.queries fits.1 again)

@@ -12,10 +12,11 @@ use Rattle.scasp_reader_terms.specs.Names.{place_in, interned}
 use Rattle.scasp_reader_terms.specs.Steps.{State, ◌>>=◌, give, behind, token_of}
 use Rattle.scasp_reader.specs.declared.texts.clauses.Part.{Part}
 use Rattle.scasp_reader.specs.declared.texts.clauses.Part.TheVariants as part
+use Rattle.scasp_reader.specs.Texts.Abducibles.{positive_pred, abducible_at, abducible}
 use Rattle.scasp_reader.specs.Texts.Clauses.{ended, name_of, named, query, clause_at_sign, clause_at, without_variables, clause}
 use Rattle.scasp_reader.specs.Texts.Texts.{is_end}
-use Rattle.scasp_law_program_text.specs.Grammar.Trees.{a_fact, a_rule, a_denial, a_query}
-use Rattle.scasp_law_program_text.specs.Grammar.Spelling.{bare, atom_tokens, body_tokens, clause_tokens}
+use Rattle.scasp_law_program_text.specs.Grammar.Trees.{a_fact, a_rule, a_denial, a_query, an_abducible}
+use Rattle.scasp_law_program_text.specs.Grammar.Spelling.{bare, atom_tokens, body_tokens, parameters_tokens, clause_tokens}
 use Rattle.scasp_law_program_text.specs.Grammar.Bodies.{atom_meaning, body_meaning}
 use Rattle.scasp_law_program_text.specs.Grammar.Programs.{names_of, clause_meaning}
 use Rattle.scasp_law_program_text.specs.Grammar.Programs as meant
@@ -23,8 +24,9 @@ use Rattle.scasp_law_program_text.proofs.GrammarLemmas.Steps.{known, then-some, 
 use Rattle.scasp_law_program_text.proofs.GrammarLemmas.Terms.{with-sign, with-next}
 use Rattle.scasp_law_program_text.proofs.GrammarLemmas.Items.{atom_holds}
 use Rattle.scasp_law_program_text.proofs.GrammarLemmas.Bodies.{body_holds}
+use Rattle.scasp_law_program_text.proofs.GrammarLemmas.Abducibles.{AreBracketed, bracketed_hold, abducible-meant}
 
--- a clause or a query, and not the end
+-- a clause, of any kind, and not the end
 pub record IsClause (s : State) (q : Part) (t : State) : Type 0 where
   pub spelled : Spelled clause_tokens clause_meaning s q t
   pub goes_on : is_end q ≡ false
@@ -142,6 +144,32 @@ module _ (s : State) where
       (λ names v i a. Post_give (IsClause s) v (part.Query (record { body = xs; names = names }))
       (λ fine. record { spelled = query-spelled xs u names v next (q (i fine)) stop (a fine); goes_on = refl })))))
 
+  -- ---- predicates that may be assumed
+
+  -- the reader behind a name of this text
+  abbrev behind_name : List ℕ → State
+  behind_name text = record (behind (behind now)) { names = with_text s.names text }
+
+  abducible-spelled : (text : List ℕ) (n : ℕ) (u : State) → bare s.tokens ≡ token.Abducible ∷ bare (drop 1 s.tokens) → token_of (drop 1 s.tokens) ≡ Some (token.Name text) → AreBracketed (behind_name text) n u
+      → bare u.tokens ≡ token.Sign sign.Stop ∷ bare (drop 1 u.tokens) → Spelled clause_tokens clause_meaning s (part.Abducible (positive_pred (place_in s.names text) n)) (behind u)
+  abducible-spelled text n u next e a stop = record {
+    tree = an_abducible text a.texts;
+    tokens = next ∙ ap (λ ts. token.Abducible ∷ ts) (next-token (drop 1 s.tokens) (token.Name text) e ∙ ap (λ ts. token.Name text ∷ ts) (a.tokens ∙ with-sign (parameters_tokens a.texts) _ _ _ stop));
+    value = then-some _ _ _ _ _ a.value (abducible-meant (place_in s.names text) n (length a.texts) (known u) a.number a.few);
+  }
+
+  abducible_holds : bare s.tokens ≡ token.Abducible ∷ bare (drop 1 s.tokens) → Post (IsClause s) now (abducible now)
+  abducible_holds next = Post_from (IsClause s) now (behind now) _ (λ f. f) (by (token_of (drop 1 s.tokens)) refl)
+    where
+      by : (o : Option Token) → token_of (drop 1 s.tokens) ≡ o → Post (IsClause s) (behind now) (abducible_at o (behind now))
+      by (Some (token.Name text)) e =
+          Post_from (IsClause s) (behind now) (behind_name text) _ (λ f. f)
+          (Post_then (AreBracketed (behind_name text)) (IsClause s) (behind_name text) _ _ (bracketed_hold (behind_name text))
+          (λ n u f a. Post_expect (IsClause s) u sign.Stop _
+          (λ stop. Post_give (IsClause s) (behind u) (part.Abducible (positive_pred (place_in s.names text) n))
+          (λ fine. record { spelled = abducible-spelled text n u next e (a fine) stop; goes_on = refl }))))
+      by o e = Post_err (IsClause s) (behind now) _
+
 pub clause_holds : (s : State) → Post (IsClause s) s (clause s)
 unfolding clause
 clause_holds s = Post_from (IsClause s) s (without_variables s) _ (λ f. f) (by (token_of s.tokens) refl)
@@ -155,4 +183,5 @@ clause_holds s = Post_from (IsClause s) s (without_variables s) _ (λ f. f) (by 
     by : (o : Option Token) → token_of s.tokens ≡ o → Post (IsClause s) (without_variables s) (clause_at o (without_variables s))
     by (Some (token.Name text)) e = headed_holds s
     by (Some (token.Sign g)) e = sign_by g e
+    by (Some token.Abducible) e = abducible_holds s (next-token s.tokens _ e)
     by o e = Post_err (IsClause s) (without_variables s) _

@@ -15,8 +15,8 @@ use Rattle.scasp_reader.specs.declared.texts.clauses.Part.{Part}
 use Rattle.scasp_reader.specs.declared.texts.clauses.Part.TheVariants as part
 use Rattle.scasp_reader.specs.Texts.Clauses.{ended, with_body, headed, name_of, named, query, clause_at, without_variables, clause}
 use Rattle.scasp_law_program_text.specs.Grammar.Known.{Known, Make, means, then_make}
-use Rattle.scasp_law_program_text.specs.Grammar.Trees.{Atom, Body, Clause, a_fact, a_rule, a_denial, a_query, a_directive}
-use Rattle.scasp_law_program_text.specs.Grammar.Spelling.{minus_if, arguments_tokens, atom_tokens, body_tokens, clause_tokens}
+use Rattle.scasp_law_program_text.specs.Grammar.Trees.{Atom, Body, Clause, a_fact, a_rule, a_denial, a_query, an_abducible, a_directive}
+use Rattle.scasp_law_program_text.specs.Grammar.Spelling.{minus_if, arguments_tokens, atom_tokens, body_tokens, parameters_tokens, clause_tokens}
 use Rattle.scasp_law_program_text.specs.Grammar.Bodies.{atom_meaning, body_meaning}
 use Rattle.scasp_law_program_text.specs.Grammar.Programs.{clause_of, query_of, names_of, clause_meaning}
 use Rattle.scasp_law_program_text.specs.Grammar.Programs as meant
@@ -24,6 +24,7 @@ use Rattle.scasp_law_program_text.proofs.GrammarLemmas.Steps.{known}
 use Rattle.scasp_law_program_text.proofs.GrammarLemmas.Given.{first, same, At, next-is, At_behind, At_so, Gives, Gives_by, Gives_ok, Gives_so, made, Gives_bind, Gives_taken, Gives_not_taken, Gives_expect}
 use Rattle.scasp_law_program_text.proofs.GrammarLemmas.GivenItems.{atom-given}
 use Rattle.scasp_law_program_text.proofs.GrammarLemmas.GivenBodies.{EndsBody, body-given}
+use Rattle.scasp_law_program_text.proofs.GrammarLemmas.GivenAbducibles.{abducible-given}
 
 stop-ends : (rest : List Token) → EndsBody (token.Sign sign.Stop ∷ rest)
 stop-ends rest = record {
@@ -107,7 +108,7 @@ module _ (s : State) (rest : List Token) (q : Part) (l : Known) where
       (λ ns k j. named-given t.variables [] (behind t) rest ns k at j)
       (λ ns u after j. Gives_ok same (part.Query (record { body = xs; names = ns })) q rest u l after j)))
 
--- a clause or a query
+-- a clause, of any kind
 pub clause-given : (c : Clause) (s : State) (rest : List Token) (q : Part) (l : Known) → At (clause_tokens c ++ rest) s → (c ≡ a_directive → ⊥) → clause_meaning c (known s) ≡ Some (q, l) → Gives q rest l (clause s)
 clause-given (a_fact a) s rest q l h other e =
     let g = At_so _ (atom_tokens a ++ token.Sign sign.Stop ∷ rest) s h (append_assoc (atom_tokens a) (token.Sign sign.Stop ∷ []) rest) in
@@ -124,4 +125,8 @@ clause-given (a_denial b) s rest q l h other e =
 clause-given (a_query b) s rest q l h other e =
     let g = At_so _ (token.Sign sign.Query ∷ (body_tokens b ++ token.Sign sign.Stop ∷ rest)) s h (ap (λ ts. token.Sign sign.Query ∷ ts) (append_assoc (body_tokens b) (token.Sign sign.Stop ∷ []) rest)) in
     Gives_by q rest l _ _ (clause-at s rest q l _ g) (query-given s rest q l b g e)
+clause-given (an_abducible text texts) s rest q l h other e =
+    let g = At_so _ (token.Abducible ∷ token.Name text ∷ (parameters_tokens texts ++ token.Sign sign.Stop ∷ rest)) s h
+    (ap (λ ts. token.Abducible ∷ token.Name text ∷ ts) (append_assoc (parameters_tokens texts) (token.Sign sign.Stop ∷ []) rest)) in
+    Gives_by q rest l _ _ (clause-at s rest q l _ g) (abducible-given text texts (without_variables s) rest q l (record { tokens = g.tokens; fault = g.fault }) e)
 clause-given a_directive s rest q l h other e = absurd (other refl)

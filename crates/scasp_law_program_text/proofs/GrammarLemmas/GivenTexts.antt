@@ -17,11 +17,14 @@ use Rattle.scasp_reader.specs.declared.texts.texts.Parts.{Parts}
 use Rattle.scasp_reader.specs.declared.texts.texts.Reading.{Reading}
 use Rattle.scasp_reader.specs.declared.texts.texts.TheConstants.{BYTE_LIMIT, CLAUSE_LIMIT}
 use Rattle.scasp_reader.specs.Texts.Clauses.{clause}
-use Rattle.scasp_reader.specs.Texts.Texts.{limited_clause, part_at, next_part, no_parts, part_count, with_part, is_end, parts_within, settled, told, reading_of, read}
+use Rattle.scasp_reader.specs.Texts.Texts.{limited_clause, part_at, next_part, no_parts, part_count, with_part, is_end, parts_within, read_parts, settled, told, reading_of, read}
+use Rattle.scasp_name.specs.Texts.{with_text}
+use Rattle.scasp_reader_terms.specs.Names.{place_in}
+use Rattle.scasp_reader.specs.Texts.Abducibles.{positive_pred}
 use Rattle.scasp_syntax.specs.declared.atom.Atom.{Atom as MeantAtom}
 use Rattle.scasp_syntax.specs.declared.clause.Item.{Item as MeantItem}
 use Rattle.scasp_law_program_text.specs.Grammar.Known.{Known, means, then_make}
-use Rattle.scasp_law_program_text.specs.Grammar.Trees.{Clause, a_fact, a_rule, a_denial, a_query, a_directive}
+use Rattle.scasp_law_program_text.specs.Grammar.Trees.{Clause, a_fact, a_rule, a_denial, a_query, an_abducible, a_directive}
 use Rattle.scasp_law_program_text.specs.Grammar.Spelling.{minus_if, arguments_tokens, atom_tokens, body_tokens, clause_tokens, program_tokens}
 use Rattle.scasp_law_program_text.specs.Grammar.Bodies.{atom_meaning, body_meaning}
 use Rattle.scasp_law_program_text.specs.Grammar.Programs.{clause_of, query_of, names_of, clause_meaning, clauses_meaning, program_of, meaning, IsText}
@@ -29,28 +32,32 @@ use Rattle.scasp_law_program_text.proofs.GrammarLemmas.Steps.{known}
 use Rattle.scasp_law_program_text.proofs.GrammarLemmas.Given.{first, same, At, next-is, At_behind, At_so, Gives, Gives_by, value-is, Gives_ok, Gives_then, made}
 use Rattle.scasp_law_program_text.proofs.GrammarLemmas.GivenTerms.{some-minus}
 use Rattle.scasp_law_program_text.proofs.GrammarLemmas.GivenExpressions.{tokens-length}
+use Rattle.scasp_law_program_text.proofs.GrammarLemmas.GivenAbducibles.{meant-so as are-meant}
 use Rattle.scasp_law_program_text.proofs.GrammarLemmas.GivenClauses.{clause-given}
 use Rattle.scasp_law_program_text.proofs.GrammarLemmas.Texts.{parts-are}
 
 -- ---- what clauses mean
 
--- a clause or a query, and no directive
+-- a clause, of any kind, and no directive that is skipped
 abbrev is_counted : Clause → Bool
 is_counted (a_fact a) = true
 is_counted (a_rule a b) = true
 is_counted (a_denial b) = true
 is_counted (a_query b) = true
+is_counted (an_abducible text texts) = true
 is_counted a_directive = false
 
 abbrev grown : Part → ℕ
 grown (part.Clause c) = 1
 grown (part.Query q) = 1
+grown (part.Abducible a) = 1
 grown part.Directive = 0
 grown part.End = 0
 
 count-grown : (p : Parts) (q : Part) → part_count (with_part p q) ≡ part_count p + grown q
 count-grown p (part.Clause c) = omega (arith, length-append p.clauses (c ∷ []))
 count-grown p (part.Query q) = omega (arith, length-append p.queries (q ∷ []))
+count-grown p (part.Abducible a) = omega (arith, length-append p.abducibles (a ∷ []))
 count-grown p part.Directive = omega arith
 count-grown p part.End = omega arith
 
@@ -83,6 +90,11 @@ counted (a_denial b) k q l i e =
 counted (a_query b) k q l i e =
     let n = made (body_meaning b (record { names = k.names; variables = [] })) (λ xs. query_of xs) q l e in
     query-counted n.value n.between q l n.rest
+counted (an_abducible text texts) k q l i e =
+    let f = place_in k.names text in
+    let m = are-meant f texts (record { names = with_text k.names text; variables = [] }) q l e in
+    let is : part.Abducible (positive_pred f (length texts)) ≡ q = value-is _ q m.between l m.is in
+    record { goes_on = ap is_end (sym is); grows = ap grown (sym is) }
 counted a_directive k q l i e = absurd cc
 
 no-fewer : (clauses : List Clause) (p : Parts) (k : Known) (q : Parts) (l : Known) → clauses_meaning p clauses k ≡ Some (q, l) → part_count p ≤ part_count q
@@ -102,6 +114,7 @@ some-clause (a_rule a b) =
     omega (arith, some, length-append (atom_tokens a) (token.Sign sign.If ∷ (body_tokens b ++ token.Sign sign.Stop ∷ [])))
 some-clause (a_denial b) = omega arith
 some-clause (a_query b) = omega arith
+some-clause (an_abducible text texts) = omega arith
 some-clause a_directive = omega arith
 
 clauses-within : (clauses : List Clause) → length clauses ≤ length (program_tokens clauses)
@@ -128,6 +141,7 @@ counted-at (a_rule a b) ts n at s i = by a.is_negated
     by false = refl
 counted-at (a_denial b) ts n at s i = refl
 counted-at (a_query b) ts n at s i = refl
+counted-at (an_abducible text texts) ts n at s i = refl
 counted-at a_directive ts n at s i = absurd cc
 
 not-directive : (c : Clause) → is_counted c ≡ true → c ≡ a_directive → ⊥
@@ -160,6 +174,7 @@ part-given c clauses n p s rest all ts l h e few others =
     directive (a_rule a b) i = absurd cc
     directive (a_denial b) i = absurd cc
     directive (a_query b) i = absurd cc
+    directive (an_abducible text texts) i = absurd cc
     directive a_directive i = refl
 
     by : (b : Bool) → is_counted c ≡ b → (q : Part) (k : Known) → clause_meaning c (known s) ≡ Some (q, k) → clauses_meaning (with_part p q) clauses k ≡ Some (all, l) → Gives all ts l (parts_within (suc n) p s)
@@ -197,16 +212,16 @@ record IsMeant (names : List (List ℕ)) (clauses : List Clause) (r : Reading) :
   behind_all : Known
   value : clauses_meaning no_parts clauses (record { names = names; variables = [] }) ≡ Some (all, behind_all)
   few : part_count all ≤ CLAUSE_LIMIT
-  is : record { clauses = all.clauses; queries = all.queries; names = behind_all.names } ≡ r
+  is : read_parts all behind_all.names ≡ r
 
 meant-so : (names : List (List ℕ)) (clauses : List Clause) (r : Reading) → meaning names clauses ≡ Some r → IsMeant names clauses r
 unfolding meaning
 meant-so names clauses r e = by (clauses_meaning no_parts clauses (record { names = names; variables = [] })) refl e
   where
     limited : (all : Parts) (k : Known) (b : Bool) → nat_lt CLAUSE_LIMIT (part_count all) ≡ b → clauses_meaning no_parts clauses (record { names = names; variables = [] }) ≡ Some (all, k)
-        → (if b then None else Some (record { clauses = all.clauses; queries = all.queries; names = k.names })) ≡ Some r → IsMeant names clauses r
+        → (if b then None else Some (read_parts all k.names)) ≡ Some r → IsMeant names clauses r
     limited all k true past value e = absurd cc
-    limited all k false past value e = record { all = all; behind_all = k; value = value; few = grind (arith, nat_tests, past); is = (let same_reading : record { clauses = all.clauses; queries = all.queries; names = k.names } ≡ r = cc in same_reading) }
+    limited all k false past value e = record { all = all; behind_all = k; value = value; few = grind (arith, nat_tests, past); is = (let same_reading : read_parts all k.names ≡ r = cc in same_reading) }
 
     by : (o : Option (Parts × Known)) → clauses_meaning no_parts clauses (record { names = names; variables = [] }) ≡ o → program_of o ≡ Some r → IsMeant names clauses r
     by None value e = absurd cc
@@ -219,7 +234,7 @@ tokens-read names bytes r clauses h m =
     let enough = tokens-length (program_tokens clauses ++ token.End ∷ []) [] s (At_so _ _ s h (sym (append-nil (program_tokens clauses ++ token.End ∷ [])))) in
     let g = parts-given clauses (length s.tokens) no_parts s m.all m.behind_all h (omega (arith, within, enough, length-append (program_tokens clauses) (token.End ∷ []))) m.value m.few in
     ap told (parts-are s ∙ g.is) ∙ ap (λ o. settled m.all g.state o) g.there.fault
-    ∙ ap (λ (k : Known). Ok (record { clauses = m.all.clauses; queries = m.all.queries; names = k.names })) g.knows ∙ ap Ok m.is
+    ∙ ap (λ (k : Known). Ok (read_parts m.all k.names)) g.knows ∙ ap Ok m.is
 
 pub text-is-read : (names : List (List ℕ)) (bytes : List ℕ) (r : Reading) → IsText names bytes r → read names bytes ≡ Ok r
 unfolding read

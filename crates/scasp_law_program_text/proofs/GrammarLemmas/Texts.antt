@@ -16,7 +16,8 @@ use Rattle.scasp_reader.specs.declared.texts.texts.Parts.{Parts}
 use Rattle.scasp_reader.specs.declared.texts.texts.Reading.{Reading}
 use Rattle.scasp_reader.specs.declared.texts.texts.TheConstants.{BYTE_LIMIT, CLAUSE_LIMIT}
 use Rattle.scasp_reader.specs.Texts.Clauses.{clause}
-use Rattle.scasp_reader.specs.Texts.Texts.{limited_clause, part_at, next_part, no_parts, part_count, with_part, is_end, parts_within, parts, settled, told, reading_of, read}
+use Rattle.scasp_reader.specs.Texts.Texts.{limited_clause, part_at, next_part, no_parts, part_count, with_part, is_end, parts_within, parts, read_parts, settled, told, reading_of, read}
+use Rattle.scasp_reader.proofs.TextsLemmas.PartLemmas.{part_count-more}
 use Rattle.scasp_law_program_text.specs.Grammar.Known.{Known}
 use Rattle.scasp_law_program_text.specs.Grammar.Trees.{Clause, a_directive}
 use Rattle.scasp_law_program_text.specs.Grammar.Spelling.{bare, tokens_in, clause_tokens, program_tokens}
@@ -27,7 +28,7 @@ use Rattle.scasp_law_program_text.proofs.GrammarLemmas.Endings.{end-is-last}
 
 -- ---- one part
 
--- the end, or what stands behind so many clauses and queries
+-- the end, or what stands behind so many clauses, of any kind
 abbrev IsPart : ℕ → State → Part → State → Type 0
 IsPart n s q t =
     ((q ≡ part.End) × (s ≡ t) × (token_of s.tokens ≡ Some token.End))
@@ -67,15 +68,9 @@ record AreParts (p : Parts) (s : State) (all : Parts) (t : State) : Type 0 where
   value : clauses_meaning p tree (known s) ≡ Some (all, known t)
   few : part_count p ≤ CLAUSE_LIMIT → part_count all ≤ CLAUSE_LIMIT
 
-one-more : (p : Parts) (q : Part) → part_count (with_part p q) ≤ part_count p + 1
-one-more p (part.Clause c) = omega (arith, length-append p.clauses (c ∷ []))
-one-more p (part.Query q) = omega (arith, length-append p.queries (q ∷ []))
-one-more p part.Directive = omega arith
-one-more p part.End = omega arith
-
 still-few : (p : Parts) (q : Part) → part_count p ≤ CLAUSE_LIMIT → (q ≡ part.Directive) ⊎ (part_count p < CLAUSE_LIMIT) → part_count (with_part p q) ≤ CLAUSE_LIMIT
 still-few p q few (inl e) = subst (λ q. part_count (with_part p q) ≤ CLAUSE_LIMIT) (sym e) few
-still-few p q few (inr less) = let more = one-more p q in omega (arith, less, more)
+still-few p q few (inr less) = let more = part_count-more p q in omega (arith, less, more)
 
 parts_hold : (n : ℕ) (p : Parts) (s : State) → Post (AreParts p s) s (parts_within n p s)
 parts_hold zero p s = Post_err (AreParts p s) s _
@@ -113,7 +108,7 @@ unfolding parts
 parts-are s = refl
 
 program-meant : (names : List (List ℕ)) (clauses : List Clause) (all : Parts) (k : Known) → clauses_meaning no_parts clauses (record { names = names; variables = [] }) ≡ Some (all, k) → nat_lt CLAUSE_LIMIT (part_count all) ≡ false
-    → meaning names clauses ≡ Some (record { clauses = all.clauses; queries = all.queries; names = k.names })
+    → meaning names clauses ≡ Some (read_parts all k.names)
 unfolding meaning
 program-meant names clauses all k value few = ap program_of value ∙ rw few refl
 
@@ -124,7 +119,7 @@ IsProgram names bytes r = (clauses : List Clause) × (tokens_in bytes ≡ progra
 read-parts : (names : List (List ℕ)) (bytes : List ℕ) (r : Reading) → reading_of (tokens_of bytes) names ≡ Ok r → IsProgram names bytes r
 read-parts names bytes r h = by (parts (start (tokens_of bytes) names)) refl h
   where
-    found : (all : Parts) (t : State) → AreParts no_parts (start (tokens_of bytes) names) all t → record { clauses = all.clauses; queries = all.queries; names = t.names } ≡ r → IsProgram names bytes r
+    found : (all : Parts) (t : State) → AreParts no_parts (start (tokens_of bytes) names) all t → read_parts all t.names ≡ r → IsProgram names bytes r
     found all t a same =
         let rest = bare (drop 1 t.tokens) in
         let spelling : tokens_in bytes ≡ program_tokens a.tree ++ token.End ∷ rest = a.tokens ∙ ap (λ ts. program_tokens a.tree ++ ts) (next-token t.tokens token.End a.ends) in
@@ -138,7 +133,7 @@ read-parts names bytes r h = by (parts (start (tokens_of bytes) names)) refl h
     settle all t (Some f) fine e h = absurd cc
     settle all t None fine e h =
         let s = start (tokens_of bytes) names in
-        let same : record { clauses = all.clauses; queries = all.queries; names = t.names } ≡ r = cc in
+        let same : read_parts all t.names ≡ r = cc in
         found all t ((parts_hold (length s.tokens) no_parts s).holds all t (sym (parts-are s) ∙ e) fine) same
 
     by : (x : Result (Parts × State) Fault) → parts (start (tokens_of bytes) names) ≡ x → told x ≡ Ok r → IsProgram names bytes r

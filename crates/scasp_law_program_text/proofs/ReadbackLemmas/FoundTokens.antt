@@ -16,7 +16,7 @@ use Rattle.scasp_reader_tokens.specs.declared.token.Front.{Front}
 use Rattle.scasp_reader_tokens.specs.declared.token.Front.TheVariants.{Gap, Found, Last}
 use Rattle.scasp_reader_tokens.specs.Bytes.{is_blank, is_lower, is_upper, is_digit, is_name_byte, begins}
 use Rattle.scasp_reader_tokens.specs.Comments.{line_length, block_length}
-use Rattle.scasp_reader_tokens.specs.Directives.{begins_directive, is_skipped_name, length_to_stop}
+use Rattle.scasp_reader_tokens.specs.Directives.{begins_directive, is_skipped_name, is_abducible_name, length_to_stop}
 use Rattle.scasp_reader_tokens.specs.Numbers.{digits, decimals, literal_value}
 use Rattle.scasp_reader_tokens.specs.Quoted.{quoted_length, text_of, length_before_bad, good_length}
 use Rattle.scasp_reader_tokens.specs.Signs.{Entry, signs, entry_at}
@@ -142,12 +142,16 @@ sign-front bytes = by (entry_at signs bytes)
     skipped None = tt
     skipped (Some n) = tt
 
-    named : (t : Bool) → IsFront (if t then skipped_directive bytes else Last token.OtherDirective 0)
-    named true = skipped (length_to_stop 0 (drop 5 bytes))
-    named false = tt
+    unskipped : (name : List ℕ) (t : Bool) → IsFront (if t then Found token.Abducible (length name + 1) else Last token.OtherDirective 0)
+    unskipped name true = tt
+    unskipped name false = tt
+
+    named : (name : List ℕ) (t : Bool) → IsFront (if t then skipped_directive bytes else (if is_abducible_name name then Found token.Abducible (length name + 1) else Last token.OtherDirective 0))
+    named name true = skipped (length_to_stop 0 (drop 5 bytes))
+    named name false = unskipped name (is_abducible_name name)
 
     other : (t : Bool) → IsFront (if t then directive bytes else Last token.BadByte 0)
-    other true = named (is_skipped_name (take_while is_name_byte (drop 1 bytes)))
+    other true = let name = take_while is_name_byte (drop 1 bytes) in named name (is_skipped_name name)
     other false = tt
 
     by : (o : Option Entry) → IsFront (elim o [ None ↦ (if begins_directive bytes then directive bytes else Last token.BadByte 0) | Some e ↦ Found (token.Sign e.sign) (length e.text) ])

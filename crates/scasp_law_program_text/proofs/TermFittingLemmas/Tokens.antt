@@ -16,6 +16,7 @@ found-is token.Not h = tt
 found-is (token.Variable text) h = h
 found-is (token.Number q) h = subst IsSmall (sym h.2) (literal-small h.0 h.1)
 found-is (token.Sign s) h = tt
+found-is token.Abducible h = tt
 found-is token.SkippedDirective h = tt
 found-is token.UnclosedDirective h = tt
 found-is token.OtherDirective h = tt

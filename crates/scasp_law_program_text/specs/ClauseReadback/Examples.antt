@@ -15,6 +15,7 @@ use Rattle.scasp_syntax.specs.declared.clause.Query.{Query}
 use Rattle.scasp_syntax.specs.declared.term.Term.TheVariants.{Var, Num, App}
 use Rattle.scasp_reader.specs.Bodies.Atoms.{atom_of}
 use Rattle.scasp_reader.specs.Bodies.Items.{call_of}
+use Rattle.scasp_reader.specs.Texts.Abducibles.{positive_pred}
 use Rattle.scasp_law_program_text.specs.CompoundReadback.Styles.{IsTable}
 use Rattle.scasp_law_program_text.specs.ClauseReadback.Parts.{clause_fits, query_fits}
 use Rattle.scasp_law_program_text.specs.ClauseReadback.Texts.{text_fits}
@@ -56,7 +57,7 @@ query = record {
   names = Some 4 ∷ None ∷ [];
 }
 
-is_met : text_fits names (rule ∷ []) (query ∷ []) ≡ true
+is_met : text_fits names (positive_pred 3 2 ∷ positive_pred 3 0 ∷ []) (rule ∷ []) (query ∷ []) ≡ true
 unfolding gcd gcd_within
 is_met = refl
 
@@ -77,6 +78,10 @@ a_common_divisor = refl
 -- nothing is written of a denial without a body
 an_empty_denial : clause_fits names (record { head = None; body = []; vars = 0 }) ≡ false
 an_empty_denial = refl
+
+-- a predicate that stands twice is read as one
+one_predicate_twice : text_fits names (positive_pred 3 2 ∷ positive_pred 3 2 ∷ []) [] [] ≡ false
+one_predicate_twice = refl
 
 -- both variables have the name X
 one_name_twice : query_fits names (record query { names = Some 4 ∷ Some 4 ∷ [] }) ≡ false

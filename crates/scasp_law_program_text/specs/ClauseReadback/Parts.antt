@@ -3,12 +3,14 @@ use Rattle.std.specs.Prelude.{◌≡◌, ℕ, ◌+◌, Bool, true, false, not, �
 use Rattle.std.specs.List.{list_all}
 use Rattle.scasp_num.specs.Arithmetic.{◌>>=◌}
 use Rattle.scasp_syntax.specs.declared.atom.Atom.{Atom}
+use Rattle.scasp_syntax.specs.declared.atom.Pred.{Pred}
 use Rattle.scasp_syntax.specs.declared.clause.Clause.{Clause}
 use Rattle.scasp_syntax.specs.declared.clause.Item.{Item}
 use Rattle.scasp_syntax.specs.declared.clause.Query.{Query}
 use Rattle.scasp_reader_tokens.specs.Tokens.{tokens_behind}
 use Rattle.scasp_cert.specs.Text.Names.{text_at}
 use Rattle.scasp_reader_terms.specs.declared.reader.TheConstants.{VARIABLE_LIMIT}
+use Rattle.scasp_reader_terms.specs.declared.terms.TheConstants.{ARITY_LIMIT}
 use Rattle.scasp_reader_terms.specs.Steps.{State, Read}
 use Rattle.scasp_reader.specs.declared.texts.clauses.Part.{Part}
 use Rattle.scasp_print_program.specs.Terms.{Style}
@@ -65,17 +67,23 @@ query_fits names q =
     let w = query_style names q.names in
     are_variables w.variables && list_all (name_fits names) q.names && body_fits w q.body && is_count (count_body w 0 q.body) (length q.names)
 
+-- ---- predicates that may be assumed
+
+-- the name stands in the table, and has no more arguments than it may
+abbrev pub abducible_fits : List (List ℕ) → Pred → Bool
+abducible_fits names p = nat_lt p.name (length names) && nat_le p.arity ARITY_LIMIT
+
 -- ---- reading
 
 -- the reader with this table, where nothing was wrong
 abbrev pub in_table : List (List ℕ) → State → State
 in_table names s = record s { names = names; fault = None }
 
--- the reader behind a clause or a query of these variables
+-- the reader behind a clause, of any kind, of these variables
 abbrev pub behind_part : List (List ℕ) → List (List ℕ) → State → ℕ → List ℕ → State
 behind_part names variables s at bytes = record s { tokens = tokens_behind 0 at bytes; is_behind_operand = false; names = names; variables = variables; fault = None }
 
--- The step reads the text before these bytes as the clause or the query of these variables; the table stays.
+-- The step reads the text before these bytes as the clause, of any kind, of these variables; the table stays.
 abbrev pub ReadsPart : List (List ℕ) → Read Part → List ℕ → Part → List (List ℕ) → State → List ℕ → Type 0
 ReadsPart names step text p variables s rest =
     (at : ℕ) → step (before (in_table names s) at (text ++ rest)) ≡ Ok (p, behind_part names variables s (at + length text) rest)

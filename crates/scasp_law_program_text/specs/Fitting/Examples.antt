@@ -26,11 +26,13 @@ use Rattle.scasp_reader.specs.Bodies.Items.{call_of, item}
 use Rattle.scasp_reader.specs.Bodies.Bodies.{body}
 use Rattle.scasp_reader.specs.declared.texts.texts.Reading.{Reading}
 use Rattle.scasp_reader.specs.declared.texts.texts.TheConstants.{BYTE_LIMIT}
+use Rattle.scasp_reader.specs.Texts.Abducibles.{positive_pred}
 use Rattle.scasp_reader.specs.Texts.Clauses.{clause}
 use Rattle.scasp_reader.specs.Texts.Texts.{next_part, parts, read}
 use Rattle.scasp_reader.specs.Programs.Programs.{program_in}
 use Rattle.scasp_print_program.specs.Terms.{atom_text, lit_text}
 use Rattle.scasp_print_program.specs.Items.{linear_text}
+use Rattle.scasp_print_program.specs.Abducibles.{abducible_text}
 use Rattle.scasp_print_program.specs.Programs.{clause_text, query_text, program_text}
 use Rattle.scasp_law_program_text.specs.CompoundReadback.Styles.{IsTable}
 
@@ -61,19 +63,20 @@ abbrev reading : Reading
 reading = record {
   clauses = rule ∷ denial_of (record { minus = true; name = 2; arity = 1 }) ∷ [];
   queries = query ∷ [];
+  abducibles = positive_pred 3 2 ∷ [];
   names = codes "[]" ∷ codes "[|]" ∷ codes "p" ∷ codes "q" ∷ codes "a" ∷ codes "A" ∷ [];
 }
 
-is_read : program_in list_names (codes "p(X) :- q(X, _), X + 2*Y #< 0.5 + Y*2, [X|_] = Z, not -p(Z). ?- p(A), not q(_, a).") ≡ Ok reading
+is_read : program_in list_names (codes "p(X) :- q(X, _), X + 2*Y #< 0.5 + Y*2, [X|_] = Z, not -p(Z). ?- p(A), not q(_, a). #abducible q(X, _). #abducible q(_, _).") ≡ Ok reading
 unfolding read parts next_part clause body item tokens_of term expression literal_value lowest gcd gcd_within sum_of product_of difference_of normal_of normal_form
 is_read = refl
 
-its_text : program_text reading.names reading.clauses reading.queries ≡ codes "p(V0) :- q(V0,V1), 2*V0+0*V2-1 #< 0, [V0|V3] = V4, not -p(V4).\n?- p(A), not q(_,a).\n"
-unfolding program_text clause_text query_text atom_text lit_text linear_text digits
+its_text : program_text reading.names reading.abducibles reading.clauses reading.queries ≡ codes "#abducible q(V0,V1).\np(V0) :- q(V0,V1), 2*V0+0*V2-1 #< 0, [V0|V3] = V4, not -p(V4).\n?- p(A), not q(_,a).\n"
+unfolding program_text abducible_text clause_text query_text atom_text lit_text linear_text digits
 its_text = refl
 
-is_within : nat_le (length (program_text reading.names reading.clauses reading.queries)) BYTE_LIMIT ≡ true
-unfolding program_text clause_text query_text atom_text lit_text linear_text digits
+is_within : nat_le (length (program_text reading.names reading.abducibles reading.clauses reading.queries)) BYTE_LIMIT ≡ true
+unfolding program_text abducible_text clause_text query_text atom_text lit_text linear_text digits
 is_within = refl
 
 -- ---- a print that is longer than its text
@@ -87,6 +90,7 @@ short = record {
         vars = 1;
       } ∷ [];
   queries = [];
+  abducibles = [];
   names = codes "[]" ∷ codes "[|]" ∷ codes "p" ∷ [];
 }
 
@@ -94,6 +98,6 @@ it_is_read : program_in list_names (codes "p:-1-X#<0.") ≡ Ok short
 unfolding read parts next_part clause body item tokens_of term expression literal_value lowest gcd gcd_within sum_of product_of difference_of normal_of normal_form
 it_is_read = refl
 
-it_is_longer : program_text short.names short.clauses short.queries ≡ codes "p :- -V0+1 #< 0.\n"
-unfolding program_text clause_text query_text atom_text lit_text linear_text digits
+it_is_longer : program_text short.names short.abducibles short.clauses short.queries ≡ codes "p :- -V0+1 #< 0.\n"
+unfolding program_text abducible_text clause_text query_text atom_text lit_text linear_text digits
 it_is_longer = refl

@@ -15,8 +15,9 @@ use Rattle.scasp_reader_tokens.specs.Numbers.{literal_value}
 use Rattle.scasp_reader_tokens.specs.Tokens.{tokens_of}
 use Rattle.scasp_reader_tokens.specs.declared.token.Token.TheVariants as token
 use Rattle.scasp_reader.specs.declared.texts.texts.Reading.{Reading}
+use Rattle.scasp_reader.specs.Texts.Abducibles.{positive_pred}
 use Rattle.scasp_law_program_text.specs.Grammar.Known.{Known}
-use Rattle.scasp_law_program_text.specs.Grammar.Trees.{Term, a_variable, a_fraction, a_name, a_list_with, Terms, one_term, more_terms, no_arguments, some_arguments, Expression, an_expression, no_products, minus, Product, a_product, no_factors, times, over, a_number_factor, a_variable_factor, Atom, Item, a_call, an_equation, a_comparison, Body, one_item, more_items, Clause, a_fact, a_rule, a_denial, a_query, a_directive}
+use Rattle.scasp_law_program_text.specs.Grammar.Trees.{Term, a_variable, a_fraction, a_name, a_list_with, Terms, one_term, more_terms, no_arguments, some_arguments, Expression, an_expression, no_products, minus, Product, a_product, no_factors, times, over, a_number_factor, a_variable_factor, Atom, Item, a_call, an_equation, a_comparison, Body, one_item, more_items, Clause, a_fact, a_rule, a_denial, a_query, an_abducible, a_directive}
 use Rattle.scasp_law_program_text.specs.Grammar.Spelling.{tokens_in, program_tokens}
 use Rattle.scasp_law_program_text.specs.Grammar.Bodies.{body_meaning}
 use Rattle.scasp_law_program_text.specs.Grammar.Programs.{meaning}
@@ -30,16 +31,17 @@ constant text = a_name text no_arguments
 abbrev atom : Bool → List ℕ → Terms → Atom
 atom is_negated text ts = record { is_negated = is_negated; name = text; arguments = some_arguments ts }
 
--- ---- a rule with a list and a fraction, a directive, and a query
+-- ---- a rule with a list and a fraction, a directive, a query, and a predicate that may be assumed
 
 abbrev text : List ℕ
-text = codes "% a list" ++ 10 ∷ codes "p([a|X], 6/8) :- X = b. #show p/2. /* and */ ?- -p(_, X)."
+text = codes "% a list" ++ 10 ∷ codes "p([a|X], 6/8) :- X = b. #show p/2. /* and */ ?- -p(_, X). #abducible b(Y, _)."
 
 abbrev trees : List Clause
 trees =
     a_rule (atom false (codes "p") (more_terms (a_list_with (one_term (constant (codes "a"))) (a_variable (codes "X"))) (one_term (a_fraction false (whole 6) (whole 8)))))
     (one_item (an_equation (a_variable (codes "X")) (constant (codes "b"))))
-    ∷ a_directive ∷ a_query (one_item (a_call (atom true (codes "p") (more_terms (a_variable (codes "_")) (one_term (a_variable (codes "X"))))))) ∷ []
+    ∷ a_directive ∷ a_query (one_item (a_call (atom true (codes "p") (more_terms (a_variable (codes "_")) (one_term (a_variable (codes "X")))))))
+    ∷ an_abducible (codes "b") (codes "Y" ∷ codes "_" ∷ []) ∷ []
 
 -- the program, with this number in the place of the fraction
 abbrev program_with : Number → Reading
@@ -51,6 +53,7 @@ program_with q = record {
         vars = 1;
       } ∷ [];
   queries = record { body = form.Call (record { positive = true; atom = record { minus = true; name = 2; args = cons (var 0) (cons (var 1) nil) } }) ∷ []; names = None ∷ Some 5 ∷ [] } ∷ [];
+  abducibles = positive_pred 4 2 ∷ [];
   names = codes "[]" ∷ codes "[|]" ∷ codes "p" ∷ codes "a" ∷ codes "b" ∷ codes "X" ∷ [];
 }
 
@@ -87,6 +90,7 @@ cancelled_meaning : meaning list_names (a_denial (one_item a_cancelled_variable)
             vars = 2;
           } ∷ [];
       queries = [];
+      abducibles = [];
       names = list_names;
     })
 unfolding meaning lowest gcd gcd_within sum_of difference_of normal_of normal_form
@@ -116,6 +120,10 @@ a_number_too_large = refl
 a_reserved_atom : meaning list_names (a_fact (atom false (codes "assert") (one_term (a_variable (codes "X")))) ∷ []) ≡ None
 unfolding meaning
 a_reserved_atom = refl
+
+a_variable_again : meaning list_names (an_abducible (codes "p") (codes "X" ∷ codes "_" ∷ codes "X" ∷ []) ∷ []) ≡ None
+unfolding meaning
+a_variable_again = refl
 
 -- so many items and one more
 abbrev items : ℕ → Body

@@ -5,7 +5,7 @@ use Rattle.scasp_reader_tokens.specs.declared.token.Token.{Token}
 use Rattle.scasp_reader_tokens.specs.declared.token.Token.TheVariants as token
 use Rattle.scasp_reader_tokens.specs.declared.token.Placed.{Placed}
 use Rattle.scasp_reader_tokens.specs.Tokens.{tokens_of}
-use Rattle.scasp_law_program_text.specs.Grammar.Trees.{Term, a_variable, a_number, a_fraction, a_name, an_empty_list, a_list, a_list_with, Terms, one_term, more_terms, Arguments, no_arguments, some_arguments, Expression, an_expression, Products, no_products, plus, minus, Product, a_product, Factors, no_factors, times, over, Factor, a_number_factor, a_variable_factor, a_bracket, Atom, Item, a_call, a_negative_call, an_equation, a_disequation, a_comparison, Body, one_item, more_items, Clause, a_fact, a_rule, a_denial, a_query, a_directive}
+use Rattle.scasp_law_program_text.specs.Grammar.Trees.{Term, a_variable, a_number, a_fraction, a_name, an_empty_list, a_list, a_list_with, Terms, one_term, more_terms, Arguments, no_arguments, some_arguments, Expression, an_expression, Products, no_products, plus, minus, Product, a_product, Factors, no_factors, times, over, Factor, a_number_factor, a_variable_factor, a_bracket, Atom, Item, a_call, a_negative_call, an_equation, a_disequation, a_comparison, Body, one_item, more_items, Clause, a_fact, a_rule, a_denial, a_query, an_abducible, a_directive}
 
 -- ---- tokens
 
@@ -82,11 +82,22 @@ body_tokens (more_items i b) = item_tokens i ++ token.Sign sign.Comma ∷ body_t
 
 -- ---- clauses and programs
 
+-- variables with commas between
+abbrev pub variables_tokens : List ℕ → List (List ℕ) → List Token
+variables_tokens text [] = token.Variable text ∷ []
+variables_tokens text (next ∷ texts) = token.Variable text ∷ token.Sign sign.Comma ∷ variables_tokens next texts
+
+-- variables in brackets, where there are any
+abbrev pub parameters_tokens : List (List ℕ) → List Token
+parameters_tokens [] = []
+parameters_tokens (text ∷ texts) = token.Sign sign.Open ∷ (variables_tokens text texts ++ token.Sign sign.Close ∷ [])
+
 abbrev pub clause_tokens : Clause → List Token
 clause_tokens (a_fact a) = atom_tokens a ++ token.Sign sign.Stop ∷ []
 clause_tokens (a_rule a b) = atom_tokens a ++ token.Sign sign.If ∷ (body_tokens b ++ token.Sign sign.Stop ∷ [])
 clause_tokens (a_denial b) = token.Sign sign.If ∷ (body_tokens b ++ token.Sign sign.Stop ∷ [])
 clause_tokens (a_query b) = token.Sign sign.Query ∷ (body_tokens b ++ token.Sign sign.Stop ∷ [])
+clause_tokens (an_abducible name variables) = token.Abducible ∷ token.Name name ∷ (parameters_tokens variables ++ token.Sign sign.Stop ∷ [])
 clause_tokens a_directive = token.SkippedDirective ∷ []
 
 abbrev pub program_tokens : List Clause → List Token

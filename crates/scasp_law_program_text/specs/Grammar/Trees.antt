@@ -69,11 +69,13 @@ pub data Body : Type 0 where
   one_item : Item → Body
   more_items : Item → Body → Body
 
---     clause := atom [":-" body] "." | ":-" body "." | "?-" body "."
--- Directives stand where clauses do.
+--     clause := atom [":-" body] "." | ":-" body "." | "?-" body "." | "#abducible" name ["(" variables ")"] "."
+--     variables := variable {"," variable}
+-- Directives that are skipped stand where clauses do.
 pub data Clause : Type 0 where
   a_fact : Atom → Clause
   a_rule : Atom → Body → Clause
   a_denial : Body → Clause
   a_query : Body → Clause
+  an_abducible : List ℕ → List (List ℕ) → Clause
   a_directive : Clause

@@ -1,7 +1,8 @@
 //! What is written of a clause is read back.
-ghost use Rattle.std.specs.Prelude.{◌≡◌, ℕ, true, List, ◌++◌, map, flat_map, length, ◌≤◌, codes, Some, Ok};
+ghost use Rattle.std.specs.Prelude.{◌≡◌, ℕ, true, false, List, ◌++◌, map, length, ◌≤◌, codes, Some, Ok};
 ghost use Rattle.scasp_syntax.specs.Denials.{with_denials};
 ghost use Rattle.scasp_syntax.specs.declared.atom.Atom.{Atom};
+ghost use Rattle.scasp_syntax.specs.declared.atom.Pred.{Pred};
 ghost use Rattle.scasp_syntax.specs.declared.clause.Clause.{Clause};
 ghost use Rattle.scasp_syntax.specs.declared.clause.Item.{Item};
 ghost use Rattle.scasp_syntax.specs.declared.clause.Query.{Query};
@@ -16,6 +17,7 @@ ghost use Rattle.scasp_reader.specs.Texts.Texts.{read};
 ghost use Rattle.scasp_reader.specs.Programs.Programs.{program_in};
 ghost use Rattle.scasp_print_program.specs.Terms.{Style, atom_text};
 ghost use Rattle.scasp_print_program.specs.Items.{item_text, items_text};
+ghost use Rattle.scasp_print_program.specs.Abducibles.{abducible_text};
 ghost use Rattle.scasp_print_program.specs.Programs.{rule_variables, query_variable, clause_text, query_text, written, program_text};
 ghost use Rattle.scasp_law_program_text.specs.TermReadback.Reading.{EndsTerm};
 ghost use Rattle.scasp_law_program_text.specs.CompoundReadback.Styles.{IsTable, IsStyle};
@@ -24,8 +26,8 @@ ghost use Rattle.scasp_law_program_text.specs.CompoundReadback.Reading.{Reads};
 ghost use Rattle.scasp_law_program_text.specs.ClauseReadback.Fitting.{atom_fits, item_fits, body_fits};
 ghost use Rattle.scasp_law_program_text.specs.ClauseReadback.Counting.{count_item, count_body};
 ghost use Rattle.scasp_law_program_text.specs.ClauseReadback.Reading.{EndsItem};
-ghost use Rattle.scasp_law_program_text.specs.ClauseReadback.Parts.{clause_fits, query_fits, ReadsPart};
-ghost use Rattle.scasp_law_program_text.specs.ClauseReadback.Texts.{text_fits, reading};
+ghost use Rattle.scasp_law_program_text.specs.ClauseReadback.Parts.{abducible_fits, clause_fits, query_fits, ReadsPart};
+ghost use Rattle.scasp_law_program_text.specs.ClauseReadback.Texts.{text_fits, lines_text, reading};
 
 /// The text of an atom is read as this atom, with its sign and its arguments.
 pub fn atoms_are_read_back()
@@ -63,17 +65,23 @@ pub fn queries_are_read_back()
         → ReadsPart names clause (query_text names q) (part.Query q) (map (query_variable names) q.names) s rest }
 {}
 
-/// The text of clauses and queries is read as these, where it is within the limit of bytes.
+/// The line of a predicate that may be assumed is read as this predicate.
+pub fn abducibles_are_read_back()
+    ensures { (names : List (List ℕ)) (p : Pred) (s : State) (rest : List ℕ) → IsTable names → p.minus ≡ false → abducible_fits names p ≡ true
+        → ReadsPart names clause (abducible_text names p) (part.Abducible p) (rule_variables 0 p.arity) s rest }
+{}
+
+/// The text of predicates that may be assumed, of clauses and of queries is read as these, where it is within the limit of bytes.
 pub fn texts_are_read_back()
-    ensures { (names : List (List ℕ)) (clauses : List Clause) (queries : List Query) → IsTable names → text_fits names clauses queries ≡ true
-        → length (flat_map (clause_text names) clauses ++ flat_map (query_text names) queries) ≤ BYTE_LIMIT
-        → read names (flat_map (clause_text names) clauses ++ flat_map (query_text names) queries) ≡ Ok (reading clauses queries names) }
+    ensures { (names : List (List ℕ)) (abducibles : List Pred) (clauses : List Clause) (queries : List Query) → IsTable names → text_fits names abducibles clauses queries ≡ true
+        → length (lines_text names abducibles clauses queries) ≤ BYTE_LIMIT
+        → read names (lines_text names abducibles clauses queries) ≡ Ok (reading abducibles clauses queries names) }
 {}
 
 /// The text of a program with its generated denials, which leaves these out, is read as this program, where it is within the limit of bytes.
 pub fn programs_are_read_back()
     ensures written { (clauses : List Clause) (queries : List Query) → written (with_denials clauses queries) queries ≡ clauses }
-    ensures read { (names : List (List ℕ)) (clauses : List Clause) (queries : List Query) → IsTable names → text_fits names clauses queries ≡ true
-        → length (program_text names (with_denials clauses queries) queries) ≤ BYTE_LIMIT
-        → program_in names (program_text names (with_denials clauses queries) queries) ≡ Ok (reading (with_denials clauses queries) queries names) }
+    ensures read { (names : List (List ℕ)) (abducibles : List Pred) (clauses : List Clause) (queries : List Query) → IsTable names → text_fits names abducibles clauses queries ≡ true
+        → length (program_text names abducibles (with_denials clauses queries) queries) ≤ BYTE_LIMIT
+        → program_in names (program_text names abducibles (with_denials clauses queries) queries) ≡ Ok (reading abducibles (with_denials clauses queries) queries names) }
 {}

@@ -1,6 +1,7 @@
 //! What is read of a text fits, and so is read back from its print.
 ghost use Rattle.std.specs.Prelude.{◌≡◌, ℕ, ◌≤◌, true, List, length, None, Some, Ok};
 ghost use Rattle.scasp_syntax.specs.declared.atom.Atom.{Atom};
+ghost use Rattle.scasp_syntax.specs.declared.atom.Pred.{Pred};
 ghost use Rattle.scasp_syntax.specs.declared.clause.Clause.{Clause};
 ghost use Rattle.scasp_syntax.specs.declared.clause.Item.{Item};
 ghost use Rattle.scasp_syntax.specs.declared.clause.Query.{Query};
@@ -21,7 +22,7 @@ ghost use Rattle.scasp_law_program_text.specs.CompoundReadback.Styles.{IsTable};
 ghost use Rattle.scasp_law_program_text.specs.CompoundReadback.Counting.{count_all};
 ghost use Rattle.scasp_law_program_text.specs.ClauseReadback.Fitting.{atom_fits, item_fits, body_fits};
 ghost use Rattle.scasp_law_program_text.specs.ClauseReadback.Counting.{count_item, count_body};
-ghost use Rattle.scasp_law_program_text.specs.ClauseReadback.Parts.{clause_fits, query_fits};
+ghost use Rattle.scasp_law_program_text.specs.ClauseReadback.Parts.{abducible_fits, clause_fits, query_fits};
 ghost use Rattle.scasp_law_program_text.specs.ClauseReadback.Texts.{text_fits};
 ghost use Rattle.scasp_law_program_text.specs.TermFitting.Readers.{known, IsReader, Keeps, Covers};
 
@@ -50,22 +51,23 @@ pub fn bodies_that_are_read_fit()
     ensures reader { (s t : State) (items : List Item) → IsReader s → body s ≡ Ok (items, t) → IsReader t }
 {}
 
-/// A clause or a query that is read fits with the table that it leaves, and with each that keeps its names.
+/// A clause, a query or a predicate that is read fits with the table that it leaves, and with each that keeps its names.
 pub fn clauses_that_are_read_fit()
     ensures clause { (s t : State) (c : Clause) (names : List (List ℕ)) → IsReader s → clause s ≡ Ok (part.Clause c, t) → t.fault ≡ None → Keeps t.names names → clause_fits names c ≡ true }
     ensures query { (s t : State) (q : Query) (names : List (List ℕ)) → IsReader s → clause s ≡ Ok (part.Query q, t) → t.fault ≡ None → Keeps t.names names → query_fits names q ≡ true }
+    ensures abducible { (s t : State) (p : Pred) (names : List (List ℕ)) → IsReader s → clause s ≡ Ok (part.Abducible p, t) → t.fault ≡ None → Keeps t.names names → abducible_fits names p ≡ true }
     ensures reader { (s t : State) (p : Part) → IsReader s → clause s ≡ Ok (p, t) → IsReader t }
 {}
 
 /// What is read of a text, with a table before, fits with the table behind, which is one.
 pub fn texts_that_are_read_fit()
     ensures table { (names : List (List ℕ)) (bytes : List ℕ) (r : Reading) → read names bytes ≡ Ok r → IsTable names → IsTable r.names }
-    ensures fit { (names : List (List ℕ)) (bytes : List ℕ) (r : Reading) → read names bytes ≡ Ok r → IsTable names → text_fits r.names r.clauses r.queries ≡ true }
+    ensures fit { (names : List (List ℕ)) (bytes : List ℕ) (r : Reading) → read names bytes ≡ Ok r → IsTable names → text_fits r.names r.abducibles r.clauses r.queries ≡ true }
 {}
 
-/// A program that is read is read again from its text, with the table that it left: the same clauses, queries and
-/// names, where the text is within the limit of bytes.
+/// A program that is read is read again from its text, with the table that it left: the same clauses, queries,
+/// predicates that may be assumed and names, where the text is within the limit of bytes.
 pub fn programs_that_are_read_are_read_again()
-    ensures { (names : List (List ℕ)) (bytes : List ℕ) (r : Reading) → program_in names bytes ≡ Ok r → IsTable names → length (program_text r.names r.clauses r.queries) ≤ BYTE_LIMIT
-        → program_in r.names (program_text r.names r.clauses r.queries) ≡ Ok r }
+    ensures { (names : List (List ℕ)) (bytes : List ℕ) (r : Reading) → program_in names bytes ≡ Ok r → IsTable names → length (program_text r.names r.abducibles r.clauses r.queries) ≤ BYTE_LIMIT
+        → program_in r.names (program_text r.names r.abducibles r.clauses r.queries) ≡ Ok r }
 {}

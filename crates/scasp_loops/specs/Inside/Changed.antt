@@ -8,12 +8,6 @@ changed n f [] = []
 changed zero f (x ∷ xs) = f x ∷ xs
 changed (suc n) f (x ∷ xs) = x ∷ changed n f xs
 
--- the first items, so many, changed
-abbrev pub changed_to : {T : Type 0} → ℕ → (T → T) → List T → List T
-changed_to zero f xs = xs
-changed_to (suc n) f [] = []
-changed_to (suc n) f (x ∷ xs) = f x ∷ changed_to n f xs
-
 abbrev pub looped : Marks → Marks
 looped m = record m { loops = true }
 

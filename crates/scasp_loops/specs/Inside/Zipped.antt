@@ -31,7 +31,7 @@ pub record Fit (entries : Past Entry) (marks : Past Marks) : Type 0 where
   pub now : length marks.now ≤ length entries.now
   pub before : FitEach entries.before marks.before
 
--- the entry stands at this place of the new list, which has the first items of the old one
-pub record StandsAt (n : ℕ) (e : Entry) (old new : List Entry) : Type 0 where
-  pub there : slice_get new n ≡ Some e
+-- the item stands at this place of the new list, which has the first items of the old one
+pub record StandsAt {T : Type 0} (n : ℕ) (x : T) (old new : List T) : Type 0 where
+  pub there : slice_get new n ≡ Some x
   pub first : take n new ≡ take n old

@@ -3,7 +3,8 @@ use Rattle.std.proofs.Common.{◌≡◌, ℕ, zero, suc, ◌+◌, Bool, true, fa
 use Rattle.std.specs.List.{list_all}
 use Rattle.std.specs.Str.{bytes_eq}
 use Rattle.std.proofs.lemmas.Bool.{and_parts, and_from}
-use Rattle.scasp_syntax.specs.WellFormed.{is_item_below, is_head_below, is_clause_well_formed, is_query_well_formed, are_well_formed}
+use Rattle.scasp_name.specs.Texts.{with_text}
+use Rattle.scasp_syntax.specs.WellFormed.{is_item_below, is_head_below, is_clause_well_formed, is_query_well_formed, are_abducible, are_well_formed}
 use Rattle.scasp_syntax.specs.declared.atom.Atom.{Atom}
 use Rattle.scasp_syntax.specs.declared.clause.Item.{Item}
 use Rattle.scasp_reader_tokens.specs.declared.sign.Sign.{Sign}
@@ -15,15 +16,17 @@ use Rattle.scasp_reader_terms.specs.declared.fault.Count.TheVariants as count
 use Rattle.scasp_reader_terms.specs.declared.fault.Fault.{Fault}
 use Rattle.scasp_reader_terms.specs.declared.fault.Kind.TheVariants as kind
 use Rattle.scasp_reader_terms.specs.Faults.{fault_at}
-use Rattle.scasp_reader_terms.specs.Steps.{State, ◌>>=◌, give, stop_at, behind, place_of, token_of, start}
+use Rattle.scasp_reader_terms.specs.Steps.{State, ◌>>=◌, expect, give, stop_at, behind, place_of, token_of, start}
 use Rattle.scasp_reader_terms.specs.Names.{interned}
 use Rattle.scasp_reader.specs.declared.texts.clauses.Part.{Part}
 use Rattle.scasp_reader.specs.declared.texts.clauses.Part.TheVariants as part
 use Rattle.scasp_reader.specs.declared.texts.texts.Parts.{Parts}
 use Rattle.scasp_reader.specs.declared.texts.texts.Reading.{Reading}
 use Rattle.scasp_reader.specs.declared.texts.texts.TheConstants.{BYTE_LIMIT, CLAUSE_LIMIT}
+use Rattle.scasp_reader.specs.Texts.Abducibles.{parameters, abducible_at, abducible}
 use Rattle.scasp_reader.specs.Texts.Clauses.{ended, with_body, headed, name_of, named, query, clause_at_sign, clause_at, without_variables, clause}
-use Rattle.scasp_reader.specs.Texts.Texts.{part_at, next_part, no_parts, part_count, with_part, is_end, parts_within, parts, settled, told, reading_of, read}
+use Rattle.scasp_reader.specs.Texts.Texts.{part_at, next_part, no_parts, part_count, with_part, is_end, parts_within, parts, read_parts, settled, told, reading_of, read}
+use Rattle.scasp_reader.proofs.ProgramsLemmas.AbducibleKeeping.{is_positive, first-abducible}
 use Rattle.scasp_reader.proofs.ProgramsLemmas.Keeping.{Post, Post_ok, Post_err, Post_then, Post_next, zero_least, Any, le_self, taken_keeps, expect_keeps, Lasts, AllOf, AllOf-lasts}
 use Rattle.scasp_reader.proofs.ProgramsLemmas.TermKeeping.{AreBelow-lasts}
 use Rattle.scasp_reader.proofs.ProgramsLemmas.ItemKeeping.{atom_keeps, IsAtom, IsItem, IsItem-lasts, body_keeps}
@@ -36,6 +39,7 @@ all_items n (i ∷ items) h = and_from (is_item_below n i) (list_all (is_item_be
 abbrev pub IsPart : ℕ → Part → Type 0
 IsPart n (part.Clause c) = is_clause_well_formed c ≡ true
 IsPart n (part.Query q) = is_query_well_formed q ≡ true
+IsPart n (part.Abducible a) = is_positive a ≡ true
 IsPart n part.Directive = Unit {0}
 IsPart n part.End = Unit {0}
 
@@ -100,6 +104,20 @@ query_keeps s =
     Post_ok IsPart _ _ z (le_self _)
     (all_items (length names) items (subst (λ (m : ℕ). AllOf IsItem m items) (sym k) (AllOf-lasts IsItem IsItem-lasts _ _ le2 items h))))))
 
+-- ---- predicates that may be assumed
+
+anything_keeps : {A : Type 0} (r : Result (A × State) Fault) → Post Any 0 r
+anything_keeps r = record { more = λ x t e. zero_least _; holds = λ x t e. tt }
+
+abducible_keeps : (s : State) → Post IsPart 0 (abducible s)
+abducible_keeps s = by (token_of (behind s).tokens)
+  where
+    by : (o : Option Token) → Post IsPart 0 (abducible_at o (behind s))
+    by (Some (token.Name text)) =
+        Post_next Any IsPart _ _ (anything_keeps (parameters (record (behind (behind s)) { names = with_text s.names text })))
+        (λ n t u. Post_next Any IsPart _ _ (anything_keeps (expect sign.Stop t)) (λ v w x. Post_ok IsPart _ _ w (zero_least _) refl))
+    by o = Post_err IsPart _ _
+
 -- ---- parts
 
 clause_keeps : (s : State) → Post IsPart 0 (clause s)
@@ -115,6 +133,7 @@ clause_keeps s = by (token_of s.tokens)
     by : (o : Option Token) → Post IsPart 0 (clause_at o (without_variables s))
     by (Some (token.Name text)) = headed_keeps (without_variables s)
     by (Some (token.Sign g)) = sign_by g
+    by (Some token.Abducible) = abducible_keeps (without_variables s)
     by o = Post_err IsPart _ _
 
 next_part_keeps : (n : ℕ) (s : State) → Post IsPart 0 (next_part n s)
@@ -134,8 +153,12 @@ next_part_keeps n s = by (place_of s.tokens) (token_of s.tokens)
     by at (Some token.Unclosed) = Post_err IsPart _ _
     by at o = limited (nat_le CLAUSE_LIMIT n)
 
+record AreSound (p : Parts) : Type 0 where
+  well_formed : are_well_formed p.clauses p.queries ≡ true
+  positive : list_all is_positive p.abducibles ≡ true
+
 abbrev AreParts : ℕ → Parts → Type 0
-AreParts n p = are_well_formed p.clauses p.queries ≡ true
+AreParts n p = AreSound p
 
 list_all-push : {A : Type 0} (f : A → Bool) (xs : List A) (x : A) → list_all f xs ≡ true → f x ≡ true → list_all f (xs ++ x ∷ []) ≡ true
 list_all-push f [] x h k = and_from (f x) true k refl
@@ -143,11 +166,18 @@ list_all-push f (y ∷ ys) x h k = let p = and_parts (f y) (list_all f ys) h in 
 
 with_part-AreParts : (p : Parts) (q : Part) (n m : ℕ) → AreParts n p → IsPart n q → AreParts m (with_part p q)
 with_part-AreParts p (part.Clause c) n m h k =
-    let w = and_parts (list_all is_clause_well_formed p.clauses) (list_all is_query_well_formed p.queries) h in
-    and_from (list_all is_clause_well_formed (p.clauses ++ c ∷ [])) (list_all is_query_well_formed p.queries) (list_all-push is_clause_well_formed p.clauses c w.0 k) w.1
+    let w = and_parts (list_all is_clause_well_formed p.clauses) (list_all is_query_well_formed p.queries) h.well_formed in
+    record {
+      well_formed = and_from (list_all is_clause_well_formed (p.clauses ++ c ∷ [])) (list_all is_query_well_formed p.queries) (list_all-push is_clause_well_formed p.clauses c w.0 k) w.1;
+      positive = h.positive;
+    }
 with_part-AreParts p (part.Query q) n m h k =
-    let w = and_parts (list_all is_clause_well_formed p.clauses) (list_all is_query_well_formed p.queries) h in
-    and_from (list_all is_clause_well_formed p.clauses) (list_all is_query_well_formed (p.queries ++ q ∷ [])) w.0 (list_all-push is_query_well_formed p.queries q w.1 k)
+    let w = and_parts (list_all is_clause_well_formed p.clauses) (list_all is_query_well_formed p.queries) h.well_formed in
+    record {
+      well_formed = and_from (list_all is_clause_well_formed p.clauses) (list_all is_query_well_formed (p.queries ++ q ∷ [])) w.0 (list_all-push is_query_well_formed p.queries q w.1 k);
+      positive = h.positive;
+    }
+with_part-AreParts p (part.Abducible a) n m h k = record { well_formed = h.well_formed; positive = list_all-push is_positive p.abducibles a h.positive k }
 with_part-AreParts p part.Directive n m h k = h
 with_part-AreParts p part.End n m h k = h
 
@@ -163,22 +193,33 @@ parts_within_keeps (suc n) p s h =
 
 parts_keeps : (s : State) → Post AreParts 0 (parts s)
 unfolding parts
-parts_keeps s = parts_within_keeps (length s.tokens) no_parts s refl
+parts_keeps s = parts_within_keeps (length s.tokens) no_parts s (record { well_formed = refl; positive = refl })
 
-pub read-well_formed : (names : List (List ℕ)) (bytes : List ℕ) (r : Reading) → read names bytes ≡ Ok r → are_well_formed r.clauses r.queries ≡ true
+record IsKept (r : Reading) : Type 0 where
+  well_formed : are_well_formed r.clauses r.queries ≡ true
+  abducible : are_abducible r.abducibles ≡ true
+
+read-kept : (names : List (List ℕ)) (bytes : List ℕ) (r : Reading) → read names bytes ≡ Ok r → IsKept r
 unfolding read
-read-well_formed names bytes r e = by (nat_lt BYTE_LIMIT (length bytes)) e
+read-kept names bytes r e = by (nat_lt BYTE_LIMIT (length bytes)) e
   where
-    last : (p : Parts) (t : State) (o : Option Fault) → AreParts 0 p → settled p t o ≡ Ok r → are_well_formed r.clauses r.queries ≡ true
+    last : (p : Parts) (t : State) (o : Option Fault) → AreParts 0 p → settled p t o ≡ Ok r → IsKept r
     last p t None h e =
-        let q : record { clauses = p.clauses; queries = p.queries; names = t.names } ≡ r = cc in
-        subst (λ (w : Reading). are_well_formed w.clauses w.queries ≡ true) q h
+        let q : read_parts p t.names ≡ r = cc in
+        let kept : IsKept (read_parts p t.names) = record { well_formed = h.well_formed; abducible = first-abducible p.abducibles h.positive } in
+        subst IsKept q kept
     last p t (Some f) h e = cc
 
-    step : (x : Result (Parts × State) Fault) → Post AreParts 0 x → told x ≡ Ok r → are_well_formed r.clauses r.queries ≡ true
+    step : (x : Result (Parts × State) Fault) → Post AreParts 0 x → told x ≡ Ok r → IsKept r
     step (Err f) h e = cc
     step (Ok x) h e = last x.0 x.1 x.1.fault (h.holds x.0 x.1 refl) e
 
-    by : (b : Bool) → (if b then Err (fault_at BYTE_LIMIT (kind.Limit count.Bytes)) else reading_of (tokens_of bytes) names) ≡ Ok r → are_well_formed r.clauses r.queries ≡ true
+    by : (b : Bool) → (if b then Err (fault_at BYTE_LIMIT (kind.Limit count.Bytes)) else reading_of (tokens_of bytes) names) ≡ Ok r → IsKept r
     by true e = cc
     by false e = step (parts (start (tokens_of bytes) names)) (parts_keeps (start (tokens_of bytes) names)) e
+
+pub read-well_formed : (names : List (List ℕ)) (bytes : List ℕ) (r : Reading) → read names bytes ≡ Ok r → are_well_formed r.clauses r.queries ≡ true
+read-well_formed names bytes r e = (read-kept names bytes r e).well_formed
+
+pub read-abducible : (names : List (List ℕ)) (bytes : List ℕ) (r : Reading) → read names bytes ≡ Ok r → are_abducible r.abducibles ≡ true
+read-abducible names bytes r e = (read-kept names bytes r e).abducible

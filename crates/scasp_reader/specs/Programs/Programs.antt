@@ -15,7 +15,7 @@ use Rattle.scasp_reader.specs.Texts.Texts.{read}
 abbrev pub call_of : Bool → Pred → Item
 call_of minus p = form.Call (record { positive = true; atom = record { minus = minus; name = p.name; args = variables_from 0 p.arity } })
 
--- what was read, with a denial behind its clauses for each -p that occurs
+-- what was read, with a denial behind its clauses for each -p that occurs; that a predicate may be assumed is no occurrence
 abbrev pub completed : Result Reading Fault → Result Reading Fault
 completed (Ok r) = Ok (record r { clauses = with_denials r.clauses r.queries })
 completed (Err f) = Err f
@@ -25,7 +25,7 @@ abbrev pub program_in : List (List ℕ) → List ℕ → Result Reading Fault
 program_in names bytes = completed (read names bytes)
 
 abbrev pub reading_of : Program × List (List ℕ) → Reading
-reading_of x = record { clauses = x.0.clauses; queries = x.0.queries; names = x.1 }
+reading_of x = record { clauses = x.0.clauses; queries = x.0.queries; abducibles = x.0.abducibles; names = x.1 }
 
 -- what the code answers is what is read; want of memory is free
 abbrev pub Gives : Result (Program × List (List ℕ)) Stop → Result Reading Fault → Type 0

@@ -1,5 +1,5 @@
 -- Clauses, queries and directives.
---     clause := atom [":-" body] "." | ":-" body "." | "?-" body "."
+--     clause := atom [":-" body] "." | ":-" body "." | "?-" body "." | abducible
 use Rattle.std.specs.Prelude.{ℕ, List, [], ◌∷◌, ◌++◌, length, codes, if◌then◌else◌, Option, None, Some}
 use Rattle.std.specs.Str.{bytes_eq}
 use Rattle.scasp_syntax.specs.declared.atom.Atom.{Atom}
@@ -14,6 +14,7 @@ use Rattle.scasp_reader.specs.Bodies.Atoms.{atom}
 use Rattle.scasp_reader.specs.Bodies.Bodies.{body}
 use Rattle.scasp_reader.specs.declared.texts.clauses.Part.{Part}
 use Rattle.scasp_reader.specs.declared.texts.clauses.Part.TheVariants as part
+use Rattle.scasp_reader.specs.Texts.Abducibles.{abducible}
 
 -- the clause of this head and body, at its stop
 abbrev pub ended : Option Atom → List Item → Read Part
@@ -69,6 +70,7 @@ clause_at_sign s = unexpected
 abbrev pub clause_at : Option Token → Read Part
 clause_at (Some (token.Name text)) = headed
 clause_at (Some (token.Sign s)) = clause_at_sign s
+clause_at (Some token.Abducible) = abducible
 clause_at t = unexpected
 
 -- another clause has no variables yet

@@ -5,6 +5,7 @@ use Rattle.scasp_num.specs.Gcd.{gcd, gcd_within}
 use Rattle.scasp_num.specs.Arithmetic.{lowest}
 use Rattle.scasp_name.specs.Texts.{list_names}
 use Rattle.scasp_syntax.specs.Tm.{var, cons, nil}
+use Rattle.scasp_syntax.specs.declared.atom.Pred.{Pred}
 use Rattle.scasp_syntax.specs.declared.clause.Item.TheVariants.{Call}
 use Rattle.scasp_reader_tokens.specs.Numbers.{literal_value}
 use Rattle.scasp_reader_tokens.specs.Tokens.{tokens_of}
@@ -41,6 +42,18 @@ a_product : Refused (codes "p. p :- X*Y #= 1.") 9 kind.NotLinear
 unfolding read parts next_part clause body item tokens_of term expression literal_value lowest gcd gcd_within
 a_product = refl
 
+a_variable_again : Refused (codes "#abducible p(X,X).") 15 kind.Expected
+unfolding read parts next_part clause tokens_of
+a_variable_again = refl
+
+an_abducible_number : Refused (codes "#abducible p(1).") 13 kind.Expected
+unfolding read parts next_part clause tokens_of
+an_abducible_number = refl
+
+an_abducible_negation : Refused (codes "#abducible -p.") 11 kind.Expected
+unfolding read parts next_part clause tokens_of
+an_abducible_negation = refl
+
 another_directive : Refused (codes "p. #table q/1.") 3 kind.Unsupported
 unfolding read parts next_part clause tokens_of term
 another_directive = refl
@@ -64,7 +77,22 @@ a_program : read list_names (codes "#show q/0. q(X). ?- -q(Y), not q(_).")
                 ∷ Call (record { positive = false; atom = record { minus = false; name = 2; args = cons (var 1) nil } }) ∷ [];
             names = Some 3 ∷ None ∷ [];
           } ∷ [];
+      abducibles = [];
       names = codes "[]" ∷ codes "[|]" ∷ codes "q" ∷ codes "Y" ∷ [];
     })
 unfolding read parts next_part clause body item tokens_of term
 a_program = refl
+
+abbrev pred : ℕ → ℕ → Pred
+pred name arity = record { minus = false; name = name; arity = arity }
+
+-- each predicate once, by its number of arguments too
+abducible_predicates : read list_names (codes "#abducible p(X,_,_). q. #abducible p. #abducible p(A,B,C).")
+    ≡ Ok (record {
+      clauses = record { head = Some (record { minus = false; name = 3; args = nil }); body = []; vars = 0 } ∷ [];
+      queries = [];
+      abducibles = pred 2 3 ∷ pred 2 0 ∷ [];
+      names = codes "[]" ∷ codes "[|]" ∷ codes "p" ∷ codes "q" ∷ [];
+    })
+unfolding read parts next_part clause tokens_of term
+abducible_predicates = refl

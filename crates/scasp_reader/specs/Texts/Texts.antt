@@ -1,5 +1,6 @@
 -- Whole texts: clauses, queries and directives up to the end.
 use Rattle.std.specs.Prelude.{◌≡◌, ℕ, zero, suc, ◌+◌, Bool, true, false, nat_lt, nat_le, List, [], ◌∷◌, ◌++◌, length, if◌then◌else◌, Option, None, Some, Result, Ok, Err}
+use Rattle.scasp_syntax.specs.Programs.{first_occurrences}
 use Rattle.scasp_reader_tokens.specs.declared.token.Token.{Token}
 use Rattle.scasp_reader_tokens.specs.declared.token.Token.TheVariants as token
 use Rattle.scasp_reader_tokens.specs.declared.token.Placed.{Placed}
@@ -20,7 +21,7 @@ use Rattle.scasp_reader.specs.Texts.Clauses.{clause}
 
 -- ---- one part
 
--- one more clause or query behind so many
+-- one more clause, of any kind, behind so many
 abbrev pub limited_clause : ℕ → Read Part
 limited_clause n s = if nat_le CLAUSE_LIMIT n then stop_at (place_of s.tokens) (kind.Limit count.Clauses) s else clause s
 
@@ -29,7 +30,7 @@ skipped = do
   t ← take
   give part.Directive
 
--- what stands behind so many clauses and queries
+-- what stands behind so many clauses, of any kind
 abbrev pub part_at : ℕ → ℕ → Option Token → Read Part
 part_at n at (Some token.End) = give part.End
 part_at n at (Some token.SkippedDirective) = skipped
@@ -45,20 +46,22 @@ next_part n s = part_at n (place_of s.tokens) (token_of s.tokens) s
 -- ---- all parts
 
 abbrev pub no_parts : Parts
-no_parts = record { clauses = []; queries = [] }
+no_parts = record { clauses = []; queries = []; abducibles = [] }
 
 abbrev pub part_count : Parts → ℕ
-part_count p = length p.clauses + length p.queries
+part_count p = length p.clauses + length p.queries + length p.abducibles
 
 abbrev pub with_part : Parts → Part → Parts
 with_part p (part.Clause c) = record p { clauses = p.clauses ++ c ∷ [] }
 with_part p (part.Query q) = record p { queries = p.queries ++ q ∷ [] }
+with_part p (part.Abducible a) = record p { abducibles = p.abducibles ++ a ∷ [] }
 with_part p part.Directive = p
 with_part p part.End = p
 
 abbrev pub is_end : Part → Bool
 is_end (part.Clause c) = false
 is_end (part.Query q) = false
+is_end (part.Abducible a) = false
 is_end part.Directive = false
 is_end part.End = true
 
@@ -75,9 +78,13 @@ parts s = parts_within (length s.tokens) no_parts s
 
 -- ---- the text
 
--- what was read, where no fault was noted
+-- what was read: each abducible predicate stands where it first occurs
+abbrev pub read_parts : Parts → List (List ℕ) → Reading
+read_parts p names = record { clauses = p.clauses; queries = p.queries; abducibles = first_occurrences p.abducibles; names = names }
+
+-- where no fault was noted
 abbrev pub settled : Parts → State → Option Fault → Result Reading Fault
-settled p s None = Ok (record { clauses = p.clauses; queries = p.queries; names = s.names })
+settled p s None = Ok (read_parts p s.names)
 settled p s (Some f) = Err f
 
 abbrev pub told : Result (Parts × State) Fault → Result Reading Fault

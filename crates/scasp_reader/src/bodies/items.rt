@@ -27,7 +27,8 @@ pub fn item(reader: &mut Reader<'_>, alloc: Global) -> Result<Item, Stop>
         Token::Variable(_) => unnamed_item(reader, alloc),
         Token::Number(_) => unnamed_item(reader, alloc),
         Token::Sign(sign) => item_at_sign(reader, alloc, *sign),
-        Token::SkippedDirective
+        Token::Abducible
+        | Token::SkippedDirective
         | Token::UnclosedDirective
         | Token::OtherDirective
         | Token::BadByte

@@ -4,11 +4,12 @@ ghost use Rattle.scasp_reader_terms.specs.Steps.{Does, token_of};
 ghost use Rattle.scasp_reader.specs.Texts.Clauses.{ended, with_body, headed, denial, name_of, named, query, clause_at_sign, clause_at, clause};
 
 use crate::bodies::{atom, body};
+use crate::texts::abducibles::abducible;
 use scasp_list::{Memory, Sequence};
 use scasp_name::NameId;
 use scasp_reader_terms::{Reader, Stop};
 use scasp_reader_tokens::{Sign, Text, Token};
-use scasp_syntax::{Atom, Clause, Items, Query, VarNames};
+use scasp_syntax::{Atom, Clause, Items, Pred, Query, VarNames};
 use std::alloc::Global;
 
 /// What stands at a place of a text.
@@ -16,6 +17,8 @@ use std::alloc::Global;
 pub enum Part {
     Clause(Clause),
     Query(Query),
+    /// A predicate that may be assumed.
+    Abducible(Pred),
     /// A directive that is skipped.
     Directive,
     /// The end of the text.
@@ -30,13 +33,13 @@ impl Part {
         ensures { result ≡ is_end self.now }
     {
         match self {
-            Part::Clause(_) | Part::Query(_) | Part::Directive => false,
+            Part::Clause(_) | Part::Query(_) | Part::Abducible(_) | Part::Directive => false,
             Part::End => true,
         }
     }
 }
 
-/// `atom [":-" body] "." | ":-" body "." | "?-" body "."`
+/// `atom [":-" body] "." | ":-" body "." | "?-" body "." | abducible`
 #[tactic(auto, unfolding(crate::specs::Texts::Clauses::clause))]
 pub fn clause(reader: &mut Reader<'_>, alloc: Global) -> Result<Part, Stop>
     ensures { Does (λ x. x) clause reader.old result reader.new }
@@ -54,6 +57,7 @@ fn clause_here(reader: &mut Reader<'_>, alloc: Global) -> Result<Part, Stop>
     match token {
         Token::Name(_) => headed(reader, alloc),
         Token::Sign(sign) => clause_at_sign(reader, alloc, *sign),
+        Token::Abducible => abducible(reader, alloc),
         Token::Not
         | Token::Variable(_)
         | Token::Number(_)

@@ -1,10 +1,9 @@
 use Rattle.std.proofs.Common.{◌≡◌}
-use Rattle.scasp_bound.specs.Inside.Pairs.{is_same}
-use Rattle.scasp_bound.proofs.PairLemmas.{all_same, all_work}
+use Rattle.scasp_bound.specs.Inside.Pairs.{is_same, work}
 use Rattle.scasp_bound.proofs.sameness.are_same.Given as goal
 
-abbrev pub invariant-pairs : goal.invariant-pairs
-invariant-pairs l = all_same l.bindings l.unseen.items ≡ is_same l.bindings l.pair
+abbrev pub invariant-firsts : goal.invariant-firsts
+invariant-firsts l = is_same l.bindings l.next ≡ is_same l.bindings l.pair
 
-abbrev pub decreases-pairs : goal.decreases-pairs
-decreases-pairs l = all_work l.bindings l.unseen.items
+abbrev pub decreases-firsts : goal.decreases-firsts
+decreases-firsts l = work l.bindings l.next

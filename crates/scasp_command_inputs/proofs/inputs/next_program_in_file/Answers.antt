@@ -1,12 +1,14 @@
-use Rattle.scasp_command_inputs.proofs.InputLemmas.{long-program, text-refused}
+use Rattle.scasp_command_inputs.specs.Inputs.{IsNoProgramBehind, outside}
+use Rattle.scasp_command_inputs.proofs.ProgramLemmas.{memory-line, program-translated}
 use Rattle.scasp_command_inputs.proofs.inputs.next_program_in_file.Goals as goal
+
+pub returns-in-Ok-clause-ok : goal.returns-in-Ok-clause-ok
+returns-in-Ok-clause-ok g c =
+    program-translated c.args.names (g.F.Files.told c.args.files.now c.args.file.now) c.in-Ok.program c.in-Ok.names c.translated.result
+    c.in-Ok.ensures.ok c.translated.ensures.ok
 
 pub returns-in-Ok-clause-err : goal.returns-in-Ok-clause-err
 returns-in-Ok-clause-err g c =
-    text-refused (g.F.Files.told c.args.files.now) (g.F.Files.faults c.args.files.now) _ c.args.file.now c.args.names
-    c.in-Ok.bytes.items c.as_slice.result.now c.read_text_behind.result c.as_slice.ensures.value c.in-Ok.ensures.whole c.read_text_behind.ensures.err
-
-pub returns-in-Err-TooLong-clause-err : goal.returns-in-Err-TooLong-clause-err
-returns-in-Err-TooLong-clause-err g c =
-    long-program (g.F.Files.told c.args.files.now) (g.F.Files.faults c.args.files.now) (g.F.Files.faults c.read_file.new.files) c.args.file.now c.args.names c.program_refusal.result
-    (c.in-Err-TooLong.ensures.too_long (cc c.in-Err-TooLong.field-0-is)) c.program_refusal.ensures
+    memory-line
+    (IsNoProgramBehind c.args.names (outside (g.F.Files.told c.args.files.now) (g.F.Files.faults c.args.files.now) (g.F.Files.faults c.next_written_in_file.new.files)) c.args.file.now)
+    c.translated.result c.translated.ensures.err

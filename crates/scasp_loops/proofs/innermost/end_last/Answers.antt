@@ -12,7 +12,7 @@ returns-clause-now c =
     let list = c.as_slice-list.result.now in
     let around = c.moves_to-around.result in
     let e : list ≡ c.args.marks.now.now = c.as_slice-list.ensures in
-    let fit : length list ≤ length es = subst (λ (ms : List Marks). length ms ≤ length es) (sym e) c.requires in
+    let fit : length list ≤ length es = subst (λ (ms : List Marks). length ms ≤ length es) (sym e) c.requires.fit in
     ap (literals_from 0 es) (c.in_ok-mark_loop_at.ensures.now ∙ ap (looped_at around) (c.in_ok-mark_done.ensures.now ∙ ap (changed c.in-Some.at done) (sym e)))
     ∙ left_one es list c.len.result c.in-Some.at c.entry_at-entry.result.now c.marks_at-old.result c.moves_on-moves.result around
     (c.len.ensures.len ∙ ap length (sym e)) fit c.in-Some.ensures.open c.entry_at-entry.ensures c.marks_at-old.ensures c.moves_on-moves.ensures c.moves_to-around.ensures.moved

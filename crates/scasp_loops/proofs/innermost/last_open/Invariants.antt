@@ -1,10 +1,11 @@
-use Rattle.std.proofs.Common.{◌≡◌, ◌≤◌}
-use Rattle.scasp_loops.specs.Inside.Open.{open_in}
+use Rattle.std.proofs.Common.{◌≤◌}
+use Rattle.scasp_loops.specs.Inside.Hinted.{Within, is_done}
+use Rattle.scasp_loops.specs.Inside.Zipped.{literals_from}
 use Rattle.scasp_loops.proofs.innermost.last_open.Given as goal
 
 abbrev pub invariant-literals : goal.invariant-literals
 invariant-literals l = record {
-  open_ones : open_in l.left l.entries l.marks ≡ open_in l.count l.entries l.marks;
+  done : Within is_done l.left l.count (literals_from 0 l.entries l.marks);
   within : l.left ≤ l.count;
 }
 

@@ -1,20 +1,25 @@
-use Rattle.std.proofs.Common.{◌+◌, [], ◌++◌, List, ap, drop, filter, map, ◌∙◌}
-use Rattle.scasp_loops.proofs.AskLemmas.{apart_next}
+use Rattle.std.proofs.Common.{◌≡◌, ◌-◌, [], List, Some, ap, arith, slice_get, subst, sym, ◌∙◌}
 use Rattle.scasp_loops.specs.Inside.Asked.{standing}
+use Rattle.scasp_loops.specs.Inside.Hinted.{AreHints}
 use Rattle.scasp_loops.specs.Inside.Zipped.{literals_from}
-use Rattle.scasp_search_rules.specs.Successors.Calls.{differing, is_opposite}
-use Rattle.scasp_search_rules.specs.declared.states.state.State.{State}
-use Rattle.scasp_syntax.specs.declared.atom.Lit.{Lit}
-use Rattle.scasp_syntax.specs.declared.con.Con.{Con}
+use Rattle.scasp_loops.specs.declared.entry.Entry.{Entry}
+use Rattle.scasp_loops.specs.declared.entry.Marks.{Marks}
+use Rattle.scasp_search_rules.specs.declared.states.state.Literal.{Literal}
+use Rattle.scasp_loops.proofs.AskLemmas.{apart_next}
 use Rattle.scasp_loops.proofs.opposing.all_differing.Goals as goal
 
 pub literals-preserved : goal.literals-preserved
 literals-preserved c =
-    let s : State = standing c.args.variables.now.now c.args.bound.now.now [] in
-    let l : Lit = c.args.lit.now in
-    let es = c.args.entries.now in
-    let ms = c.args.marks.now in
-    let at = c.literals.at in
-    ap (λ (xs : List Con). xs ++ map (differing l) (filter (is_opposite s l) (drop (at + 1) (literals_from 0 es ms)))) c.in_ok-push_differing.ensures
-    ∙ apart_next s l c.literals.made c.in_ok-are_opposite.are_opposite es ms at c.entry_at-entry.result.now c.marks_at.result c.entry_at-entry.ensures c.marks_at.ensures c.in_ok-are_opposite.ensures
-    ∙ c.literals.invariant
+    let es : List Entry = c.args.lists.now.entries.now in
+    let ms : List Marks = c.args.lists.now.marks.now in
+    let ls : List Literal = literals_from 0 es ms in
+    let at = c.literals.left - 1 in
+    let entry : slice_get es at ≡ Some c.entry_at-entry.result.now = ap (λ (xs : List Entry). slice_get xs at) (sym c.as_slice-entries.ensures) ∙ c.entry_at-entry.ensures in
+    let marks : slice_get ms at ≡ Some c.marks_at.result = ap (λ (xs : List Marks). slice_get xs at) (sym c.as_slice-marks.ensures) ∙ c.marks_at.ensures in
+    let hints : AreHints ls c.as_slice-hints.result.now = subst (AreHints ls) (sym c.as_slice-hints.ensures) c.requires.hinted.hints in
+    record {
+      made = apart_next (standing c.args.variables.now.now c.args.bound.now.now []) c.args.lit.now es ms c.key_of-key.result c.same_before-left.result c.literals.left c.entry_at-entry.result.now c.marks_at.result
+          c.in_ok-are_opposite.are_opposite c.literals.made c.push_differing.new.list c.key_of-key.ensures (omega arith) c.same_before-left.ensures.place entry marks c.in_ok-are_opposite.ensures
+          (c.same_before-left.ensures.others ls hints) c.in_ok-push_differing.ensures c.literals.invariant.made;
+      within = omega arith;
+    }

@@ -1,13 +1,14 @@
-use Rattle.std.proofs.Common.{◌≡◌, ◌-◌, [], ◌++◌, drop, filter, length, map}
+use Rattle.std.proofs.Common.{◌≡◌, ◌≤◌, [], drop, filter, length, map, reverse}
 use Rattle.scasp_loops.specs.Inside.Asked.{standing}
 use Rattle.scasp_loops.specs.Inside.Zipped.{literals_from}
 use Rattle.scasp_search_rules.specs.Successors.Calls.{differing, is_opposite}
 use Rattle.scasp_loops.proofs.opposing.all_differing.Given as goal
 
 abbrev pub invariant-literals : goal.invariant-literals
-invariant-literals l =
-    l.made ++ map (differing l.lit) (filter (is_opposite (standing l.variables.now l.bound.now []) l.lit) (drop l.at (literals_from 0 l.entries l.marks)))
-    ≡ map (differing l.lit) (filter (is_opposite (standing l.variables.now l.bound.now []) l.lit) (literals_from 0 l.entries l.marks))
+invariant-literals l = record {
+  made : map (differing l.lit) (filter (is_opposite (standing l.variables.now l.bound.now []) l.lit) (drop l.left (literals_from 0 l.lists.entries.now l.lists.marks.now))) ≡ reverse l.made;
+  within : l.left ≤ length l.lists.marks.now;
+}
 
 abbrev pub decreases-literals : goal.decreases-literals
-decreases-literals l = length l.marks - l.at
+decreases-literals l = l.left

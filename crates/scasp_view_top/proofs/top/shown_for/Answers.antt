@@ -2,7 +2,7 @@ use Rattle.std.proofs.Common.{◌≡◌, ◌∙◌, ap, sym, Global, List, ℕ, 
 use Rattle.scasp_command_inputs.specs.Inputs.{outside}
 use Rattle.scasp_view_top.proofs.ReportLemmas.{line-shown, usage-shown}
 use Rattle.scasp_view_words.specs.Asked.{asked_of}
-use Rattle.scasp_view_words.specs.declared.asked.Asked.TheVariants.{Place, Program}
+use Rattle.scasp_view_words.specs.declared.asked.Asked.TheVariants.{Answers, Place, Program}
 use Rattle.scasp_view_top.proofs.top.shown_for.Goals as goal
 
 pub returns-in-Ok-Place : goal.returns-in-Ok-Place
@@ -17,6 +17,17 @@ returns-in-Ok-Program g c =
     line-shown (asked_of (map (string_bytes {Z = Global}) c.args.words.now.items))
     (outside (g.F.Files.told c.args.files.now) (g.F.Files.faults c.args.files.now) (g.F.Files.faults c.program_shown.new.files)) c.program_shown.result
     (Program c.as_str.result.now) (c.in-Ok-Program.ensures.ok ∙ ap Some (c.in-Ok-Program.field-0-is ∙ sym named)) c.program_shown.ensures
+
+pub returns-in-Ok-Answers : goal.returns-in-Ok-Answers
+returns-in-Ok-Answers g c =
+    let named : Answers c.as_str-in-Ok-Answers.result.now c.as_str-in-Ok-Answers-2.result.now c.in-Ok-Answers.options ≡ Answers c.in-Ok-Answers.program c.in-Ok-Answers.answers c.in-Ok-Answers.options =
+    ap (λ (file : List ℕ). Answers file c.as_str-in-Ok-Answers-2.result.now c.in-Ok-Answers.options) c.as_str-in-Ok-Answers.ensures
+    ∙ ap (λ (file : List ℕ). Answers c.in-Ok-Answers.program file c.in-Ok-Answers.options) c.as_str-in-Ok-Answers-2.ensures
+    in
+    line-shown (asked_of (map (string_bytes {Z = Global}) c.args.words.now.items))
+    (outside (g.F.Files.told c.args.files.now) (g.F.Files.faults c.args.files.now) (g.F.Files.faults c.answers_shown.new.files)) c.answers_shown.result
+    (Answers c.as_str-in-Ok-Answers.result.now c.as_str-in-Ok-Answers-2.result.now c.in-Ok-Answers.options)
+    (c.in-Ok-Answers.ensures.ok ∙ ap Some (c.in-Ok-Answers.field-0-is ∙ sym named)) c.answers_shown.ensures
 
 pub returns-in-Err-Usage : goal.returns-in-Err-Usage
 returns-in-Err-Usage g c =

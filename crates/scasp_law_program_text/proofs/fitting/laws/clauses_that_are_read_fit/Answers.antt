@@ -6,5 +6,6 @@ pub returns : goal.returns
 returns c = record {
   clause = λ s t x names r e fine keeps. (clause_holds s r).holds (part.Clause x) t e fine names keeps;
   query = λ s t x names r e fine keeps. (clause_holds s r).holds (part.Query x) t e fine names keeps;
+  abducible = λ s t x names r e fine keeps. (clause_holds s r).holds (part.Abducible x) t e fine names keeps;
   reader = λ s t x r e. ((clause_holds s r).follows x t e).reader;
 }

@@ -1,10 +1,22 @@
-use Rattle.std.proofs.Common.{false}
-use Rattle.scasp_loops.proofs.ZipLemmas.{one_more}
+use Rattle.std.proofs.Common.{false, refl}
+use Rattle.scasp_loops.specs.declared.entry.Entry.{Entry}
+use Rattle.scasp_loops.specs.declared.entry.Marks.{Marks}
+use Rattle.scasp_loops.specs.declared.lists.Lists.{Lists}
+use Rattle.scasp_loops.proofs.SoundLemmas.{opened, sound_opened}
 use Rattle.scasp_loops.proofs.loops.Loops.open.Goals as goal
 
 pub returns-clause-now : goal.returns-clause-now
 returns-clause-now c =
+    let e : Entry = record { lit = c.args.lit; cases = c.args.cases } in
+    let m : Marks = record { is_done = false; loops = false; is_general = false } in
     rw (c.in_ok-push.ensures.now, ← c.self.view_is)
-    (one_more c.self.inside.entries.now c.put_entry.new.entries.now c.self.inside.marks.now
-    (record { lit = c.args.lit; cases = c.args.cases }) (record { is_done = false; loops = false; is_general = false })
-    c.len.result c.len.ensures.len c.self.invariant.now c.in_ok-put_entry.ensures.now)
+    (opened c.self.inside.lists c.prepare.new.lists c.self.inside.latest e m c.self.invariant c.in_ok-prepare.ensures.stands c.in_ok-prepare.ensures.marks)
+
+pub invariant_of-self-2 : goal.invariant_of-self-2
+invariant_of-self-2 c =
+    let e : Entry = record { lit = c.args.lit; cases = c.args.cases } in
+    let m : Marks = record { is_done = false; loops = false; is_general = false } in
+    let p : Lists = c.prepare.new.lists in
+    sound_opened c.self.inside.lists p (record { entries = p.entries; marks = c.push.new.self; hints = p.hints }) c.self.inside.latest c.prepare.new.latest e m c.self.invariant
+    c.in_ok-prepare.ensures.stands c.in_ok-prepare.ensures.more c.in_ok-prepare.ensures.marks c.in_ok-prepare.ensures.entries_before c.in_ok-prepare.ensures.hints_before
+    c.in_ok-prepare.ensures.latest_before refl refl c.in_ok-push.ensures.now c.in_ok-push.ensures.before

@@ -12,4 +12,7 @@ invariant_of-result c =
     let h : are_well_formed w.clauses w.queries ≡ true = w.well_formed in
     let e : c.push_denials.new.clauses ≡ with_denials w.clauses w.queries =
     c.in_ok-push_denials.ensures ∙ ap (λ (ps : List Pred). w.clauses ++ map denial_of (filter (λ (p : Pred). p.minus) ps)) (c.as_slice.ensures ∙ c.in_ok-preds.ensures) in
-    record { well_formed = subst (λ (cs : List Clause). are_well_formed cs w.queries ≡ true) (sym e) (with_denials-well_formed w.clauses w.queries h) }
+    record {
+      well_formed = subst (λ (cs : List Clause). are_well_formed cs w.queries ≡ true) (sym e) (with_denials-well_formed w.clauses w.queries h);
+      choices = w.choices;
+    }

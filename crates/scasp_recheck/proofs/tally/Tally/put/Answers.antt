@@ -7,14 +7,14 @@ use Rattle.scasp_recheck.specs.Views.{filed_cert}
 use Rattle.scasp_recheck.proofs.TallyLemmas.{kept-is}
 use Rattle.scasp_recheck.proofs.tally.Tally.put.Goals as goal
 
-pub returns : goal.returns
-returns c =
-    let p = c.args.edit.now.old.now in
-    let q = c.args.edit.now.new.now in
+pub returns-clause-ok : goal.returns-clause-ok
+returns-clause-ok c =
+    let p = c.args.step.now.edit.old.now in
+    let q = c.args.step.now.edit.new.now in
     let cert = filed_cert c.args.filed.now in
     let before = c.args.self.now in
     let untouched : touched p q cert ≡ false = sym c.touches.ensures ∙ c.if-touches.false in
-    let kept = c.kept.ensures ∙ ap (λ b. kept_by b (verdict_on q cert)) c.requires ∙ kept-is p q cert untouched in
+    let kept = c.kept.ensures.value ∙ ap (λ b. kept_by b (verdict_on q cert)) c.requires ∙ kept-is p q cert untouched in
     let results = c.in_ok-push-2.ensures.ok ∙ ap (λ k. before.results ++ k ∷ []) kept in
     let count = sym (cond-false (touched p q cert) (before.touched + 1) before.touched untouched) in
     λ i. record { results = results i; touched = count i }

@@ -1,0 +1,4 @@
+pub mod NewNameLemmas
+pub mod NameSetLemmas
+pub mod OpposedLemmas
+pub mod RuleLemmas

@@ -1,0 +1,5 @@
+pub mod Examples
+pub mod Inside
+pub mod NewNames
+pub mod Occurrences
+pub mod Translation

@@ -1,0 +1,5 @@
+pub mod Judgements
+pub mod View
+pub mod Blocks
+pub mod Meaning
+pub mod Examples

@@ -1,0 +1,4 @@
+% What is assumed is chosen by two rules behind all clauses.
+#abducible p.
+q :- p.
+?- q.

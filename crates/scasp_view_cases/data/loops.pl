@@ -1,0 +1,4 @@
+% Each holds where the other does not.
+p :- not q.
+q :- not p.
+?- p.
