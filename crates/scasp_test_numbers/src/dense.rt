@@ -1,6 +1,6 @@
 //! Lists whose sums all keep a variable, but for one pair. Lower row `j` and upper row `i` make a row with `i+100j`
 //! times x1 and twice x2, so no two are the same.
-use crate::rows::written;
+use crate::written::row_of;
 use scasp_num::{Op, Row, Rows, Steps};
 use scasp_rows::{LinErr, Verdict, eliminate, is_free_of_disequations};
 use std::alloc::Global;
@@ -50,7 +50,7 @@ static DENSE: [Dense; 5] = [
 ];
 
 fn upper(alloc: Global, x1: u8, x2: i128, constant: i128) -> Result<Row, Fail> {
-    written(
+    row_of(
         alloc,
         &[(0, 1), (1, i128::from(x1)), (2, x2)],
         constant,
@@ -59,7 +59,7 @@ fn upper(alloc: Global, x1: u8, x2: i128, constant: i128) -> Result<Row, Fail> {
 }
 
 fn lower(alloc: Global, x1: i128, x2: i128, constant: i128) -> Result<Row, Fail> {
-    written(alloc, &[(0, -1), (1, x1), (2, x2)], constant, Op::Le)
+    row_of(alloc, &[(0, -1), (1, x1), (2, x2)], constant, Op::Le)
 }
 
 fn rows(alloc: Global, given: &Dense) -> Result<Rows, Fail> {

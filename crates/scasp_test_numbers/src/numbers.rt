@@ -1,4 +1,5 @@
 //! Rows whose expected values were computed with Python's `fractions`.
+use crate::written::is_row;
 use scasp_num::rational::gcd;
 use scasp_num::{Op, Overflow, Rat, RatPair, RatPairs, Row, RowErr, Rows, Step, StepLists, Steps};
 use std::alloc::Global;
@@ -571,19 +572,6 @@ fn pairs(alloc: Global, given: &[(u64, Fraction)]) -> Result<RatPairs, Fail> {
     Ok(pairs)
 }
 
-fn has_terms(row: &Row, terms: &[(u64, i128)]) -> bool {
-    let coeffs = row.coeffs().as_slice();
-    if coeffs.len() != terms.len() {
-        return false;
-    }
-    for (k, (x, c)) in coeffs.iter().zip(terms) {
-        if k.x != *x || k.c != *c {
-            return false;
-        }
-    }
-    true
-}
-
 /// Whether the answer is the row, or Overflow where none is wanted.
 fn is_wanted(answer: &Result<Row, RowErr>, op: Op, want: &Option<(Terms, i128)>) -> bool {
     match answer {
@@ -633,10 +621,6 @@ fn changes(rt: HostRuntime) -> Result<(), Fail> {
 fn low(alloc: Global) -> Result<Row, Fail> {
     let given = pairs(alloc, &[(1, (1, 1))])?;
     Ok(Row::normal(alloc, &given, &number((6, 1))?, Op::Le)?)
-}
-
-fn is_row(row: &Row, terms: &[(u64, i128)], constant: i128, op: Op) -> bool {
-    has_terms(row, terms) && row.constant() == constant && row.op() == op
 }
 
 /// The negation `-V1-6 #< 0` and the row `V1+6 #< 0`.

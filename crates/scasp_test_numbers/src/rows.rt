@@ -1,14 +1,12 @@
 //! Calls whose expected values were computed with Python's whole numbers and `fractions`.
-use scasp_num::{Op, Rat, RatPair, RatPairs, Row, Rows, Steps};
+use crate::written::{Given, Summed, is_row, row_of};
+use scasp_num::{Op, Row, Rows, Steps};
 use scasp_rows::{
     LinErr, Point, RowLists, StepErr, Verdict, are_disequations, eliminate,
     is_free_of_disequations, sample, step,
 };
 use std::alloc::Global;
 use std::test::Fail;
-
-/// A row as it is written: its terms, its constant and how it compares.
-type Given = (&'static [(u64, i128)], i128, Op);
 
 enum Want {
     Row(Given),
@@ -188,7 +186,7 @@ static STEPPINGS: [Stepping; 22] = [
 
 enum Decided {
     Sat,
-    Unsat(&'static [(i128, u64, i128, u64)]),
+    Unsat(&'static [Summed]),
     Overflow,
 }
 
@@ -620,49 +618,19 @@ static SAMPLINGS: [Sampling; 26] = [
     },
 ];
 
-fn whole(z: i128) -> Result<Rat, Fail> {
-    match Rat::new(z, 1) {
-        Ok(number) => Ok(number),
-        Err(_) => Err(Fail::from("too large")),
-    }
-}
-
-pub(crate) fn written(
-    alloc: Global,
-    terms: &[(u64, i128)],
-    constant: i128,
-    op: Op,
-) -> Result<Row, Fail> {
-    let mut pairs = RatPairs::new(alloc);
-    for (x, c) in terms {
-        let value = whole(*c)?;
-        pairs.push(RatPair { x: *x, value })?;
-    }
-    Ok(Row::normal(alloc, &pairs, &whole(constant)?, op)?)
-}
-
 fn row(alloc: Global, given: &Given) -> Result<Row, Fail> {
     let (terms, constant, op) = given;
-    written(alloc, terms, *constant, *op)
+    row_of(alloc, terms, *constant, *op)
 }
 
-fn is_row(row: &Row, want: &Given) -> bool {
+fn is_given(row: &Row, want: &Given) -> bool {
     let (terms, constant, op) = want;
-    let coeffs = row.coeffs().as_slice();
-    if coeffs.len() != terms.len() {
-        return false;
-    }
-    for (k, (x, c)) in coeffs.iter().zip(*terms) {
-        if k.x != *x || k.c != *c {
-            return false;
-        }
-    }
-    row.constant() == *constant && row.op() == *op
+    is_row(row, terms, *constant, *op)
 }
 
 fn is_wanted(answer: &Result<Row, StepErr>, want: &Want) -> bool {
     match answer {
-        Ok(row) => matches!(want, Want::Row(given) if is_row(row, given)),
+        Ok(row) => matches!(want, Want::Row(given) if is_given(row, given)),
         Err(StepErr::Sign) => matches!(want, Want::Sign),
         Err(StepErr::Overflow) => matches!(want, Want::Overflow),
         Err(StepErr::Memory) => false,
@@ -688,7 +656,7 @@ fn rows(alloc: Global, given: &[Given]) -> Result<Rows, Fail> {
     Ok(rows)
 }
 
-fn are_steps(steps: &Steps, want: &[(i128, u64, i128, u64)]) -> bool {
+fn are_steps(steps: &Steps, want: &[Summed]) -> bool {
     let steps = steps.as_slice();
     if steps.len() != want.len() {
         return false;
@@ -729,8 +697,8 @@ fn many(alloc: Global, count: u8) -> Result<Rows, Fail> {
     for i in 1..=count {
         let upper = [(0, 1), (u64::from(i), -1)];
         let lower = [(0, -1), (u64::from(i) + 1000, 1)];
-        rows.push(written(alloc, &upper, 0, Op::Le)?)?;
-        rows.push(written(alloc, &lower, 1, Op::Le)?)?;
+        rows.push(row_of(alloc, &upper, 0, Op::Le)?)?;
+        rows.push(row_of(alloc, &lower, 1, Op::Le)?)?;
     }
     Ok(rows)
 }

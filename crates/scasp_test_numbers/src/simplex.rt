@@ -1,0 +1,4 @@
+//! Linear rows that come and go.
+mod random;
+mod tables;
+mod trials;

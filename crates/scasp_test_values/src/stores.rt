@@ -1,0 +1,4 @@
+//! The trailed stores.
+mod bindings;
+mod diseqs;
+mod shapes;
