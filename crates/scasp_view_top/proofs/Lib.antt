@@ -1,4 +1,3 @@
-pub mod AnswerLemmas
-pub mod PlaceLemmas
 pub mod ProgramLemmas
-pub mod ReportLemmas
+pub mod BlocksLemmas
+pub mod TopLemmas

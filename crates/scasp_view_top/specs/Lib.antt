@@ -1,4 +1,9 @@
-pub mod Places
-pub mod Programs
+pub mod Digits
+pub mod Words
+pub mod Place
+pub mod Program
+pub mod Trees
+pub mod Blocks
+pub mod Clauses
 pub mod Answers
-pub mod Outputs
+pub mod Top

@@ -2,9 +2,13 @@
 #![tactic(auto)]
 
 mod answers;
-mod places;
-mod programs;
-mod texts;
+mod blocks;
+mod clauses;
+pub mod laws;
+mod place;
+mod program;
 mod top;
+mod trees;
+mod words;
 
 pub use top::view;

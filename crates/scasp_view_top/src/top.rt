@@ -1,20 +1,25 @@
-//! The whole call.
+//! The call of `scasp_view`: from its words and the bytes of files to what is shown.
 ghost use Rattle.std.specs.Prelude.{◌≡◌, map, string_bytes};
 ghost use Rattle.scasp_command_inputs.specs.Halts.{IfLine};
 ghost use Rattle.scasp_command_inputs.specs.Inputs.{outside, without_faults};
 ghost use Rattle.scasp_command_inputs.specs.Reports.{Reports};
 ghost use Rattle.scasp_io.specs.Counts.{Rose};
 ghost use Rattle.scasp_io.specs.Taken.{TakesWhole};
-ghost use Rattle.scasp_view_top.specs.Outputs.{HasReadFault, Outputs};
-ghost use Rattle.scasp_view_words.specs.Asked.{asked_of};
+ghost use Rattle.scasp_view_top.specs.Top.Outputs.{HasReadFault, Outputs};
+ghost use Rattle.scasp_view_top.specs.Words.Asked.{asked_of};
 
-use crate::answers::answers_shown;
-use crate::places::place_shown;
-use crate::programs::program_shown;
+mod answers;
+mod places;
+mod programs;
+mod texts;
+
+use crate::top::answers::answers_shown;
+use crate::top::places::place_shown;
+use crate::top::programs::program_shown;
+use crate::words::{Asked, parse_words};
 use scasp_command_inputs::{Halt, Status, line, tell};
 use scasp_command_words::WordErr;
 use scasp_io::{Files, Sink};
-use scasp_view_words::{Asked, parse_words};
 use std::alloc::Global;
 
 const USAGE_LINE: &[u8] =

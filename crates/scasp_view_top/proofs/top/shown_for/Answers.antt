@@ -1,8 +1,8 @@
 use Rattle.std.proofs.Common.{◌≡◌, ◌∙◌, ap, sym, Global, List, ℕ, Some, map, string_bytes}
 use Rattle.scasp_command_inputs.specs.Inputs.{outside}
-use Rattle.scasp_view_top.proofs.ReportLemmas.{line-shown, usage-shown}
-use Rattle.scasp_view_words.specs.Asked.{asked_of}
-use Rattle.scasp_view_words.specs.declared.asked.Asked.TheVariants.{Answers, Place, Program}
+use Rattle.scasp_view_top.proofs.TopLemmas.ReportLemmas.{line-shown, usage-shown}
+use Rattle.scasp_view_top.specs.Words.Asked.{asked_of}
+use Rattle.scasp_view_top.specs.declared.words.asked.Asked.TheVariants.{Answers, Place, Program}
 use Rattle.scasp_view_top.proofs.top.shown_for.Goals as goal
 
 pub returns-in-Ok-Place : goal.returns-in-Ok-Place

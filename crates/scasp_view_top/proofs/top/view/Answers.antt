@@ -1,7 +1,7 @@
 use Rattle.std.proofs.Common.{Global, map, string_bytes}
 use Rattle.scasp_command_inputs.specs.Inputs.{outside}
-use Rattle.scasp_view_top.proofs.ReportLemmas.{completes, halt-reports, read-cause, write-cause}
-use Rattle.scasp_view_words.specs.Asked.{asked_of}
+use Rattle.scasp_view_top.proofs.TopLemmas.ReportLemmas.{completes, halt-reports, read-cause, write-cause}
+use Rattle.scasp_view_top.specs.Words.Asked.{asked_of}
 use Rattle.scasp_view_top.proofs.top.view.Goals as goal
 
 pub returns : goal.returns

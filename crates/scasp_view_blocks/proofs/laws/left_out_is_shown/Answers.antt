@@ -1,5 +1,0 @@
-use Rattle.scasp_view_blocks.proofs.OnceLemmas.{left-out-is-shown}
-use Rattle.scasp_view_blocks.proofs.laws.left_out_is_shown.Goals as goal
-
-pub returns : goal.returns
-returns c = left-out-is-shown

@@ -1,7 +1,0 @@
-use Rattle.std.proofs.Common.{◌≡◌, ◌++◌, drop, map}
-use Rattle.scasp_view_place.specs.Characters.{blank_below}
-use Rattle.scasp_view_place.proofs.columns.put_blanks.Given as goal
-
-abbrev pub invariant-loop-byte : goal.invariant-loop-byte
-invariant-loop-byte l =
-    l.out.items ++ map blank_below (drop l.byte-index l.firsts) ≡ l.fn.out.items ++ map blank_below l.firsts

@@ -1,6 +1,0 @@
-use Rattle.std.proofs.Common.{◌≡◌, ◌++◌, drop}
-use Rattle.scasp_view_program.specs.Lines.{abducible_lines, text_of}
-use Rattle.scasp_view_program.proofs.lines.put_abducibles.Given as goal
-
-abbrev pub invariant-loop-pred : goal.invariant-loop-pred
-invariant-loop-pred l = l.out.items ++ text_of (abducible_lines l.names (drop l.pred-index l.preds)) ≡ l.fn.out.items ++ text_of (abducible_lines l.names l.preds)

@@ -1,7 +1,0 @@
-//! A program as text with the number of each clause and of each query in front.
-#![tactic(auto)]
-
-pub mod laws;
-mod lines;
-
-pub use lines::print_numbered;

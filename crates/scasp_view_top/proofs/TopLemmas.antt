@@ -1,0 +1,4 @@
+pub mod AnswerLemmas
+pub mod PlaceLemmas
+pub mod ProgramLemmas
+pub mod ReportLemmas

@@ -1,0 +1,4 @@
+pub mod Places
+pub mod Programs
+pub mod Answers
+pub mod Outputs
