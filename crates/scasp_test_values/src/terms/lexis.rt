@@ -48,7 +48,7 @@ fn show(alloc: Global, bytes: &[u8]) -> Result<String, Fail> {
     Ok(shown)
 }
 
-static ROWS: [(&[u8], &str); 40] = [
+static WORDS: [(&[u8], &str); 21] = [
     (b"", "0 end"),
     (b" \t\r\n", "4 end"),
     (b"p", "0 name p, 1 end"),
@@ -88,6 +88,9 @@ static ROWS: [(&[u8], &str); 40] = [
         b"#=#<>#<",
         "0 Relation(Eq, false), 2 Relation(Ne, false), 5 Relation(Lt, false), 7 end",
     ),
+];
+
+static MARKS: [(&[u8], &str); 20] = [
     (
         b"#>#=<#>=",
         "0 Relation(Lt, true), 2 Relation(Le, false), 5 Relation(Le, true), 8 end",
@@ -120,8 +123,17 @@ static ROWS: [(&[u8], &str); 40] = [
 ];
 
 #[test]
-fn tokens_have_their_places(rt: HostRuntime) -> Result<(), Fail> {
-    for (text, want) in &ROWS {
+fn words_have_their_places(rt: HostRuntime) -> Result<(), Fail> {
+    for (text, want) in &WORDS {
+        let shown = show(rt.alloc(), text)?;
+        assert_eq!(rt; shown.as_str(), *want);
+    }
+    Ok(())
+}
+
+#[test]
+fn marks_have_their_places(rt: HostRuntime) -> Result<(), Fail> {
+    for (text, want) in &MARKS {
         let shown = show(rt.alloc(), text)?;
         assert_eq!(rt; shown.as_str(), *want);
     }
