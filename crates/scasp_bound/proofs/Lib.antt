@@ -1,5 +1,6 @@
 -- Lemmas of the proofs.
 pub mod BoundLemmas
+pub mod FallLemmas
 pub mod OutLemmas
 pub mod PairLemmas
 pub mod PieceLemmas

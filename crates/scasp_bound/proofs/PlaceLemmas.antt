@@ -100,9 +100,9 @@ right_gaps true x os ps qs h e = each
 
 -- ---- at the latest mark
 
-pub right_left : (w : Bool) (list : Past (Option Binding)) (places : Past (Option Place)) → IsIndexed w list places
+pub right_left : (w : Bool) (list : Past (Option Binding)) (places : Past (Option Place)) (n : ℕ) → IsIndexed w list places n
     → IsRight (w || is_marked list.before) (latest list.now list.before) (latest places.now places.before) × ArePlacesEach (earlier list.before) (earlier places.before)
-right_left w list places i = by list.before places.before i.before
+right_left w list places n i = by list.before places.before i.before
   where
     whole : (w : Bool) (os : List (Option Binding)) (ps : List (Option Place)) → ArePlaces os ps → IsRight (w || true) os ps
     whole true os ps h = h

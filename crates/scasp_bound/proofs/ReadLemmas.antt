@@ -54,10 +54,10 @@ turned x y false h = by (nat_eq y x) refl
     by true e = absurd (true≢false (sym ((Decides-eqb x y).1 (sym ((Decides-eqb y x).0 e))) ∙ h))
     by false e = refl
 
-passed_by : (b : Binding) (bs : List Binding) (x : ℕ) → nat_eq b.x x ≡ false → sub_of (b ∷ bs) x ≡ sub_of bs x
+pub passed_by : (b : Binding) (bs : List Binding) (x : ℕ) → nat_eq b.x x ≡ false → sub_of (b ∷ bs) x ≡ sub_of bs x
 passed_by b bs x h = ap (λ (c : Bool). under (sub_of bs) (if c then tm_of b.term else var x)) (turned b.x x false h)
 
-bound_by : (b : Binding) (bs : List Binding) (x : ℕ) → nat_eq b.x x ≡ true → sub_of (b ∷ bs) x ≡ under (sub_of bs) (tm_of b.term)
+pub bound_by : (b : Binding) (bs : List Binding) (x : ℕ) → nat_eq b.x x ≡ true → sub_of (b ∷ bs) x ≡ under (sub_of bs) (tm_of b.term)
 bound_by b bs x h = ap (λ (c : Bool). under (sub_of bs) (if c then tm_of b.term else var x)) (turned b.x x true h)
 
 -- an item that is not of the variable changes nothing of what it reads as

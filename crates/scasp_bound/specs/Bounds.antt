@@ -1,9 +1,11 @@
 -- Bindings in order.
-use Rattle.std.specs.Prelude.{ℕ, Bool, not, ◌||◌, nat_eq, if◌then◌else◌, List, [], ◌∷◌, Option, None, Some}
+use Rattle.std.specs.Prelude.{◌≡◌, ◌<◌, ◌≤◌, ℕ, Bool, not, ◌||◌, nat_eq, if◌then◌else◌, List, [], ◌∷◌, Option, None, Some}
 use Rattle.std.specs.List.{filter, list_any}
 use Rattle.scasp_syntax.specs.declared.con.Con.{Con}
 use Rattle.scasp_syntax.specs.declared.con.Con.TheVariants as con
 use Rattle.scasp_syntax.specs.declared.term.Term.TheVariants.{Var}
+use Rattle.scasp_syntax.specs.Tm.{Tm, var, num, app}
+use Rattle.scasp_unify.specs.Solving.{sub_of}
 use Rattle.scasp_unify.specs.declared.bindings.Binding.{Binding}
 
 -- the first binding of the variable
@@ -27,3 +29,13 @@ is_bound_in bs x = list_any (λ b. nat_eq b.x x) bs
 
 abbrev pub equation : Binding → Con
 equation b = con.Eq (Var b.x) b.term
+
+-- the variable that the term is, if it is one
+abbrev pub as_variable : Tm → Option ℕ
+as_variable (var x) = Some x
+as_variable (num q) = None
+as_variable (app f ts) = None
+
+-- what reads as a variable beyond n is that variable or a later one
+pub record ReadsDown (n : ℕ) (bs : List Binding) : Type 0 where
+  pub each : (x r : ℕ) → n < r → sub_of bs x ≡ var r → r ≤ x

@@ -1,4 +1,5 @@
 -- What private functions alone speak of.
+pub mod Falls
 pub mod Gaps
 pub mod Pairs
 pub mod Places

@@ -1,12 +1,13 @@
 //! Bindings in order, which can be taken out and undone, and found by variable.
-ghost use Rattle.std.specs.Prelude.{◌≡◌, [], ◌∷◌, ◌++◌, map, option_copied, IfOk, OnOk, OnErr};
+ghost use Rattle.std.specs.Prelude.{◌≡◌, ◌≤◌, [], ◌∷◌, ◌++◌, map, option_copied, IfOk, MatchOption, OnOk, OnErr, ⊤};
 ghost use Rattle.scasp_syntax.specs.Same.{same_tms};
 ghost use Rattle.scasp_syntax.specs.Values.{all_under, under};
 ghost use Rattle.scasp_syntax.specs.View.{tm_of};
 ghost use Rattle.scasp_unify.specs.Solving.{sub_of};
 ghost use Rattle.scasp_unify.specs.Unification.{term_vars, terms_vars};
 ghost use Rattle.scasp_trail.specs.Past.{earlier, is_marked, latest};
-ghost use Rattle.scasp_bound.specs.Bounds.{among, bound_in, equation, is_bound_in, unbound, without};
+ghost use Rattle.scasp_bound.specs.Bounds.{ReadsDown, among, as_variable, bound_in, equation, is_bound_in, unbound, without};
+ghost use Rattle.scasp_bound.specs.Inside.Falls.{Falls};
 ghost use Rattle.scasp_bound.specs.Inside.Gaps.{without_unless};
 
 use crate::listing::{copies, push_equations};
@@ -29,6 +30,8 @@ pub struct Bound {
     places: Trailed<Option<Place>>,
     /// Whether no change has failed since the latest mark: then the places are right.
     is_whole: bool,
+    /// A binding to a variable beyond this one is of a later variable. It never falls.
+    rise: u64,
 }
 
 impl Model for Bound {
@@ -45,7 +48,7 @@ impl Model for Bound {
 
     ghost view = { λ b. past_present b.list };
 
-    ghost invariant = { λ b. IsIndexed b.is_whole b.list b.places };
+    ghost invariant = { λ b. IsIndexed b.is_whole b.list b.places b.rise };
 }
 
 impl Bound {
@@ -57,6 +60,7 @@ impl Bound {
             list: Trailed::new(alloc),
             places: Trailed::new(alloc),
             is_whole: true,
+            rise: 0,
         }
     }
 
@@ -84,7 +88,7 @@ impl Bound {
     }
 
     /// Puts the binding behind the others.
-    #[tactic(auto, using(crate::proofs::BoundLemmas::present_more, crate::proofs::PlaceLemmas::right_more))]
+    #[tactic(auto, using(crate::proofs::BoundLemmas::present_more, crate::proofs::PlaceLemmas::right_more, crate::proofs::FallLemmas::falling_more, crate::proofs::FallLemmas::each_beyond))]
     pub fn push(&mut self, binding: Binding) -> Result<(), Memory>
         ensures now { OnOk result (self.new.now ≡ self.old.now ++ binding ∷ []) }
         ensures before { self.new.before ≡ self.old.before }
@@ -92,15 +96,17 @@ impl Bound {
         let was_whole = self.is_whole;
         self.is_whole = false;
         let x = binding.x;
+        let rise = risen(self.rise, &binding);
         let at = self.list.len();
         self.list.push(Some(binding))?;
         note(&mut self.places, x, at)?;
+        self.rise = rise;
         self.is_whole = was_whole;
         Ok(())
     }
 
     /// Takes the bindings of the variable out.
-    #[tactic(auto, using(crate::proofs::BoundLemmas::present_gaps, crate::proofs::PlaceLemmas::right_gaps))]
+    #[tactic(auto, using(crate::proofs::BoundLemmas::present_gaps, crate::proofs::PlaceLemmas::right_gaps, crate::proofs::FallLemmas::falling_gaps))]
     pub fn take_out(&mut self, x: u64) -> Result<(), Memory>
         ensures now { OnOk result (self.new.now ≡ without x self.old.now) }
         ensures before { self.new.before ≡ self.old.before }
@@ -136,6 +142,27 @@ impl Bound {
         }
         self.take_out(x)?;
         Ok(())
+    }
+
+    /// A variable beyond which each is read from itself and later ones alone, if one is known. It need not be the earliest.
+    #[tactic(auto, using(crate::proofs::FallLemmas::whole_down))]
+    pub fn rise(&self) -> Option<u64>
+        ensures { MatchOption result ⊤ (λ n. ReadsDown n self.now.now) }
+    {
+        if self.is_whole { Some(self.rise) } else { None }
+    }
+
+    /// The variable that the bindings read the term as, if they read it as one.
+    #[tactic(auto, using(crate::proofs::FallLemmas::variable_read, crate::proofs::FallLemmas::number_read, crate::proofs::FallLemmas::name_read))]
+    pub fn variable_of(&self, term: &Term) -> Option<u64>
+        ensures { result ≡ as_variable (under (sub_of self.now.now) (tm_of term.now)) }
+    {
+        let items = self.list.as_slice();
+        let places = self.places.as_slice();
+        match head_of(items, places, self.is_whole, 0, term) {
+            Head::Var(x) => Some(x),
+            Head::Num(_) | Head::Name(..) => None,
+        }
     }
 
     /// The term as the bindings read it, of which each may speak of variables that later ones bind. They are followed by
@@ -263,5 +290,25 @@ impl Bound {
         self.list.leave();
         self.places.leave();
         self.is_whole = self.is_whole || was_marked;
+    }
+}
+
+/// What `rise` is behind one more binding.
+#[tactic(auto, using(crate::proofs::FallLemmas::to_later, crate::proofs::FallLemmas::to_early, crate::proofs::FallLemmas::to_number, crate::proofs::FallLemmas::to_name))]
+fn risen(rise: u64, binding: &Binding) -> u64
+    ensures more { rise ≤ result }
+    ensures falls { Falls result binding.now }
+{
+    match &binding.term {
+        Term::Var(y) => {
+            if *y <= binding.x {
+                rise
+            } else if rise < *y {
+                *y
+            } else {
+                rise
+            }
+        }
+        Term::Num(_) | Term::App(..) => rise,
     }
 }

@@ -4,8 +4,8 @@ use Rattle.std.proofs.lemmas.Bool.Decides.{Decides-eqb}
 use Rattle.std.proofs.lemmas.List.{at_drop_more, drop_all, reverse-append}
 use Rattle.std.proofs.lemmas.Option.{get_or_from_slice_get, slice_get_within}
 use Rattle.scasp_loops.specs.Held.{literal_of}
-use Rattle.scasp_loops.specs.Inside.Asked.{is_alike, is_left_firm, is_seen, only_if, standing}
-use Rattle.scasp_loops.specs.Inside.Hinted.{Within, is_other, key_of}
+use Rattle.scasp_loops.specs.Inside.Asked.{is_alike, is_left_firm, is_not, is_seen, only_if, standing}
+use Rattle.scasp_loops.specs.Inside.Hinted.{Within, is_other, key_of, lit_key}
 use Rattle.scasp_loops.specs.Inside.Open.{OpensAt, open_among, open_in}
 use Rattle.scasp_loops.specs.Inside.Zipped.{literals_from}
 use Rattle.scasp_loops.specs.declared.entry.Entry.{Entry}
@@ -105,41 +105,42 @@ skip_by p (suc d) n ls f =
     ∙ skip_by p d (n + 1) ls (λ j a l h g. f j a (omega (arith, l)) (omega (arith, h)) g)
     ∙ ap (λ (k : ℕ). filter p (drop k ls)) e
 
-skipped : (p : Literal → Bool) (key lo hi : ℕ) (ls : List Literal) → lo ≤ hi → ((a : Literal) → is_other key a ≡ true → p a ≡ false) → Within (is_other key) lo hi ls
-    → filter p (drop lo ls) ≡ filter p (drop hi ls)
-skipped p key lo hi ls h f w =
+refused : (b : Bool) → not b ≡ true → b ≡ false
+refused true h = absurd (cc h)
+refused false h = refl
+
+skipped : (p : Literal → Bool) (lo hi : ℕ) (ls : List Literal) → lo ≤ hi → Within (is_not p) lo hi ls → filter p (drop lo ls) ≡ filter p (drop hi ls)
+skipped p lo hi ls h w =
     let e : lo + (hi - lo) ≡ hi = omega (arith, h) in
-    skip_by p (hi - lo) lo ls (λ j a l m g. f a (w.each j a l (omega (arith, m, h)) g))
+    skip_by p (hi - lo) lo ls (λ j a l m g. refused (p a) (w.each j a l (omega (arith, m, h)) g))
     ∙ ap (λ (k : ℕ). filter p (drop k ls)) e
 
+-- where none with another key passes the test
+within_not : (p : Literal → Bool) (key lo hi : ℕ) (ls : List Literal) → ((a : Literal) → is_other key a ≡ true → p a ≡ false) → Within (is_other key) lo hi ls → Within (is_not p) lo hi ls
+within_not p key lo hi ls f w = record { each = λ j a l m g. ap not (f a (w.each j a l m g)) }
+
 -- one that is looked at, and those before it that are not
-looked_at : (p : Literal → Bool) (key to at left : ℕ) (ls : List Literal) (a : Literal) (is : Bool) → ((b : Literal) → is_other key b ≡ true → p b ≡ false)
-    → to ≤ at → left ≡ at + 1 → slice_get ls at ≡ Some a → p a ≡ is → Within (is_other key) to at ls
+looked_at : (p : Literal → Bool) (to at left : ℕ) (ls : List Literal) (a : Literal) (is : Bool) → to ≤ at → left ≡ at + 1 → slice_get ls at ≡ Some a → p a ≡ is → Within (is_not p) to at ls
     → filter p (drop to ls) ≡ (if is then a ∷ filter p (drop left ls) else filter p (drop left ls))
-looked_at p key to at left ls a is f t n g h w =
-    skipped p key to at ls t f w ∙ ap (filter p) (drop-there ls at a g)
+looked_at p to at left ls a is t n g h w =
+    skipped p to at ls t w ∙ ap (filter p) (drop-there ls at a g)
     ∙ ap (λ (k : ℕ). filter p (a ∷ drop k ls)) (sym n)
     ∙ ap (λ (b : Bool). if b then a ∷ filter p (drop left ls) else filter p (drop left ls)) h
 
-none_behind : (p : Literal → Bool) (key left count : ℕ) (ls : List Literal) → ((b : Literal) → is_other key b ≡ true → p b ≡ false)
-    → left ≤ count → length ls ≤ count → Within (is_other key) left count ls → filter p (drop left ls) ≡ []
-none_behind p key left count ls f h n w = skipped p key left count ls h f w ∙ ap (filter p) (drop_all count ls n)
+none_behind : (p : Literal → Bool) (left count : ℕ) (ls : List Literal) → left ≤ count → length ls ≤ count → Within (is_not p) left count ls → filter p (drop left ls) ≡ []
+none_behind p left count ls h n w = skipped p left count ls h w ∙ ap (filter p) (drop_all count ls n)
 
 whole_left : (left : ℕ) (ls : List Literal) → left ≤ 0 → drop left ls ≡ ls
 whole_left zero ls h = refl
 whole_left (suc n) ls h = absurd (omega (arith, h))
 
--- ---- names of other keys
+-- ---- other keys
 
-name_apart : (n m : ℕ) → not (nat_eq (key_of n) (key_of m)) ≡ true → nat_eq n m ≡ false
-name_apart n m h = by (nat_eq n m) refl
-  where
-    by : (b : Bool) → nat_eq n m ≡ b → b ≡ false
-    by false e = refl
-    by true e =
-        let q : nat_eq (key_of n) (key_of m) ≡ true = (Decides-eqb (key_of n) (key_of m)).1 (ap key_of ((Decides-eqb n m).0 e)) in
-        let r : false ≡ true = ap not (sym q) ∙ h in
-        sym r
+same-key : (p : Bool) (n m : ℕ) → nat_eq n m ≡ true → not (nat_eq (key_of p n) (key_of p m)) ≡ true → ⊥
+same-key p n m e h =
+    let q : nat_eq (key_of p n) (key_of p m) ≡ true = (Decides-eqb (key_of p n) (key_of p m)).1 (ap (key_of p) ((Decides-eqb n m).0 e)) in
+    let r : false ≡ true = ap not (sym q) ∙ h in
+    absurd (cc r)
 
 -- ---- a literal that is seen
 
@@ -165,32 +166,47 @@ last_fails p q r e = ap (λ (b : Bool). p && q && b) e ∙ by p q
     by true false = refl
     by false q = refl
 
-other_unseen : (bs : List Binding) (cases : List ℕ) (l : Lit) (a : Literal) → is_other (key_of l.atom.name) a ≡ true → is_seen bs cases l a ≡ false
+keys-apart : (p q x : Bool) (n m : ℕ) → not (nat_eq (key_of p n) (key_of q m)) ≡ true → (same_bool p q && x && nat_eq n m) ≡ false
+keys-apart true false x n m h = refl
+keys-apart false true x n m h = refl
+keys-apart true true x n m h = by (nat_eq n m) refl
+  where
+    by : (b : Bool) → nat_eq n m ≡ b → (same_bool true true && x && nat_eq n m) ≡ false
+    by true e = absurd (same-key true n m e h)
+    by false e = last_fails true x (nat_eq n m) e
+keys-apart false false x n m h = by (nat_eq n m) refl
+  where
+    by : (b : Bool) → nat_eq n m ≡ b → (same_bool false false && x && nat_eq n m) ≡ false
+    by true e = absurd (same-key false n m e h)
+    by false e = last_fails true x (nat_eq n m) e
+
+other_unseen : (bs : List Binding) (cases : List ℕ) (l : Lit) (a : Literal) → is_other (lit_key l) a ≡ true → is_seen bs cases l a ≡ false
 other_unseen bs cases l a o =
     sym (unseen_apart bs cases l (record { lit = a.lit; cases = a.cases }) (record { is_done = a.is_done; loops = a.loops; is_general = a.is_general })
-    (last_fails (same_bool a.lit.positive l.positive) (same_bool a.lit.atom.minus l.atom.minus) (nat_eq a.lit.atom.name l.atom.name) (name_apart a.lit.atom.name l.atom.name o)))
+    (keys-apart a.lit.positive l.positive (same_bool a.lit.atom.minus l.atom.minus) a.lit.atom.name l.atom.name o))
 
-pub seen_start : (bs : List Binding) (cases : List ℕ) (l : Lit) (ls : List Literal) (key left count : ℕ) → key ≡ key_of l.atom.name → left ≤ count → length ls ≤ count → Within (is_other key) left count ls
+pub unseen_key : (bs : List Binding) (cases : List ℕ) (l : Lit) (ls : List Literal) (key lo hi : ℕ) → key ≡ lit_key l → Within (is_other key) lo hi ls → Within (is_not (is_seen bs cases l)) lo hi ls
+unseen_key bs cases l ls key lo hi k w =
+    within_not (is_seen bs cases l) (lit_key l) lo hi ls (other_unseen bs cases l) (subst (λ (j : ℕ). Within (is_other j) lo hi ls) k w)
+
+pub seen_start : (bs : List Binding) (cases : List ℕ) (l : Lit) (ls : List Literal) (key left count : ℕ) → key ≡ lit_key l → left ≤ count → length ls ≤ count → Within (is_other key) left count ls
     → None ≡ first_number (filter (is_seen bs cases l) (drop left ls))
 seen_start bs cases l ls key left count k h n w =
-    let v : Within (is_other (key_of l.atom.name)) left count ls = subst (λ (j : ℕ). Within (is_other j) left count ls) k w in
-    sym (ap first_number (none_behind (is_seen bs cases l) (key_of l.atom.name) left count ls (other_unseen bs cases l) h n v))
+    sym (ap first_number (none_behind (is_seen bs cases l) left count ls h n (unseen_key bs cases l ls key left count k w)))
 
-seen_next : (bs : List Binding) (cases : List ℕ) (l : Lit) (es : List Entry) (ms : List Marks) (key to left : ℕ) (e : Entry) (m : Marks) (is : Bool) → key ≡ key_of l.atom.name
+seen_next : (bs : List Binding) (cases : List ℕ) (l : Lit) (es : List Entry) (ms : List Marks) (to left : ℕ) (e : Entry) (m : Marks) (is : Bool)
     → 0 < left → to ≤ left - 1 → slice_get es (left - 1) ≡ Some e → slice_get ms (left - 1) ≡ Some m → is_seen bs cases l (literal_of 0 e m) ≡ is
-    → Within (is_other key) to (left - 1) (literals_from 0 es ms)
+    → Within (is_not (is_seen bs cases l)) to (left - 1) (literals_from 0 es ms)
     → filter (is_seen bs cases l) (drop to (literals_from 0 es ms))
     ≡ (if is then literal_of (left - 1) e m ∷ filter (is_seen bs cases l) (drop left (literals_from 0 es ms)) else filter (is_seen bs cases l) (drop left (literals_from 0 es ms)))
-seen_next bs cases l es ms key to left e m is k p t g h q w =
-    let ls = literals_from 0 es ms in
-    let v : Within (is_other (key_of l.atom.name)) to (left - 1) ls = subst (λ (j : ℕ). Within (is_other j) to (left - 1) ls) k w in
-    looked_at (is_seen bs cases l) (key_of l.atom.name) to (left - 1) left ls (literal_of (left - 1) e m) is (other_unseen bs cases l) t (omega (arith, p)) (literal_there es ms (left - 1) e m g h) q v
+seen_next bs cases l es ms to left e m is p t g h q w =
+    looked_at (is_seen bs cases l) to (left - 1) left (literals_from 0 es ms) (literal_of (left - 1) e m) is t (omega (arith, p)) (literal_there es ms (left - 1) e m g h) q w
 
-pub seen_more : (bs : List Binding) (cases : List ℕ) (l : Lit) (es : List Entry) (ms : List Marks) (key to left : ℕ) (e : Entry) (m : Marks) (is : Bool) (found now : Option ℕ) → key ≡ key_of l.atom.name
+pub seen_more : (bs : List Binding) (cases : List ℕ) (l : Lit) (es : List Entry) (ms : List Marks) (to left : ℕ) (e : Entry) (m : Marks) (is : Bool) (found now : Option ℕ)
     → 0 < left → to ≤ left - 1 → slice_get es (left - 1) ≡ Some e → slice_get ms (left - 1) ≡ Some m → is ≡ is_seen bs cases l (literal_of 0 e m)
-    → Within (is_other key) to (left - 1) (literals_from 0 es ms) → now ≡ (if is then Some (left - 1) else found) → found ≡ first_number (filter (is_seen bs cases l) (drop left (literals_from 0 es ms)))
+    → Within (is_not (is_seen bs cases l)) to (left - 1) (literals_from 0 es ms) → now ≡ (if is then Some (left - 1) else found) → found ≡ first_number (filter (is_seen bs cases l) (drop left (literals_from 0 es ms)))
     → now ≡ first_number (filter (is_seen bs cases l) (drop to (literals_from 0 es ms)))
-seen_more bs cases l es ms key to left e m is found now k p t g h q w n i = n ∙ by is ∙ sym (ap first_number (seen_next bs cases l es ms key to left e m is k p t g h (sym q) w))
+seen_more bs cases l es ms to left e m is found now p t g h q w n i = n ∙ by is ∙ sym (ap first_number (seen_next bs cases l es ms to left e m is p t g h (sym q) w))
   where
     by : (b : Bool) → (if b then Some (left - 1) else found)
         ≡ first_number (if b then literal_of (left - 1) e m ∷ filter (is_seen bs cases l) (drop left (literals_from 0 es ms)) else filter (is_seen bs cases l) (drop left (literals_from 0 es ms)))
@@ -211,29 +227,49 @@ unopposed u x y z g f e = ap (λ (b : Bool). u && (x && b && z) && g && f) e ∙
     by true false = refl
     by false x = refl
 
-other_unopposed : (s : State) (l : Lit) (a : Literal) → is_other (key_of l.atom.name) a ≡ true → is_opposite s l a ≡ false
+keys-unopposed : (p q x z g f : Bool) (n m : ℕ) → not (nat_eq (key_of p n) (key_of (not q) m)) ≡ true → (not (same_bool p q) && (x && nat_eq n m && z) && g && f) ≡ false
+keys-unopposed p q x z g f n m h = by (nat_eq n m) refl
+  where
+    signs : (p q : Bool) → not (nat_eq (key_of p n) (key_of (not q) m)) ≡ true → nat_eq n m ≡ true → (not (same_bool p q) && (x && nat_eq n m && z) && g && f) ≡ false
+    signs true true k e = refl
+    signs false false k e = refl
+    signs true false k e = absurd (same-key true n m e k)
+    signs false true k e = absurd (same-key false n m e k)
+
+    by : (b : Bool) → nat_eq n m ≡ b → (not (same_bool p q) && (x && nat_eq n m && z) && g && f) ≡ false
+    by true e = signs p q h e
+    by false e = unopposed (not (same_bool p q)) x (nat_eq n m) z g f e
+
+-- the key of the literals that are opposite
+abbrev pub opposite_key : Lit → ℕ
+opposite_key l = key_of (not l.positive) l.atom.name
+
+other_unopposed : (s : State) (l : Lit) (a : Literal) → is_other (opposite_key l) a ≡ true → is_opposite s l a ≡ false
 other_unopposed s l a o =
-    unopposed (not (same_bool a.lit.positive l.positive)) (same_bool a.lit.atom.minus l.atom.minus) (nat_eq a.lit.atom.name l.atom.name)
-    (nat_eq (pred_of a.lit.atom).arity (pred_of l.atom).arity) (not a.is_general) (is_free s a.lit) (name_apart a.lit.atom.name l.atom.name o)
+    keys-unopposed a.lit.positive l.positive (same_bool a.lit.atom.minus l.atom.minus) (nat_eq (pred_of a.lit.atom).arity (pred_of l.atom).arity) (not a.is_general) (is_free s a.lit)
+    a.lit.atom.name l.atom.name o
+
+unopposed_key : (s : State) (l : Lit) (ls : List Literal) (key lo hi : ℕ) → key ≡ opposite_key l → Within (is_other key) lo hi ls → Within (is_not (is_opposite s l)) lo hi ls
+unopposed_key s l ls key lo hi k w =
+    within_not (is_opposite s l) (opposite_key l) lo hi ls (other_unopposed s l) (subst (λ (j : ℕ). Within (is_other j) lo hi ls) k w)
 
 abbrev apart : State → Lit → List Literal → List Con
 apart s l ls = map (differing l) (filter (is_opposite s l) ls)
 
-pub apart_start : (s : State) (l : Lit) (ls : List Literal) (key left count : ℕ) → key ≡ key_of l.atom.name → left ≤ count → length ls ≤ count → Within (is_other key) left count ls
+pub apart_start : (s : State) (l : Lit) (ls : List Literal) (key left count : ℕ) → key ≡ opposite_key l → left ≤ count → length ls ≤ count → Within (is_other key) left count ls
     → map (differing l) (filter (is_opposite s l) (drop left ls)) ≡ reverse []
 apart_start s l ls key left count k h n w =
-    let v : Within (is_other (key_of l.atom.name)) left count ls = subst (λ (j : ℕ). Within (is_other j) left count ls) k w in
-    ap (map (differing l)) (none_behind (is_opposite s l) (key_of l.atom.name) left count ls (other_unopposed s l) h n v)
+    ap (map (differing l)) (none_behind (is_opposite s l) left count ls h n (unopposed_key s l ls key left count k w))
 
-pub apart_next : (s : State) (l : Lit) (es : List Entry) (ms : List Marks) (key to left : ℕ) (e : Entry) (m : Marks) (is : Bool) (made now : List Con) → key ≡ key_of l.atom.name
+pub apart_next : (s : State) (l : Lit) (es : List Entry) (ms : List Marks) (key to left : ℕ) (e : Entry) (m : Marks) (is : Bool) (made now : List Con) → key ≡ opposite_key l
     → 0 < left → to ≤ left - 1 → slice_get es (left - 1) ≡ Some e → slice_get ms (left - 1) ≡ Some m → is ≡ is_opposite s l (literal_of 0 e m)
     → Within (is_other key) to (left - 1) (literals_from 0 es ms) → now ≡ made ++ only_if is (differing l (literal_of 0 e m))
     → map (differing l) (filter (is_opposite s l) (drop left (literals_from 0 es ms))) ≡ reverse made
     → map (differing l) (filter (is_opposite s l) (drop to (literals_from 0 es ms))) ≡ reverse now
 apart_next s l es ms key to left e m is made now k p t g h q w n i =
     let ls = literals_from 0 es ms in
-    let v : Within (is_other (key_of l.atom.name)) to (left - 1) ls = subst (λ (j : ℕ). Within (is_other j) to (left - 1) ls) k w in
-    ap (map (differing l)) (looked_at (is_opposite s l) (key_of l.atom.name) to (left - 1) left ls (literal_of (left - 1) e m) is (other_unopposed s l) t (omega (arith, p)) (literal_there es ms (left - 1) e m g h) (sym q) v)
+    let v : Within (is_not (is_opposite s l)) to (left - 1) ls = unopposed_key s l ls key to (left - 1) k w in
+    ap (map (differing l)) (looked_at (is_opposite s l) to (left - 1) left ls (literal_of (left - 1) e m) is t (omega (arith, p)) (literal_there es ms (left - 1) e m g h) (sym q) v)
     ∙ by is ∙ sym (ap reverse n)
   where
     by : (b : Bool) → map (differing l) (if b then literal_of (left - 1) e m ∷ filter (is_opposite s l) (drop left (literals_from 0 es ms)) else filter (is_opposite s l) (drop left (literals_from 0 es ms)))

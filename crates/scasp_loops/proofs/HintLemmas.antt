@@ -3,7 +3,7 @@ use Rattle.std.proofs.Common.{◌≡◌, ◌≢◌, ◌+◌, ◌-◌, ◌<◌, �
 use Rattle.std.proofs.lemmas.Bool.{cases_order}
 use Rattle.std.proofs.lemmas.Bool.Decides.{Decides-eqb}
 use Rattle.scasp_loops.specs.Held.{literal_of}
-use Rattle.scasp_loops.specs.Inside.Hinted.{AreHinted, AreHintedEach, AreHints, AreLatest, IsHint, Within, has_no_variable, is_done, is_other, key_of, place_in}
+use Rattle.scasp_loops.specs.Inside.Hinted.{AreHinted, AreHintedEach, AreHints, AreLatest, IsHint, Within, has_no_variable, is_done, is_other, lit_key, place_in}
 use Rattle.scasp_loops.specs.Inside.Kept.{AllStay, StayEach, StaysSo}
 use Rattle.scasp_loops.specs.Inside.Zipped.{StandsAt, literals_from}
 use Rattle.scasp_loops.specs.declared.entry.Entry.{Entry}
@@ -142,9 +142,12 @@ known_next ls h at s u v = record {
   varied = v;
 }
 
+pub enough_hints : (es : List Entry) (ms : List Marks) (hs : List Hint) (ts : List ℕ) → length ms ≤ length es → AreHinted (literals_from 0 es ms) hs ts → length ms ≤ length hs
+enough_hints es ms hs ts f a = omega (arith, literals_length es ms f, a.enough)
+
 -- ---- one more hint
 
-taken_there : {T : Type 0} (n i : ℕ) (xs ys : List T) → take n xs ≡ take n ys → i < n → slice_get xs i ≡ slice_get ys i
+pub taken_there : {T : Type 0} (n i : ℕ) (xs ys : List T) → take n xs ≡ take n ys → i < n → slice_get xs i ≡ slice_get ys i
 taken_there zero i xs ys t h = absurd (omega (arith, h))
 taken_there (suc n) i [] [] t h = refl
 taken_there (suc n) i [] (y ∷ ys) t h = absurd (cc t)
@@ -225,7 +228,7 @@ length_more : (ls : List Literal) (a : Literal) → length (ls ++ a ∷ []) ≡ 
 length_more [] a = refl
 length_more (b ∷ ls) a = ap suc (length_more ls a) ∙ omega arith
 
-key_or_other : (key place old k : ℕ) (n : ℕ) (a : Literal) → key_of a.lit.atom.name ≡ key → n < place → (n < (if nat_eq key k then place else old)) ⊎ (is_other k a ≡ true)
+key_or_other : (key place old k : ℕ) (n : ℕ) (a : Literal) → lit_key a.lit ≡ key → n < place → (n < (if nat_eq key k then place else old)) ⊎ (is_other k a ≡ true)
 key_or_other key place old k n a e h = by (nat_eq key k) refl
   where
     by : (b : Bool) → nat_eq key k ≡ b → (n < (if b then place else old)) ⊎ (is_other k a ≡ true)
@@ -233,7 +236,7 @@ key_or_other key place old k n a e h = by (nat_eq key k) refl
     by false q = inr (ap (λ (c : ℕ). not (nat_eq c k)) e ∙ ap not q)
 
 pub hinted_more : (ls : List Literal) (hs gs : List Hint) (ts us : List ℕ) (h : Hint) (a : Literal) (at place : ℕ) → AreHinted ls gs ts → at ≡ length ls → place ≡ at + 1 → StandsAt at h hs gs
-    → key_of a.lit.atom.name ≡ h.key → ((k : ℕ) → place_in us k ≡ (if nat_eq h.key k then place else place_in ts k)) → AreHinted (ls ++ a ∷ []) gs us
+    → lit_key a.lit ≡ h.key → ((k : ℕ) → place_in us k ≡ (if nat_eq h.key k then place else place_in ts k)) → AreHinted (ls ++ a ∷ []) gs us
 hinted_more ls hs gs ts us h a at place r e p s q u = record {
   hints = record {
     each = λ n g t.
@@ -258,7 +261,7 @@ hinted_more ls hs gs ts us h a at place r e p s q u = record {
 -- ---- what stays so
 
 so_itself : (a : Literal) → StaysSo a a
-so_itself a = record { name = refl; done = λ d. d; ground = λ g. g }
+so_itself a = record { key = refl; done = λ d. d; ground = λ g. g }
 
 each_itself : (ls : List Literal) → StayEach ls ls
 each_itself [] = tt
@@ -279,7 +282,7 @@ each_both (a ∷ ls) (b ∷ ks) [] f g = absurd g
 each_both (a ∷ ls) (b ∷ ks) (c ∷ js) f g =
     let h : StaysSo a b = f.0 in
     let i : StaysSo b c = g.0 in
-    (record { name = i.name ∙ h.name; done = λ d. i.done (h.done d); ground = λ d. i.ground (h.ground d) }, each_both ls ks js f.1 g.1)
+    (record { key = i.key ∙ h.key; done = λ d. i.done (h.done d); ground = λ d. i.ground (h.ground d) }, each_both ls ks js f.1 g.1)
 
 pub stay_both : (ls ks js : List Literal) → AllStay ls ks → AllStay ks js → AllStay ls js
 stay_both ls ks js f g = record { each = each_both ls ks js f.each g.each }
@@ -291,14 +294,14 @@ each_set k n [] (m ∷ ms) old new g d = tt
 each_set k n (e ∷ es) [] old new g d = absurd (cc g)
 each_set k zero (e ∷ es) (m ∷ ms) old new g d =
     let r : m ≡ old = cc g in
-    (record { name = refl; done = λ i. d (ap (λ (x : Marks). x.is_done) (sym r) ∙ i); ground = λ i. i }, each_itself (literals_from (suc k) es ms))
+    (record { key = refl; done = λ i. d (ap (λ (x : Marks). x.is_done) (sym r) ∙ i); ground = λ i. i }, each_itself (literals_from (suc k) es ms))
 each_set k (suc n) (e ∷ es) (m ∷ ms) old new g d = (so_itself (literal_of k e m), each_set (suc k) n es ms old new g d)
 
 pub stay_set : (es : List Entry) (ms ns : List Marks) (n : ℕ) (old new : Marks) → slice_get ms n ≡ Some old → (old.is_done ≡ true → new.is_done ≡ true) → ns ≡ slice_set ms n new
     → AllStay (literals_from 0 es ms) (literals_from 0 es ns)
 stay_set es ms ns n old new g d e = subst (λ (l : List Marks). AllStay (literals_from 0 es ms) (literals_from 0 es l)) (sym e) (record { each = each_set 0 n es ms old new g d })
 
-each_entry : (k n : ℕ) (es : List Entry) (ms : List Marks) (e d : Entry) → slice_get es n ≡ Some e → d.lit.atom.name ≡ e.lit.atom.name → are_ground e.lit.atom.args ≡ false
+each_entry : (k n : ℕ) (es : List Entry) (ms : List Marks) (e d : Entry) → slice_get es n ≡ Some e → lit_key d.lit ≡ lit_key e.lit → are_ground e.lit.atom.args ≡ false
     → StayEach (literals_from k es ms) (literals_from k (slice_set es n d) ms)
 each_entry k n [] ms e d g q h = absurd (cc g)
 each_entry k zero (c ∷ es) [] e d g q h = tt
@@ -306,7 +309,7 @@ each_entry k (suc n) (c ∷ es) [] e d g q h = tt
 each_entry k zero (c ∷ es) (m ∷ ms) e d g q h =
     let r : c ≡ e = cc g in (
       record {
-        name = q ∙ ap (λ (b : Entry). b.lit.atom.name) (sym r);
+        key = q ∙ ap (λ (b : Entry). lit_key b.lit) (sym r);
         done = λ i. i;
         ground = λ i. absurd (cc (i, h, ap (λ (b : Entry). are_ground b.lit.atom.args) r));
       },
@@ -318,7 +321,7 @@ pub stay_entry : (bs : List Binding) (n : ℕ) (es fs : List Entry) (ms : List M
     → fs ≡ slice_set es n d → AllStay (literals_from 0 es ms) (literals_from 0 fs ms)
 stay_entry bs n es fs ms e d g q h f =
     subst (λ (xs : List Entry). AllStay (literals_from 0 es ms) (literals_from 0 xs ms)) (sym f)
-    (record { each = each_entry 0 n es ms e d g (ap (λ (b : Lit). b.atom.name) q) h })
+    (record { each = each_entry 0 n es ms e d g (ap lit_key q) h })
 
 -- ---- so what is known stays known
 
@@ -339,7 +342,7 @@ within_stays p lo hi ls ks q f w = record {
 }
 
 other_stays : (k : ℕ) (a b : Literal) → StaysSo a b → is_other k a ≡ true → is_other k b ≡ true
-other_stays k a b s o = ap (λ (n : ℕ). not (nat_eq (key_of n) k)) s.name ∙ o
+other_stays k a b s o = ap (λ (n : ℕ). not (nat_eq n k)) s.key ∙ o
 
 pub hints_stay : (ls ks : List Literal) (hs : List Hint) → AllStay ls ks → AreHints ls hs → AreHints ks hs
 hints_stay ls ks hs f a = record {
@@ -376,36 +379,36 @@ hinted_anew ls hs gs ts a g e = record { hints = g; latest = a.latest; enough = 
 
 -- ---- a hint that is changed
 
-hint_there : (hs : List Hint) (n i : ℕ) (h g : Hint) → slice_get (slice_set hs n h) i ≡ Some g → ((i ≡ n) × (g ≡ h)) ⊎ (slice_get hs i ≡ Some g)
-hint_there [] n i h g t = absurd (cc t)
-hint_there (k ∷ hs) zero zero h g t = let e : g ≡ h = cc t in inl (refl, e)
-hint_there (k ∷ hs) zero (suc i) h g t = inr t
-hint_there (k ∷ hs) (suc n) zero h g t = inr t
-hint_there (k ∷ hs) (suc n) (suc i) h g t = by (hint_there hs n i h g t)
+pub item_there : {T : Type 0} (hs : List T) (n i : ℕ) (h g : T) → slice_get (slice_set hs n h) i ≡ Some g → ((i ≡ n) × (g ≡ h)) ⊎ (slice_get hs i ≡ Some g)
+item_there [] n i h g t = absurd (cc t)
+item_there (k ∷ hs) zero zero h g t = let e : g ≡ h = cc t in inl (refl, e)
+item_there (k ∷ hs) zero (suc i) h g t = inr t
+item_there (k ∷ hs) (suc n) zero h g t = inr t
+item_there (k ∷ hs) (suc n) (suc i) h g t = by (item_there hs n i h g t)
   where
     by : ((i ≡ n) × (g ≡ h)) ⊎ (slice_get hs i ≡ Some g) → ((suc i ≡ suc n) × (g ≡ h)) ⊎ (slice_get hs i ≡ Some g)
     by (inl p) = inl (ap suc p.0, p.1)
     by (inr p) = inr p
 
 pub hints_set : (ls : List Literal) (hs : List Hint) (n : ℕ) (h : Hint) → AreHints ls hs → IsHint ls n h → AreHints ls (slice_set hs n h)
-hints_set ls hs n h a i = record { each = λ at g t. by at g (hint_there hs n at h g t) }
+hints_set ls hs n h a i = record { each = λ at g t. by at g (item_there hs n at h g t) }
   where
     by : (at : ℕ) (g : Hint) → ((at ≡ n) × (g ≡ h)) ⊎ (slice_get hs at ≡ Some g) → IsHint ls at g
     by at g (inl p) = subst (λ (k : ℕ). IsHint ls k g) (sym p.0) (subst (λ (k : Hint). IsHint ls n k) (sym p.1) i)
     by at g (inr p) = a.each at g p
 
 pub noted_undone : (ls : List Literal) (hs gs : List Hint) (at undone : ℕ) (old new : Hint) → AreHints ls hs → slice_get hs at ≡ Some old → Within is_done undone at ls
-    → new ≡ record { key = old.key; same = old.same; undone = undone; varied = old.varied } → gs ≡ slice_set hs at new → AreHints ls gs
+    → new ≡ record { key = old.key; same = old.same; undone = undone; varied = old.varied; top = old.top } → gs ≡ slice_set hs at new → AreHints ls gs
 noted_undone ls hs gs at undone old new a o w e s =
     let i : IsHint ls at old = a.each at old o in
-    let j : IsHint ls at (record { key = old.key; same = old.same; undone = undone; varied = old.varied }) = record { same = i.same; undone = w; varied = i.varied } in
+    let j : IsHint ls at (record { key = old.key; same = old.same; undone = undone; varied = old.varied; top = old.top }) = record { same = i.same; undone = w; varied = i.varied } in
     subst (AreHints ls) (sym s) (hints_set ls hs at new a (subst (λ (h : Hint). IsHint ls at h) (sym e) j))
 
 pub noted_varied : (ls : List Literal) (hs gs : List Hint) (at varied : ℕ) (old new : Hint) → AreHints ls hs → slice_get hs at ≡ Some old → Within has_no_variable varied at ls
-    → new ≡ record { key = old.key; same = old.same; undone = old.undone; varied = varied } → gs ≡ slice_set hs at new → AreHints ls gs
+    → new ≡ record { key = old.key; same = old.same; undone = old.undone; varied = varied; top = old.top } → gs ≡ slice_set hs at new → AreHints ls gs
 noted_varied ls hs gs at varied old new a o w e s =
     let i : IsHint ls at old = a.each at old o in
-    let j : IsHint ls at (record { key = old.key; same = old.same; undone = old.undone; varied = varied }) = record { same = i.same; undone = i.undone; varied = w } in
+    let j : IsHint ls at (record { key = old.key; same = old.same; undone = old.undone; varied = varied; top = old.top }) = record { same = i.same; undone = i.undone; varied = w } in
     subst (AreHints ls) (sym s) (hints_set ls hs at new a (subst (λ (h : Hint). IsHint ls at h) (sym e) j))
 
 -- one more without variables

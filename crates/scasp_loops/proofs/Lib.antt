@@ -5,4 +5,5 @@ pub mod HintLemmas
 pub mod OpenLemmas
 pub mod SoundLemmas
 pub mod StateLemmas
+pub mod TopLemmas
 pub mod ZipLemmas

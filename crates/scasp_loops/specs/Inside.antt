@@ -4,4 +4,5 @@ pub mod Changed
 pub mod Hinted
 pub mod Kept
 pub mod Open
+pub mod Topped
 pub mod Zipped

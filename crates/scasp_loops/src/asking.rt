@@ -1,26 +1,29 @@
 //! Literals that a call repeats: the nearest one above, and one that is seen again.
-ghost use Rattle.std.specs.Prelude.{◌≡◌, ◌≤◌, false, filter, if◌then◌else◌, length, IfOk, Some};
+ghost use Rattle.std.specs.Prelude.{◌≡◌, ◌≤◌, ℕ, false, filter, if◌then◌else◌, length, IfOk, List, MatchOption, Some, ⊤};
 ghost use Rattle.std.specs.List.{list_all};
 ghost use Rattle.scasp_loops.specs.Held.{literal_of};
-ghost use Rattle.scasp_loops.specs.Inside.Asked.{is_alike, is_left_firm, is_seen};
-ghost use Rattle.scasp_loops.specs.Inside.Hinted.{AreHinted, AreHints};
+ghost use Rattle.scasp_loops.specs.Inside.Asked.{is_alike, is_left_firm, is_not, is_seen};
+ghost use Rattle.scasp_loops.specs.Inside.Hinted.{AreHinted, AreHints, Within, lit_key};
 ghost use Rattle.scasp_loops.specs.Inside.Kept.{literals_in};
 ghost use Rattle.scasp_loops.specs.Inside.Open.{open_among};
+ghost use Rattle.scasp_loops.specs.Inside.Topped.{AreTops, IsFloor, first_read};
 ghost use Rattle.scasp_loops.specs.Inside.Zipped.{literals_from};
 ghost use Rattle.scasp_readings.specs.Readings.{reading};
 ghost use Rattle.scasp_search_rules.specs.Successors.Calls.{is_firm, is_same, nearest};
 ghost use Rattle.scasp_search_rules.specs.Successors.Reading.{among};
 ghost use Rattle.scasp_search_state.specs.Words.{first_number};
+ghost use Rattle.scasp_syntax.specs.declared.atom.Lit.{Lit as ThisLit};
+ghost use Rattle.scasp_unify.specs.declared.bindings.Binding.{Binding};
 
 use crate::entry::{Entry, Marks};
-use crate::hints::{Hint, key_of, same_among, same_before};
+use crate::hints::{Hint, all_start_before, key_of, same_among, same_before};
 use crate::innermost::{entry_at, last_open, marks_at};
 use crate::lists::Lists;
 use scasp_bound::Bound;
 use scasp_list::Memory;
 use scasp_readings::is_among;
 use scasp_search_rules::Repeated;
-use scasp_syntax::Lit;
+use scasp_syntax::{Lit, Terms};
 use std::alloc::Global;
 
 /// Whether the literals have one sign and one name, whatever their arguments.
@@ -135,8 +138,56 @@ fn earlier_if(is: bool, at: usize, found: Option<u64>) -> Option<u64>
     if is { Some(at as u64) } else { found }
 }
 
-/// The number of the earliest literal that a call sees again, where these cases are open. It goes back over those whose name has
-/// the key of the call's.
+/// The variable that the first of the terms reads as.
+#[tactic(auto, using(crate::proofs::TopLemmas::none_read, crate::proofs::TopLemmas::some_read))]
+fn first_read(bound: &Bound, terms: &Terms) -> Option<u64>
+    ensures { result ≡ first_read bound.now.now terms.now }
+{
+    match terms.as_slice().split_first() {
+        None => None,
+        Some((first, _)) => bound.variable_of(first),
+    }
+}
+
+/// The variable that the literal starts with, as it is read, where one that starts before it is known to be another literal.
+#[tactic(auto, using(crate::proofs::TopLemmas::floor_is))]
+fn floor_of(bound: &Bound, raised: u64, lit: &Lit) -> Option<u64>
+    ensures { MatchOption result ⊤ (λ r. IsFloor raised bound.now.now lit.now r) }
+{
+    let Some(first) = first_read(bound, &lit.atom.args) else {
+        return None;
+    };
+    let Some(rise) = bound.rise() else {
+        return None;
+    };
+    if rise < first && raised < first {
+        Some(first)
+    } else {
+        None
+    }
+}
+
+/// A place from which on a call of the literal with this key and floor sees none before `at`.
+#[tactic(auto, using(crate::proofs::TopLemmas::unseen_floor, crate::proofs::AskLemmas::unseen_key))]
+fn unseen_before(lists: &Lists, key: usize, floor: Option<u64>, at: usize) -> usize
+    requires hints { AreHints (literals_in lists.now) lists.now.hints.now }
+    requires tops { AreTops lists.now.raised lists.now.entries.now lists.now.hints.now }
+    ensures place { result ≤ at }
+    ensures others { (bs : List Binding) → (cases : List ℕ) → (l : ThisLit) → key ≡ lit_key l → MatchOption floor ⊤ (λ r. IsFloor lists.now.raised bs l r) → Within (is_not (is_seen bs cases l)) result at (literals_in lists.now) }
+{
+    let hints = lists.hints.as_slice();
+    let Some(first) = floor else {
+        return same_before(hints, key, at);
+    };
+    if all_start_before(hints, first, at) {
+        0
+    } else {
+        same_before(hints, key, at)
+    }
+}
+
+/// The number of the earliest literal that a call sees again, where these cases are open. It goes back over those that have the
+/// call's key, to where none starts with the variable that the call starts with, or a later one.
 #[tactic(auto, using(crate::proofs::AskLemmas::seen_start, crate::proofs::AskLemmas::seen_whole, crate::proofs::ZipLemmas::literals_length))]
 pub(crate) fn first_seen(
     alloc: Global,
@@ -148,12 +199,13 @@ pub(crate) fn first_seen(
 ) -> Result<Option<u64>, Memory>
     requires fit { length lists.now.marks.now ≤ length lists.now.entries.now }
     requires hinted { AreHinted (literals_in lists.now) lists.now.hints.now latest.now }
+    requires tops { AreTops lists.now.raised lists.now.entries.now lists.now.hints.now }
     ensures { IfOk result (λ found. found ≡ first_number (filter (is_seen bound.now.now cases.now lit.now) (literals_in lists.now))) }
 {
     let entries = lists.entries.as_slice();
     let marks = lists.marks.as_slice();
-    let hints = lists.hints.as_slice();
-    let key = key_of(lit.atom.name);
+    let key = key_of(lit.positive, lit.atom.name);
+    let floor = floor_of(bound, lists.raised, lit);
     let mut found = None;
     let mut left = same_among(latest, key, marks.len());
     'literals: while left > 0 {
@@ -161,7 +213,7 @@ pub(crate) fn first_seen(
         let entry = entry_at(entries, at);
         let sees = is_seen(alloc, bound, cases, lit, entry, marks_at(marks, at))?;
         found = earlier_if(sees, at, found);
-        left = same_before(hints, key, at);
+        left = unseen_before(lists, key, floor, at);
     }
     Ok(found)
 }

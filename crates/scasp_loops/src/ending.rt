@@ -1,11 +1,14 @@
 //! What literals read as at the end of a case.
-ghost use Rattle.std.specs.Prelude.{◌≡◌, ◌<◌, ◌≤◌, List, length, map, IfOk, OnOk};
+ghost use Rattle.std.specs.Prelude.{◌≡◌, ◌<◌, ◌≤◌, ℕ, List, length, map, IfOk, OnOk};
 ghost use Rattle.std.specs.List.{list_any};
+ghost use Rattle.scasp_bound.specs.Bounds.{ReadsDown};
 ghost use Rattle.scasp_loops.specs.Inside.Changed.{changed, general_if};
 ghost use Rattle.scasp_loops.specs.Inside.Hinted.{AreHints, Within, has_no_variable};
 ghost use Rattle.scasp_loops.specs.Inside.Kept.{AllStay, literals_in};
+ghost use Rattle.scasp_loops.specs.Inside.Topped.{AreTops};
 ghost use Rattle.scasp_loops.specs.Inside.Zipped.{literals_from};
 ghost use Rattle.scasp_loops.specs.declared.entry.Entry.{Entry as ThisEntry};
+ghost use Rattle.scasp_loops.specs.declared.hints.Hint.{Hint as ThisHint};
 ghost use Rattle.scasp_readings.specs.Readings.{reading};
 ghost use Rattle.scasp_search_rules.specs.Successors.Cases.{kept_literal};
 ghost use Rattle.scasp_search_rules.specs.Successors.Reading.{among};
@@ -57,7 +60,7 @@ fn mark_general(marks: &mut Trailed<Marks>, at: usize, is_general: bool) -> Resu
 
 /// The literal at the place stands as the bindings read it; it is general where it has one of these universal variables. One
 /// without variables stays as it is.
-#[tactic(auto, using(crate::proofs::EndLemmas::ground_kept, crate::proofs::EndLemmas::one_kept, crate::proofs::HintLemmas::all_stay, crate::proofs::HintLemmas::stay_both, crate::proofs::HintLemmas::stay_entry))]
+#[tactic(auto, using(crate::proofs::EndLemmas::ground_kept, crate::proofs::EndLemmas::one_kept, crate::proofs::HintLemmas::all_stay, crate::proofs::HintLemmas::stay_both, crate::proofs::HintLemmas::stay_entry, crate::proofs::TopLemmas::tops_read))]
 fn end_one(
     alloc: Global,
     entries: &mut Trailed<Entry>,
@@ -74,6 +77,7 @@ fn end_one(
     ensures entries_len { length entries.new.now ≡ length entries.old.now }
     ensures marks_len { length marks.new.now ≡ length marks.old.now }
     ensures stay { AllStay (literals_from 0 entries.old.now marks.old.now) (literals_from 0 entries.new.now marks.new.now) }
+    ensures tops { (n : ℕ) → (hs : List ThisHint) → ReadsDown n bound.now.now → AreTops n entries.old.now hs → AreTops n entries.new.now hs }
 {
     let entry = entry_at(entries.as_slice(), at);
     if are_ground(alloc, &entry.lit.atom.args)? {
@@ -105,6 +109,8 @@ pub(crate) fn end_each(
     ensures fit { length lists.new.marks.now ≤ length lists.new.entries.now }
     ensures stay { AllStay (literals_in lists.old) (literals_in lists.new) }
     ensures hints { lists.new.hints ≡ lists.old.hints }
+    ensures tops { (n : ℕ) → (hs : List ThisHint) → ReadsDown n bound.now.now → AreTops n lists.old.entries.now hs → AreTops n lists.new.entries.now hs }
+    ensures raised { lists.new.raised ≡ lists.old.raised }
 {
     let mut left = lists.marks.len();
     'literals: while left > 0 {
@@ -125,9 +131,10 @@ pub(crate) fn end_each(
 // ---- which literals have a variable
 
 /// Notes of the literal at the place from where on none before it has a variable.
-#[tactic(auto, using(crate::proofs::HintLemmas::noted_varied))]
+#[tactic(auto, using(crate::proofs::HintLemmas::noted_varied, crate::proofs::TopLemmas::tops_set))]
 fn note_varied(hints: &mut Trailed<Hint>, at: usize, varied: usize) -> Result<(), Memory>
     ensures hints { (ls : List ThisLiteral) → AreHints ls hints.old.now → Within has_no_variable varied at ls → AreHints ls hints.new.now }
+    ensures tops { (n : ℕ) → (es : List ThisEntry) → AreTops n es hints.old.now → AreTops n es hints.new.now }
     ensures before { hints.new.before ≡ hints.old.before }
     ensures len { length hints.new.now ≡ length hints.old.now }
 {
@@ -141,6 +148,7 @@ fn note_varied(hints: &mut Trailed<Hint>, at: usize, varied: usize) -> Result<()
                 same: old.same,
                 undone: old.undone,
                 varied,
+                top: old.top,
             };
             hints.set(at, new)
         }
@@ -156,6 +164,8 @@ pub(crate) fn note_each(alloc: Global, lists: &mut Lists) -> Result<(), Memory>
     ensures entries { lists.new.entries ≡ lists.old.entries }
     ensures marks { lists.new.marks ≡ lists.old.marks }
     ensures hints { AreHints (literals_in lists.old) lists.new.hints.now }
+    ensures tops { (n : ℕ) → (es : List ThisEntry) → AreTops n es lists.old.hints.now → AreTops n es lists.new.hints.now }
+    ensures raised { lists.new.raised ≡ lists.old.raised }
     ensures before { lists.new.hints.before ≡ lists.old.hints.before }
     ensures len { length lists.new.hints.now ≡ length lists.old.hints.now }
 {

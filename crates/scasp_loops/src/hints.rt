@@ -1,6 +1,8 @@
 //! What is known of the literals before each one, so that a walk can leave them out.
-ghost use Rattle.std.specs.Prelude.{◌≡◌, ◌≤◌, ◌<◌, ◌+◌, ◌%◌, ℕ, List, length, if◌then◌else◌, nat_eq, option_copied, slice_get, OnOk, OnErr};
+ghost use Rattle.std.specs.Prelude.{◌≡◌, ◌≤◌, ◌<◌, ◌+◌, ◌*◌, ◌%◌, ℕ, List, length, if◌then◌else◌, nat_eq, option_copied, slice_get, true, OnOk, OnErr};
 ghost use Rattle.scasp_loops.specs.Inside.Hinted.{AreHints, AreLatest, Within, has_no_variable, is_done, is_other, key_of, place_in};
+ghost use Rattle.scasp_loops.specs.Inside.Topped.{AllStartBefore, AreTops};
+ghost use Rattle.scasp_loops.specs.declared.entry.Entry.{Entry as ThisEntry};
 ghost use Rattle.scasp_search_rules.specs.declared.states.state.Literal.{Literal as ThisLiteral};
 
 use scasp_list::Memory;
@@ -10,24 +12,27 @@ use scasp_trail::Trailed;
 /// What is known of the literals before one.
 #[derive(Clone, Copy)]
 pub(crate) struct Hint {
-    /// The key of its name.
+    /// The key of its sign and name.
     pub(crate) key: usize,
-    /// From this place on none before it has a name of this key.
+    /// From this place on none before it has this key.
     pub(crate) same: usize,
     /// From this place on all before it are done.
     pub(crate) undone: usize,
     /// From this place on none before it has a variable.
     pub(crate) varied: usize,
+    /// None before it starts with a later variable, but for those that ends of cases have read anew.
+    pub(crate) top: u64,
 }
 
-/// How many keys there are.
-const KEYS: u64 = 1024;
+/// How many keys of names there are.
+const NAMES: u64 = 512;
 
-/// The key of the name. Names of different keys are different.
-pub(crate) fn key_of(name: NameId) -> usize
-    ensures { result ≡ key_of name }
+/// The key of a sign and a name. Those of different keys are different.
+pub(crate) fn key_of(positive: bool, name: NameId) -> usize
+    ensures { result ≡ key_of positive name }
 {
-    (name.place() % KEYS) as usize
+    let key = (name.place() % NAMES) as usize * 2;
+    if positive { key + 1 } else { key }
 }
 
 /// The hint at the place.
@@ -44,7 +49,7 @@ pub(crate) fn hint_at(hints: &[Hint], at: usize) -> Option<Hint>
 
 // ---- places from which on the literals need no look
 
-/// A place from which on no literal before `at` has a name of this key.
+/// A place from which on no literal before `at` has this key.
 #[tactic(auto, using(crate::proofs::HintLemmas::same_known, crate::proofs::HintLemmas::none_within))]
 pub(crate) fn same_before(hints: &[Hint], key: usize, at: usize) -> usize
     ensures place { result ≤ at }
@@ -86,6 +91,18 @@ pub(crate) fn varied_before(hints: &[Hint], at: usize) -> usize
     }
 }
 
+/// Whether it is known that no literal before `at` starts with a variable from `first` on, where `first` is beyond what ends of
+/// cases have read.
+#[tactic(auto, using(crate::proofs::TopLemmas::top_known))]
+pub(crate) fn all_start_before(hints: &[Hint], first: u64, at: usize) -> bool
+    ensures { result ≡ true → (n : ℕ) → (es : List ThisEntry) → AreTops n es hints.now → n < first → AllStartBefore first at es }
+{
+    match hint_at(hints, at) {
+        Some(hint) => hint.top < first,
+        None => false,
+    }
+}
+
 // ---- the latest literal of each key
 
 /// The place that is noted of the key, or 0.
@@ -96,7 +113,7 @@ fn place_at(latest: &[usize], key: usize) -> usize
     if key < latest.len() { latest[key] } else { 0 }
 }
 
-/// A place from which on none of so many literals has a name of this key.
+/// A place from which on none of so many literals has this key.
 #[tactic(auto, using(crate::proofs::HintLemmas::latest_known, crate::proofs::HintLemmas::none_within))]
 pub(crate) fn same_among(latest: &[usize], key: usize, count: usize) -> usize
     ensures place { result ≤ count }

@@ -1,9 +1,10 @@
 //! Literals that are open, and their marks.
-ghost use Rattle.std.specs.Prelude.{◌≡◌, ◌<◌, ◌≤◌, ◌+◌, ◌&&◌, [], List, length, slice_get, true, MatchOption, Some, OnOk, ⊤};
+ghost use Rattle.std.specs.Prelude.{◌≡◌, ◌<◌, ◌≤◌, ◌+◌, ◌&&◌, ℕ, [], List, length, slice_get, true, MatchOption, Some, OnOk, ⊤};
 ghost use Rattle.scasp_loops.specs.Inside.Changed.{changed, done, looped, looped_at};
 ghost use Rattle.scasp_loops.specs.Inside.Hinted.{AreHints, Within, is_done};
 ghost use Rattle.scasp_loops.specs.Inside.Kept.{AllStay};
 ghost use Rattle.scasp_loops.specs.Inside.Open.{OpensAt, left, looped_out, moved_if, open_in};
+ghost use Rattle.scasp_loops.specs.Inside.Topped.{AreTops};
 ghost use Rattle.scasp_loops.specs.Inside.Zipped.{literals_from};
 ghost use Rattle.scasp_loops.specs.declared.entry.Entry.{Entry as ThisEntry};
 ghost use Rattle.scasp_search_rules.specs.declared.states.state.Literal.{Literal as ThisLiteral};
@@ -71,9 +72,10 @@ fn behind_open(entries: &[Entry], marks: &[Marks], hints: &[Hint], count: usize)
 }
 
 /// Notes of the literal at the place from where on all before it are done.
-#[tactic(auto, using(crate::proofs::HintLemmas::noted_undone))]
+#[tactic(auto, using(crate::proofs::HintLemmas::noted_undone, crate::proofs::TopLemmas::tops_set))]
 fn note_undone(hints: &mut Trailed<Hint>, at: usize, undone: usize) -> Result<(), Memory>
     ensures hints { (ls : List ThisLiteral) → AreHints ls hints.old.now → Within is_done undone at ls → AreHints ls hints.new.now }
+    ensures tops { (n : ℕ) → (es : List ThisEntry) → AreTops n es hints.old.now → AreTops n es hints.new.now }
     ensures before { hints.new.before ≡ hints.old.before }
     ensures len { length hints.new.now ≡ length hints.old.now }
 {
@@ -87,6 +89,7 @@ fn note_undone(hints: &mut Trailed<Hint>, at: usize, undone: usize) -> Result<()
                 same: old.same,
                 undone,
                 varied: old.varied,
+                top: old.top,
             };
             hints.set(at, new)
         }
@@ -103,6 +106,7 @@ pub(crate) fn note_done(
     requires fit { length marks.now ≤ length entries.now }
     requires hints { AreHints (literals_from 0 entries.now marks.now) hints.old.now }
     ensures hints { AreHints (literals_from 0 entries.now marks.now) hints.new.now }
+    ensures tops { (n : ℕ) → (es : List ThisEntry) → AreTops n es hints.old.now → AreTops n es hints.new.now }
     ensures before { hints.new.before ≡ hints.old.before }
     ensures len { length hints.new.now ≡ length hints.old.now }
 {

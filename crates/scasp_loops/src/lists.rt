@@ -1,16 +1,19 @@
 //! The lists in which literals are kept.
-ghost use Rattle.std.specs.Prelude.{◌≡◌, ◌≤◌, ◌<◌, ◌+◌, ℕ, [], ◌∷◌, ◌++◌, List, length, IfOk, OnOk, OnErr};
+ghost use Rattle.std.specs.Prelude.{◌≡◌, ◌≤◌, ◌<◌, ◌+◌, ℕ, [], ◌∷◌, ◌++◌, List, length, slice_get, Some, IfOk, OnOk, OnErr};
+ghost use Rattle.scasp_bound.specs.Bounds.{ReadsDown};
 ghost use Rattle.scasp_loops.specs.Held.{literal_of};
-ghost use Rattle.scasp_loops.specs.Inside.Hinted.{AreHinted, AreHints, IsHint, Within, has_no_variable, key_of};
+ghost use Rattle.scasp_loops.specs.Inside.Hinted.{AreHinted, AreHints, IsHint, Within, has_no_variable, lit_key};
 ghost use Rattle.scasp_loops.specs.Inside.Kept.{AreLeft, AreMarked, SameMarks, SameNow, literals_in};
+ghost use Rattle.scasp_loops.specs.Inside.Topped.{AreTops, IsTop, StartsBefore};
 ghost use Rattle.scasp_loops.specs.Inside.Zipped.{StandsAt};
 ghost use Rattle.scasp_loops.specs.declared.entry.Marks.{Marks as TheseMarks};
 
 use crate::entry::{Entry, Marks};
 use crate::hints::{Hint, key_of, note_latest, same_among, varied_before};
 use crate::innermost::entry_at;
+use scasp_bound::Bound;
 use scasp_list::Memory;
-use scasp_syntax::{Lit, are_ground};
+use scasp_syntax::{Lit, Term, Terms, are_ground};
 use scasp_trail::Trailed;
 use std::alloc::Global;
 
@@ -20,6 +23,8 @@ pub(crate) struct Lists {
     pub(crate) entries: Trailed<Entry>,
     pub(crate) marks: Trailed<Marks>,
     pub(crate) hints: Trailed<Hint>,
+    /// Beyond this variable what the ends of cases have read anew starts with no later variable than before. It never falls.
+    pub(crate) raised: u64,
 }
 
 impl Lists {
@@ -50,9 +55,72 @@ impl Lists {
         self.marks.leave();
         self.hints.leave();
     }
+
+    /// Before what these bindings read is put in the place of literals.
+    #[tactic(auto, using(crate::proofs::TopLemmas::down_beyond))]
+    pub(crate) fn raise(&mut self, bound: &Bound) -> Result<(), Memory>
+        ensures raised { self.old.raised ≤ self.new.raised }
+        ensures down { OnOk result (ReadsDown self.new.raised bound.now.now) }
+        ensures entries { self.new.entries ≡ self.old.entries }
+        ensures marks { self.new.marks ≡ self.old.marks }
+        ensures hints { self.new.hints ≡ self.old.hints }
+    {
+        let Some(rise) = bound.rise() else {
+            return Err(Memory);
+        };
+        self.raised = later(self.raised, rise);
+        Ok(())
+    }
+}
+
+/// The later of two variables.
+fn later(x: u64, y: u64) -> u64
+    ensures first { x ≤ result }
+    ensures second { y ≤ result }
+{
+    if x < y { y } else { x }
 }
 
 // ---- one more literal
+
+/// The variable with which the terms start, or 0.
+#[tactic(auto, using(crate::proofs::TopLemmas::starts_none, crate::proofs::TopLemmas::starts_variable, crate::proofs::TopLemmas::starts_number, crate::proofs::TopLemmas::starts_name))]
+fn start_of(terms: &Terms) -> u64
+    ensures { (r : ℕ) → result < r → StartsBefore r terms.now }
+{
+    match terms.as_slice().split_first() {
+        None => 0,
+        Some((first, _)) => match first {
+            Term::Var(x) => *x,
+            Term::Num(_) | Term::App(..) => 0,
+        },
+    }
+}
+
+/// The hint at the place.
+fn hint_of(hints: &[Hint], at: usize) -> Hint
+    requires { at < length hints.now }
+    ensures { slice_get hints.now at ≡ Some result }
+{
+    hints[at]
+}
+
+/// What may be the top of the next literal's hint.
+#[tactic(auto, using(crate::proofs::TopLemmas::none_top, crate::proofs::TopLemmas::more_top))]
+fn top_among(lists: &Lists) -> u64
+    requires fit { length lists.now.marks.now ≤ length lists.now.entries.now }
+    requires enough { length lists.now.marks.now ≤ length lists.now.hints.now }
+    ensures { IsTop result (length lists.now.marks.now) lists.now.entries.now lists.now.hints.now }
+{
+    let count = lists.marks.len();
+    if count == 0 {
+        return 0;
+    }
+    let last = count - 1;
+    let hint = hint_of(lists.hints.as_slice(), last);
+    let entry = entry_at(lists.entries.as_slice(), last);
+    later(hint.top, start_of(&entry.lit.atom.args))
+}
 
 /// Puts the item at the place, which is one of the list or the next one.
 #[tactic(auto, using(crate::proofs::ZipLemmas::stands_set, crate::proofs::ZipLemmas::stands_pushed, crate::proofs::HintLemmas::set_length))]
@@ -91,7 +159,7 @@ fn varied_among(alloc: Global, lists: &Lists) -> Result<usize, Memory>
 }
 
 /// What is known of the literals before one that comes next.
-#[tactic(auto, using(crate::proofs::HintLemmas::known_next))]
+#[tactic(auto, using(crate::proofs::HintLemmas::known_next, crate::proofs::HintLemmas::enough_hints))]
 pub(crate) fn next_hint(
     alloc: Global,
     lists: &Lists,
@@ -100,17 +168,20 @@ pub(crate) fn next_hint(
 ) -> Result<Hint, Memory>
     requires fit { length lists.now.marks.now ≤ length lists.now.entries.now }
     requires hinted { AreHinted (literals_in lists.now) lists.now.hints.now latest.now }
-    ensures { IfOk result (λ hint. (hint.key ≡ key_of lit.now.atom.name) × IsHint (literals_in lists.now) (length lists.now.marks.now) hint) }
+    ensures known { IfOk result (λ hint. (hint.key ≡ lit_key lit.now) × IsHint (literals_in lists.now) (length lists.now.marks.now) hint) }
+    ensures top { IfOk result (λ hint. IsTop hint.top (length lists.now.marks.now) lists.now.entries.now lists.now.hints.now) }
 {
     let count = lists.marks.len();
-    let key = key_of(lit.atom.name);
+    let key = key_of(lit.positive, lit.atom.name);
     let same = same_among(latest, key, count);
     let varied = varied_among(alloc, lists)?;
+    let top = top_among(lists);
     Ok(Hint {
         key,
         same,
         undone: count,
         varied,
+        top,
     })
 }
 
@@ -124,13 +195,16 @@ pub(crate) fn prepare(
 ) -> Result<(), Memory>
     requires fit { length lists.old.marks.now ≤ length lists.old.entries.now }
     requires hinted { AreHinted (literals_in lists.old) lists.old.hints.now latest.old.now }
-    requires key { hint.key ≡ key_of entry.lit.atom.name }
+    requires key { hint.key ≡ lit_key entry.lit }
     requires hint { IsHint (literals_in lists.old) (length lists.old.marks.now) hint }
+    requires top { IsTop hint.top (length lists.old.marks.now) lists.old.entries.now lists.old.hints.now }
     ensures stands { OnOk result (StandsAt (length lists.old.marks.now) entry lists.old.entries.now lists.new.entries.now) }
     ensures more { OnOk result ((m : TheseMarks) → AreHinted (literals_in lists.old ++ literal_of (length lists.old.marks.now) entry m ∷ []) lists.new.hints.now latest.new.now) }
     ensures fit { length lists.new.marks.now ≤ length lists.new.entries.now }
     ensures same { literals_in lists.new ≡ literals_in lists.old }
     ensures hinted { AreHinted (literals_in lists.old) lists.new.hints.now latest.new.now }
+    ensures tops { (n : ℕ) → AreTops n lists.old.entries.now lists.old.hints.now → AreTops n lists.new.entries.now lists.new.hints.now }
+    ensures raised { lists.new.raised ≡ lists.old.raised }
     ensures marks { lists.new.marks ≡ lists.old.marks }
     ensures entries_before { lists.new.entries.before ≡ lists.old.entries.before }
     ensures hints_before { lists.new.hints.before ≡ lists.old.hints.before }

@@ -27,7 +27,7 @@ use std::marker::Model;
 #[derive(Drop)]
 pub struct Loops {
     lists: Lists,
-    /// Of each key of a name, the place behind the latest literal that has it.
+    /// Of each key, the place behind the latest literal that has it.
     latest: Trailed<usize>,
 }
 
@@ -58,6 +58,7 @@ impl Loops {
                 entries: Trailed::new(alloc),
                 marks: Trailed::new(alloc),
                 hints: Trailed::new(alloc),
+                raised: 0,
             },
             latest: Trailed::new(alloc),
         }
@@ -214,6 +215,7 @@ impl Loops {
         ensures now { (s : State) → s.literals ≡ self.old.now → s.bound ≡ bound.now.now → OnOk result (self.new.now ≡ map (kept_literal s universals.now) s.literals) }
         ensures before { self.new.before ≡ self.old.before }
     {
+        self.lists.raise(bound)?;
         end_each(alloc, &mut self.lists, bound, universals)?;
         note_each(alloc, &mut self.lists)?;
         Ok(())

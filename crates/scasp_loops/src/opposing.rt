@@ -125,8 +125,8 @@ fn turned(made: Cons) -> Cons
     Cons::from(list)
 }
 
-/// That the arguments differ from those of each literal that is opposite. It goes back over those whose name has the key of the
-/// call's.
+/// That the arguments differ from those of each literal that is opposite. It goes back over those that have the key of the
+/// other sign.
 #[tactic(auto, using(crate::proofs::AskLemmas::apart_start, crate::proofs::AskLemmas::apart_next, crate::proofs::AskLemmas::apart_whole, crate::proofs::ZipLemmas::literals_length))]
 fn all_differing(
     alloc: Global,
@@ -143,7 +143,7 @@ fn all_differing(
     let entries = lists.entries.as_slice();
     let marks = lists.marks.as_slice();
     let hints = lists.hints.as_slice();
-    let key = key_of(lit.atom.name);
+    let key = key_of(!lit.positive, lit.atom.name);
     let mut made = Cons::new(alloc);
     let mut left = same_among(latest, key, marks.len());
     'literals: while left > 0 {

@@ -3,6 +3,7 @@ use Rattle.std.specs.Prelude.{◌≡◌, ℕ, Bool, true, false, List, [], ◌�
 use Rattle.scasp_trail.specs.Past.{Past}
 use Rattle.scasp_unify.specs.declared.bindings.Binding.{Binding}
 use Rattle.scasp_bound.specs.declared.places.Place.{Place}
+use Rattle.scasp_bound.specs.Inside.Falls.{AllFallEach, AreFalling}
 use Rattle.scasp_bound.specs.Inside.Gaps.{first_from, gaps, item}
 
 -- it is the place of the variable's first binding, and where it is said to be the only one, so it is
@@ -24,10 +25,12 @@ abbrev pub IsRight : Bool → List (Option Binding) → List (Option Place) → 
 IsRight false os ps = ⊤
 IsRight true os ps = ArePlaces os ps
 
--- so they are at each mark, and now where no change has failed since
-pub record IsIndexed (is_whole : Bool) (list : Past (Option Binding)) (places : Past (Option Place)) : Type 0 where
+-- so they are at each mark, and now where no change has failed since; bindings to variables beyond one are of later ones
+pub record IsIndexed (is_whole : Bool) (list : Past (Option Binding)) (places : Past (Option Place)) (rise : ℕ) : Type 0 where
   pub now : IsRight is_whole list.now places.now
   pub before : ArePlacesEach list.before places.before
+  pub falls : AreFalling is_whole rise list.now
+  pub falls_before : AllFallEach rise list.before
 
 -- a binding of the variable stands at place k behind the others
 abbrev pub noted : Bool → ℕ → Option Place → Option Place

@@ -1,5 +1,5 @@
 -- What is asked of literals, in states that have what the answer needs and nothing else.
-use Rattle.std.specs.Prelude.{ℕ, Bool, true, false, ◌&&◌, nat_eq, List, [], ◌∷◌}
+use Rattle.std.specs.Prelude.{ℕ, Bool, true, false, not, ◌&&◌, nat_eq, List, [], ◌∷◌}
 use Rattle.std.specs.List.{list_all}
 use Rattle.scasp_readings.specs.Readings.{reading}
 use Rattle.scasp_search_rules.specs.Successors.Calls.{is_firm, is_same}
@@ -24,6 +24,9 @@ is_left_firm cases a = a.is_done && is_firm a && list_all (λ k. among k cases) 
 -- a call of l sees the literal again, where these cases are open
 abbrev pub is_seen : List Binding → List ℕ → Lit → Literal → Bool
 is_seen bs cases l a = is_left_firm cases a && is_same (reading bs) l a
+
+abbrev pub is_not : (Literal → Bool) → Literal → Bool
+is_not p a = not (p a)
 
 -- the state of these variables, bindings and literals
 abbrev pub standing : List Made → List Binding → List Literal → State

@@ -1,8 +1,9 @@
 -- What is known of the literals before each one.
-use Rattle.std.specs.Prelude.{◌≡◌, ◌≤◌, ◌<◌, ◌+◌, ◌%◌, ℕ, Bool, true, not, nat_eq, List, [], ◌∷◌, length, slice_get, slice_index, Some, ⊤}
+use Rattle.std.specs.Prelude.{◌≡◌, ◌≤◌, ◌<◌, ◌+◌, ◌*◌, ◌%◌, ℕ, Bool, true, not, nat_eq, if◌then◌else◌, List, [], ◌∷◌, length, slice_get, slice_index, Some, ⊤}
 use Rattle.scasp_loops.specs.declared.hints.Hint.{Hint}
 use Rattle.scasp_search_rules.specs.declared.states.state.Literal.{Literal}
 use Rattle.scasp_syntax.specs.Values.{are_ground}
+use Rattle.scasp_syntax.specs.declared.atom.Lit.{Lit}
 
 -- the literals from one place on and before another are so
 pub record Within (p : Literal → Bool) (from to : ℕ) (ls : List Literal) : Type 0 where
@@ -10,13 +11,16 @@ pub record Within (p : Literal → Bool) (from to : ℕ) (ls : List Literal) : T
 
 -- ---- what they are
 
--- the key of a name
-abbrev pub key_of : ℕ → ℕ
-key_of n = n % 1024
+-- the key of a sign and a name
+abbrev pub key_of : Bool → ℕ → ℕ
+key_of positive n = n % 512 * 2 + (if positive then 1 else 0)
 
--- its name has another key
+abbrev pub lit_key : Lit → ℕ
+lit_key l = key_of l.positive l.atom.name
+
+-- it has another key
 abbrev pub is_other : ℕ → Literal → Bool
-is_other k a = not (nat_eq (key_of a.lit.atom.name) k)
+is_other k a = not (nat_eq (lit_key a.lit) k)
 
 abbrev pub is_done : Literal → Bool
 is_done a = a.is_done

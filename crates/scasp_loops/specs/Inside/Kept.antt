@@ -1,6 +1,7 @@
 -- Literals of which some change.
 use Rattle.std.specs.Prelude.{◌≡◌, ◌≤◌, ◌<◌, ℕ, zero, suc, Bool, true, List, [], ◌∷◌, length, ⊤}
-use Rattle.scasp_loops.specs.Inside.Hinted.{AreHinted, AreHintedEach}
+use Rattle.scasp_loops.specs.Inside.Hinted.{AreHinted, AreHintedEach, lit_key}
+use Rattle.scasp_loops.specs.Inside.Topped.{AreTopped}
 use Rattle.scasp_loops.specs.Inside.Zipped.{Fit, literals_each, literals_from}
 use Rattle.scasp_loops.specs.declared.entry.Entry.{Entry}
 use Rattle.scasp_loops.specs.declared.entry.Marks.{Marks}
@@ -15,7 +16,7 @@ literals_in l = literals_from 0 l.entries.now l.marks.now
 
 -- what a hint may say of the first it may say of the second
 pub record StaysSo (a b : Literal) : Type 0 where
-  pub name : b.lit.atom.name ≡ a.lit.atom.name
+  pub key : lit_key b.lit ≡ lit_key a.lit
   pub done : a.is_done ≡ true → b.is_done ≡ true
   pub ground : are_ground a.lit.atom.args ≡ true → are_ground b.lit.atom.args ≡ true
 
@@ -53,6 +54,7 @@ pub record SameNow (old new : Lists) : Type 0 where
   pub entries : new.entries.now ≡ old.entries.now
   pub marks : new.marks.now ≡ old.marks.now
   pub hints : new.hints.now ≡ old.hints.now
+  pub raised : new.raised ≡ old.raised
 
 -- each list is what it was at its latest mark
 pub record AreLeft (old new : Lists) : Type 0 where
@@ -62,6 +64,7 @@ pub record AreLeft (old new : Lists) : Type 0 where
   pub marks_before : new.marks.before ≡ earlier old.marks.before
   pub hints : new.hints.now ≡ latest old.hints.now old.hints.before
   pub hints_before : new.hints.before ≡ earlier old.hints.before
+  pub raised : new.raised ≡ old.raised
 
 -- ---- all lists together
 
@@ -70,3 +73,4 @@ pub record AreSound (lists : Lists) (ts : Past ℕ) : Type 0 where
   pub fit : Fit lists.entries lists.marks
   pub now : AreHinted (literals_in lists) lists.hints.now ts.now
   pub before : AreHintedEach (literals_each lists.entries.before lists.marks.before) lists.hints.before ts.before
+  pub tops : AreTopped lists.raised lists.entries lists.hints

@@ -24,6 +24,8 @@ literals-preserved c =
       entries_before = c.end_one.ensures.entries_before ∙ c.literals.invariant.entries_before;
       marks_before = c.end_one.ensures.marks_before ∙ c.literals.invariant.marks_before;
       hints = c.literals.invariant.hints;
+      tops = λ n hs d a. c.end_one.ensures.tops n hs d (c.literals.invariant.tops n hs d a);
+      raised = c.literals.invariant.raised;
       fit = omega (arith, c.end_one.ensures.entries_len, c.end_one.ensures.marks_len, c.literals.invariant.fit);
       within = omega (arith, c.end_one.ensures.marks_len, c.literals.invariant.within, c.varied_before-left.ensures.place);
     }

@@ -6,8 +6,8 @@ use Rattle.scasp_loops.proofs.HintLemmas.{none_within}
 use Rattle.scasp_loops.proofs.ZipLemmas.{literals_length}
 use Rattle.scasp_loops.proofs.lists.next_hint.Goals as goal
 
-pub returns : goal.returns
-returns c =
+pub returns-clause-known : goal.returns-clause-known
+returns-clause-known c =
     let ls : List Literal = literals_from 0 c.args.lists.now.entries.now c.args.lists.now.marks.now in
     let n = length c.args.lists.now.marks.now in
     let count : c.len-count.result ≡ n = c.len-count.ensures.len in

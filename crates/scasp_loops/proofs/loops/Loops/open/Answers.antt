@@ -17,6 +17,6 @@ invariant_of-self-2 c =
     let e : Entry = record { lit = c.args.lit; cases = c.args.cases } in
     let m : Marks = record { is_done = false; loops = false; is_general = false } in
     let p : Lists = c.prepare.new.lists in
-    sound_opened c.self.inside.lists p (record { entries = p.entries; marks = c.push.new.self; hints = p.hints }) c.self.inside.latest c.prepare.new.latest e m c.self.invariant
+    sound_opened c.self.inside.lists p (record { entries = p.entries; marks = c.push.new.self; hints = p.hints; raised = p.raised }) c.self.inside.latest c.prepare.new.latest e m c.self.invariant
     c.in_ok-prepare.ensures.stands c.in_ok-prepare.ensures.more c.in_ok-prepare.ensures.marks c.in_ok-prepare.ensures.entries_before c.in_ok-prepare.ensures.hints_before
-    c.in_ok-prepare.ensures.latest_before refl refl c.in_ok-push.ensures.now c.in_ok-push.ensures.before
+    c.in_ok-prepare.ensures.latest_before refl refl c.in_ok-push.ensures.now c.in_ok-push.ensures.before refl c.in_ok-prepare.ensures.raised c.in_ok-prepare.ensures.tops
