@@ -1,5 +1,5 @@
 -- With which variables literals start.
-use Rattle.std.proofs.Common.{◌≡◌, ◌+◌, ◌-◌, ◌<◌, ◌≤◌, ◌⊎◌, inl, inr, ℕ, zero, suc, Bool, true, false, not, ◌&&◌, nat_eq, List, [], ◌∷◌, ◌++◌, length, slice_get, slice_set, take, Option, None, Some, arith, refl, ap, sym, subst, ◌∙◌}
+use Rattle.std.proofs.Common.{◌≡◌, ◌+◌, ◌-◌, ◌<◌, ◌≤◌, ◌⊎◌, inl, inr, ℕ, zero, suc, Bool, true, false, not, ◌&&◌, nat_eq, List, [], ◌∷◌, ◌++◌, length, slice_get, slice_set, take, Option, None, Some, Result, Ok, Err, OnOk, OnErr, arith, refl, ap, sym, subst, ◌∙◌}
 use Rattle.std.proofs.lemmas.Bool.{cases_order}
 use Rattle.std.proofs.lemmas.Bool.Decides.{Decides-eqb}
 use Rattle.scasp_bound.specs.Bounds.{ReadsDown, as_variable}
@@ -175,6 +175,11 @@ tops_set n at es hs gs old new a o e s = subst (AreTops n es) (sym s) (record { 
     by : (k : ℕ) → (g : Hint) → (r : ℕ) → g.top < r → n < r → ((k ≡ at) × (g ≡ new)) ⊎ (slice_get hs k ≡ Some g) → AllStartBefore r k es
     by k g r u b (inl p) = a.each k old (ap (slice_get hs) p.0 ∙ o) r (omega (arith, u, e, ap (λ (y : Hint). y.top) p.1)) b
     by k g r u b (inr p) = a.each k g p r u b
+
+pub tops_put : {A E : Type 0} (r : Result A E) (n at : ℕ) (es : List Entry) (p q : Past Hint) (old new : Hint) → OnOk r (q.now ≡ slice_set p.now at new) → OnErr r (q ≡ p)
+    → slice_get p.now at ≡ Some old → new.top ≡ old.top → AreTops n es p.now → AreTops n es q.now
+tops_put (Ok x) n at es p q old new s u o e a = tops_set n at es p.now q.now old new a o e s
+tops_put (Err x) n at es p q old new s u o e a = subst (λ (h : Past Hint). AreTops n es h.now) (sym u) a
 
 -- ---- a literal that is read
 

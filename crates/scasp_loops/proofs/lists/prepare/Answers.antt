@@ -1,4 +1,4 @@
-use Rattle.std.proofs.Common.{◌≡◌, ◌+◌, ℕ, List, arith, length, refl, subst, sym, ◌∙◌}
+use Rattle.std.proofs.Common.{◌≡◌, ◌+◌, ◌≤◌, ℕ, List, arith, length, refl, subst, sym, ◌∙◌}
 use Rattle.scasp_loops.specs.Held.{literal_of}
 use Rattle.scasp_loops.specs.Inside.Hinted.{AreHinted, IsHint}
 use Rattle.scasp_loops.specs.Inside.Topped.{AreTops, IsTop}

@@ -17,8 +17,8 @@ kept l r k ts bs s re rm rh up d ke km kh f a q t =
     let raised : AreSound r ts = sound_raised l r ts s re rm rh up in
     sound_stays r k ts raised ke km kh f a q (t r.raised r.hints.now d raised.tops.now)
 
-pub invariant_of-self-in_err-raise : goal.invariant_of-self-in_err-raise
-invariant_of-self-in_err-raise c = sound_raised c.self.inside.lists c.raise.new.self c.self.inside.latest c.self.invariant c.raise.ensures.entries c.raise.ensures.marks c.raise.ensures.hints c.raise.ensures.raised
+pub invariant_of-self : goal.invariant_of-self
+invariant_of-self c = sound_raised c.self.inside.lists c.raise.new.self c.self.inside.latest c.self.invariant c.raise.ensures.entries c.raise.ensures.marks c.raise.ensures.hints c.raise.ensures.raised
 
 pub invariant_of-self-in_err-end_each : goal.invariant_of-self-in_err-end_each
 invariant_of-self-in_err-end_each c =
@@ -43,8 +43,8 @@ invariant_of-self-in_err-note_each c =
     sound_hints c.end_each.new.lists c.note_each.new.lists c.self.inside.latest sound c.note_each.ensures.entries c.note_each.ensures.marks c.note_each.ensures.before c.note_each.ensures.len
     c.note_each.ensures.hints c.note_each.ensures.raised (c.note_each.ensures.tops c.end_each.new.lists.raised c.end_each.new.lists.entries.now sound.tops.now)
 
-pub invariant_of-self : goal.invariant_of-self
-invariant_of-self c =
+pub invariant_of-self-2 : goal.invariant_of-self-2
+invariant_of-self-2 c =
     let sound : AreSound c.end_each.new.lists c.self.inside.latest =
     kept c.self.inside.lists c.raise.new.self c.end_each.new.lists c.self.inside.latest c.args.bound.now.now c.self.invariant c.raise.ensures.entries c.raise.ensures.marks c.raise.ensures.hints
     c.raise.ensures.raised c.in_ok-raise.ensures.down c.end_each.ensures.entries_before c.end_each.ensures.marks_before c.end_each.ensures.hints c.end_each.ensures.fit c.end_each.ensures.stay
