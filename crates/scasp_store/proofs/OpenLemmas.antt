@@ -66,6 +66,11 @@ any-of p cs ps e = by (list_any p cs) refl
     by true k = refl
     by false k = absurd (true≢false (sym e ∙ none-any p (opened cs ps) (open-of (λ c. p c ≡ false) cs ps (none-of p cs k))))
 
+pub past_end : (cs : List Con) (i : ℕ) → length cs ≤ i → None ≡ slice_get cs i
+past_end [] i h = refl
+past_end (c ∷ cs) zero h = absurd (omega (arith, h))
+past_end (c ∷ cs) (suc i) h = past_end cs i (omega (arith, h))
+
 -- ---- changes
 
 pub open-under : (s r : Sub) → ((c : Con) → IsSettled s c → IsSettled r c) → (cs : List Con) (ps : List ℕ) → AreOpen s cs ps → AreOpen r cs ps

@@ -161,7 +161,6 @@ fn takes_out(bound: &Bound, xs: &[u64], but: &[u64]) -> bool
 
 /// Takes the bindings of the variables of a list out, but for those that are also in another one. All of so many
 /// constraints are open again, unless there is no such binding.
-#[tactic(auto, using(crate::proofs::KeepLemmas::good_fewer))]
 pub(crate) fn take_out(
     bound: &mut Bound,
     places: &mut Trailed<usize>,
@@ -176,7 +175,8 @@ pub(crate) fn take_out(
 {
     let is_less = takes_out(bound, xs, but);
     bound.end_case(xs, but)?;
-    open_if(places, is_less, count)
+    open_if(places, is_less, count)?;
+    Ok(())
 }
 
 /// Puts a copy of the constraint at the place behind those of a list, if there is one.
