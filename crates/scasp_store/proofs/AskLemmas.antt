@@ -1,7 +1,8 @@
 -- The open constraints, as the bindings read them, are asked in place of the whole list.
-use Rattle.std.proofs.Common.{◌≡◌, ◌↔◌, ℕ, Bool, true, false, ◌&&◌, ◌||◌, not, List, [], ◌∷◌, ◌++◌, map, is_none, if◌then◌else◌, Option, None, Some, refl, sym, ap, subst, ◌∙◌}
+use Rattle.std.proofs.Common.{◌≡◌, ◌↔◌, ◌⊎◌, inl, inr, nat_eq, ℕ, Bool, true, false, ◌&&◌, ◌||◌, not, List, [], ◌∷◌, ◌++◌, map, is_none, if◌then◌else◌, Option, None, Some, refl, sym, ap, subst, ◌∙◌}
 use Rattle.std.specs.List.{list_all, list_any}
-use Rattle.std.proofs.lemmas.Bool.{and_from, and_parts, true≢false}
+use Rattle.std.proofs.lemmas.Bool.{and_from, and_parts, eqb-true, true≢false}
+use Rattle.std.proofs.lemmas.Bool.Decides.{Decides-eqb}
 use Rattle.scasp_list.specs.Each.{Each}
 use Rattle.scasp_list.proofs.EachLemmas.{Each-append, Each-from_test, Each-left, Each-map, Each-right, test_from-Each}
 use Rattle.scasp_hint.specs.AskedRows.{RowsNormal, given_rows}
@@ -16,13 +17,13 @@ use Rattle.scasp_law_parts.proofs.ReadLemmas.{con-read, list-met, same-truth}
 use Rattle.scasp_law_parts.proofs.TriangularLemmas.{solved-self}
 use Rattle.scasp_num.specs.Linear.{IsNormal, Linear}
 use Rattle.scasp_num.specs.declared.linear.Coeff.{Coeff}
-use Rattle.scasp_search_rules.specs.Successors.Reading.{con_under, holds_always, not_shaped}
+use Rattle.scasp_search_rules.specs.Successors.Reading.{among, con_under, holds_always, not_shaped}
 use Rattle.scasp_search_rules.specs.Successors.Replacing.{is_unreplaced}
-use Rattle.scasp_search_rules.specs.Successors.Splits.{is_number_test}
-use Rattle.scasp_readings.specs.Readings.{reading}
+use Rattle.scasp_syntax.specs.Same.{same_tm}
 use Rattle.scasp_syntax.specs.Constraints.{Sat, has_shape, holds, is_number}
 use Rattle.scasp_syntax.specs.Tm.{Tm, var, num, app}
 use Rattle.scasp_syntax.specs.Values.{Sub, under}
+use Rattle.scasp_syntax.specs.View.{tm_of}
 use Rattle.scasp_syntax.specs.declared.con.Con.{Con}
 use Rattle.scasp_syntax.specs.declared.con.Con.TheVariants as con
 use Rattle.scasp_unify.specs.Numbers.{counts, is_num_of}
@@ -34,21 +35,13 @@ use Rattle.scasp_unify.specs.Sorted.{Sorted, is_typed, is_typed_con, typed}
 use Rattle.scasp_unify.specs.TermFailures.{is_compound}
 use Rattle.scasp_unify.specs.Unification.{Absorbs, then_by}
 use Rattle.scasp_unify.specs.declared.bindings.Binding.{Binding}
-use Rattle.scasp_store.specs.Inside.Asking.{counts_all, is_askable, is_counted, is_equation, is_flat, is_readable, is_row, is_sorted, is_told, read_by}
-use Rattle.scasp_store.specs.Inside.Open.{AreFlags, IsSettled, has_values, opened}
-use Rattle.scasp_store.proofs.FlagLemmas.{all-of, any-of, open-of}
+use Rattle.scasp_store.specs.Inside.Asking.{counts_all, is_askable, is_counted, is_equation, is_flat, is_readable, is_row, is_sorted, is_told, one_var, read_by, told_by, told_var}
+use Rattle.scasp_store.specs.Inside.Open.{AreOpen, IsSettled, has_values, opened}
+use Rattle.scasp_store.proofs.OpenLemmas.{all-of, any-of, none-of, open-of}
 use Rattle.scasp_store.proofs.SolvedLemmas.{goes-on, resolved-behind}
 use Rattle.scasp_store.proofs.TrueLemmas.{always, number-stays}
 
 -- ---- booleans
-
-none-of : (p : Con → Bool) (cs : List Con) → list_any p cs ≡ false → Each (λ c. p c ≡ false) cs
-none-of p [] e = tt
-none-of p (c ∷ cs) e = by (p c) refl e (none-of p cs)
-  where
-    by : (b : Bool) → p c ≡ b → (b || list_any p cs) ≡ false → (list_any p cs ≡ false → Each (λ c. p c ≡ false) cs) → (p c ≡ false) × Each (λ c. p c ≡ false) cs
-    by true k e rest = absurd (true≢false e)
-    by false k e rest = (k, rest e)
 
 any-left : (p : Con → Bool) (cs ds : List Con) → list_any p cs ≡ true → list_any p (cs ++ ds) ≡ true
 any-left p [] ds e = absurd (true≢false (sym e))
@@ -76,12 +69,12 @@ any-parts p (c ∷ cs) ds e b k = by (p c) e k (any-parts p cs ds)
     by false e k rest = let q = rest e b k in q
 
 -- an open constraint or one that is asked stands in the whole list
-stands : (p : Con → Bool) (bs : List Con) (cs : List Con) (fs : List Bool) (more : List Con) → list_any p (opened cs fs ++ more) ≡ true → list_any p (bs ++ (cs ++ more)) ≡ true
-stands p bs cs fs more e = any-right p bs (cs ++ more) (by (list_any p (opened cs fs)) refl)
+stands : (p : Con → Bool) (bs : List Con) (cs : List Con) (ps : List ℕ) (more : List Con) → list_any p (opened cs ps ++ more) ≡ true → list_any p (bs ++ (cs ++ more)) ≡ true
+stands p bs cs ps more e = any-right p bs (cs ++ more) (by (list_any p (opened cs ps)) refl)
   where
-    by : (b : Bool) → list_any p (opened cs fs) ≡ b → list_any p (cs ++ more) ≡ true
-    by true k = any-left p cs more (any-of p cs fs k)
-    by false k = any-right p cs more ((any-parts p (opened cs fs) more e false k).1 refl)
+    by : (b : Bool) → list_any p (opened cs ps) ≡ b → list_any p (cs ++ more) ≡ true
+    by true k = any-left p cs more (any-of p cs ps k)
+    by false k = any-right p cs more ((any-parts p (opened cs ps) more e false k).1 refl)
 
 -- ---- readable constraints
 
@@ -114,7 +107,7 @@ each-normal (con.Num t) cs n = (tt, n)
 each-normal (con.NotNum t) cs n = (tt, n)
 each-normal (con.Row r) cs n = ((n.0, tt), n.1)
 
-all-read : (s : Sub) (cs : List Con) → RowsNormal cs → list_all (is_readable s) cs ≡ true → Each (IsReadable s) cs
+pub all-read : (s : Sub) (cs : List Con) → RowsNormal cs → list_all (is_readable s) cs ≡ true → Each (IsReadable s) cs
 all-read s [] n e = tt
 all-read s (c ∷ cs) n e =
     let k = and_parts (is_readable s c) (list_all (is_readable s) cs) e in
@@ -159,19 +152,61 @@ no-row-typed all (con.NotShape x f n) h = refl
 no-row-typed all (con.Num t) h = refl
 no-row-typed all (con.NotNum t) h = refl
 
-told-here : (s : Sub) (some all : List Con) → ((p : Con → Bool) → list_any p some ≡ true → list_any p all ≡ true) → (t : Tm) → is_told s some t ≡ true → (is_number t || list_any (is_num_of s t) all) ≡ true
-told-here s some all more (var y) e = more (is_num_of s (var y)) e
+var-told : (s : Sub) (y : ℕ) (c : Con) (t : Tm) → among y (one_var t) ≡ true → same_tm t (var y) ≡ true
+var-told s y c (var z) e = by (nat_eq y z) refl e
+  where
+    by : (b : Bool) → nat_eq y z ≡ b → (b || false) ≡ true → nat_eq z y ≡ true
+    by true k f = (Decides-eqb z y).1 (sym (eqb-true y z k))
+    by false k f = absurd (true≢false (sym f))
+var-told s y c (num q) e = absurd (true≢false (sym e))
+var-told s y c (app f ts) e = absurd (true≢false (sym e))
+
+one-told : (s : Sub) (y : ℕ) (c : Con) → among y (told_var s c) ≡ true → is_num_of s (var y) c ≡ true
+one-told s y (con.Num t) e = var-told s y (con.Num t) (under s (tm_of t)) e
+one-told s y (con.Row r) e = absurd (true≢false (sym e))
+one-told s y (con.Eq t u) e = absurd (true≢false (sym e))
+one-told s y (con.Neq t u) e = absurd (true≢false (sym e))
+one-told s y (con.NotShape x f n) e = absurd (true≢false (sym e))
+one-told s y (con.NotNum t) e = absurd (true≢false (sym e))
+
+pub either-among : (y : ℕ) (xs ys : List ℕ) → among y (xs ++ ys) ≡ true → (b : Bool) → among y xs ≡ b → (among y ys ≡ true) ⊎ (b ≡ true)
+either-among y [] ys e b k = inl e
+either-among y (x ∷ xs) ys e b k = by (nat_eq y x) e k (either-among y xs ys)
+  where
+    by : (a : Bool) → (a || among y (xs ++ ys)) ≡ true → (a || among y xs) ≡ b → (among y (xs ++ ys) ≡ true → (b : Bool) → among y xs ≡ b → (among y ys ≡ true) ⊎ (b ≡ true)) → (among y ys ≡ true) ⊎ (b ≡ true)
+    by true e k rest = inr (sym k)
+    by false e k rest = rest e b k
+
+-- a variable that is told is that of a number test
+told-any : (s : Sub) (y : ℕ) (cs : List Con) → among y (told_by s cs) ≡ true → list_any (is_num_of s (var y)) cs ≡ true
+told-any s y [] e = absurd (true≢false (sym e))
+told-any s y (c ∷ cs) e = by (either-among y (told_var s c) (told_by s cs) e (among y (told_var s c)) refl) (told-any s y cs)
+  where
+    here : (a b : Bool) → b ≡ true → (a || b) ≡ true
+    here true b k = refl
+    here false b k = k
+
+    there : (a b : Bool) → a ≡ true → (a || b) ≡ true
+    there true b k = refl
+    there false b k = absurd (true≢false (sym k))
+
+    by : (among y (told_by s cs) ≡ true) ⊎ (among y (told_var s c) ≡ true) → (among y (told_by s cs) ≡ true → list_any (is_num_of s (var y)) cs ≡ true) → (is_num_of s (var y) c || list_any (is_num_of s (var y)) cs) ≡ true
+    by (inl k) rest = here (is_num_of s (var y) c) (list_any (is_num_of s (var y)) cs) (rest k)
+    by (inr k) rest = there (is_num_of s (var y) c) (list_any (is_num_of s (var y)) cs) (one-told s y c k)
+
+told-here : (s : Sub) (some all : List Con) → ((p : Con → Bool) → list_any p some ≡ true → list_any p all ≡ true) → (t : Tm) → is_told (told_by s some) t ≡ true → (is_number t || list_any (is_num_of s t) all) ≡ true
+told-here s some all more (var y) e = more (is_num_of s (var y)) (told-any s y some e)
 told-here s some all more (num q) e = refl
 told-here s some all more (app f ts) e = absurd (true≢false (sym e))
 
-told-counts : (all some : List Con) (s : Sub) → resolver all ≡ s → ((p : Con → Bool) → list_any p some ≡ true → list_any p all ≡ true) → (ks : List Coeff) → list_all (λ k. is_told s some (s k.x)) ks ≡ true → list_all (λ k. counts all k.x) ks ≡ true
+told-counts : (all some : List Con) (s : Sub) → resolver all ≡ s → ((p : Con → Bool) → list_any p some ≡ true → list_any p all ≡ true) → (ks : List Coeff) → list_all (λ k. is_told (told_by s some) (s k.x)) ks ≡ true → list_all (λ k. counts all k.x) ks ≡ true
 told-counts all some s same more [] e = refl
 told-counts all some s same more (k ∷ ks) e =
-    let q = and_parts (is_told s some (s k.x)) (list_all (λ k. is_told s some (s k.x)) ks) e in
+    let q = and_parts (is_told (told_by s some) (s k.x)) (list_all (λ k. is_told (told_by s some) (s k.x)) ks) e in
     let one : counts all k.x ≡ true = ap (λ (v : Sub). is_number (v k.x) || list_any (is_num_of v (v k.x)) all) same ∙ told-here s some all more (s k.x) q.0 in
     and_from (counts all k.x) (list_all (λ k. counts all k.x) ks) one (told-counts all some s same more ks q.1)
 
-counted-typed : (all some : List Con) (s : Sub) → resolver all ≡ s → ((p : Con → Bool) → list_any p some ≡ true → list_any p all ≡ true) → (c : Con) → is_counted s some c ≡ true → is_typed_con all c ≡ true
+counted-typed : (all some : List Con) (s : Sub) → resolver all ≡ s → ((p : Con → Bool) → list_any p some ≡ true → list_any p all ≡ true) → (c : Con) → is_counted s (told_by s some) c ≡ true → is_typed_con all c ≡ true
 counted-typed all some s same more (con.Row l) e = told-counts all some s same more l.coeffs e
 counted-typed all some s same more (con.Eq t u) e = refl
 counted-typed all some s same more (con.Neq t u) e = refl
@@ -224,13 +259,13 @@ each-read s (c ∷ cs) e = (read-rows s c e.0, each-read s cs e.1)
 -- ---- the answer
 
 -- what makes both lists sorted
-record Typed (bs : List Binding) (cs : List Con) (fs : List Bool) (more : List Con) : Type 0 where
-  pub whole : Each (λ c. is_typed_con (equations bs ++ (cs ++ more)) c ≡ true) (opened cs fs ++ more)
-  pub short : list_all (is_typed_con (read_by (sub_of bs) (opened cs fs ++ more))) (read_by (sub_of bs) (opened cs fs ++ more)) ≡ true
+record Typed (bs : List Binding) (cs : List Con) (ps : List ℕ) (more : List Con) : Type 0 where
+  pub whole : Each (λ c. is_typed_con (equations bs ++ (cs ++ more)) c ≡ true) (opened cs ps ++ more)
+  pub short : list_all (is_typed_con (read_by (sub_of bs) (opened cs ps ++ more))) (read_by (sub_of bs) (opened cs ps ++ more)) ≡ true
 
-without-rows : (bs : List Binding) (cs : List Con) (fs : List Bool) (more : List Con) → list_any is_row (opened cs fs ++ more) ≡ false → Typed bs cs fs more
-without-rows bs cs fs more e =
-    let list : List Con = opened cs fs ++ more in
+without-rows : (bs : List Binding) (cs : List Con) (ps : List ℕ) (more : List Con) → list_any is_row (opened cs ps ++ more) ≡ false → Typed bs cs ps more
+without-rows bs cs ps more e =
+    let list : List Con = opened cs ps ++ more in
     let none = none-of is_row list e in
     let read : List Con = read_by (sub_of bs) list in
     record {
@@ -242,46 +277,46 @@ is-false : (b : Bool) → not b ≡ true → b ≡ false
 is-false true e = absurd (true≢false (sym e))
 is-false false e = refl
 
-counted-list : (s : Sub) (list all : List Con) → resolver all ≡ s → ((p : Con → Bool) → list_any p list ≡ true → list_any p all ≡ true) → list_all (is_counted s list) list ≡ true → Each (λ c. is_typed_con all c ≡ true) list
-counted-list s list all same more e = Each-from_test (is_counted s list) (λ c. is_typed_con all c ≡ true) (counted-typed all list s same more) list e
+counted-list : (s : Sub) (list all : List Con) → resolver all ≡ s → ((p : Con → Bool) → list_any p list ≡ true → list_any p all ≡ true) → list_all (is_counted s (told_by s list)) list ≡ true → Each (λ c. is_typed_con all c ≡ true) list
+counted-list s list all same more e = Each-from_test (is_counted s (told_by s list)) (λ c. is_typed_con all c ≡ true) (counted-typed all list s same more) list e
 
-with-rows : (bs : List Binding) (cs : List Con) (fs : List Bool) (more : List Con) → Triangular bs → AreFlags (sub_of bs) cs fs → (counts_all (sub_of bs) (opened cs fs ++ more) && counts_all var (read_by (sub_of bs) (opened cs fs ++ more))) ≡ true → Typed bs cs fs more
-with-rows bs cs fs more h f e =
+with-rows : (bs : List Binding) (cs : List Con) (ps : List ℕ) (more : List Con) → Triangular bs → AreOpen (sub_of bs) cs ps → (counts_all (sub_of bs) (opened cs ps ++ more) && counts_all var (read_by (sub_of bs) (opened cs ps ++ more))) ≡ true → Typed bs cs ps more
+with-rows bs cs ps more h f e =
     let s : Sub = sub_of bs in
-    let list : List Con = opened cs fs ++ more in
+    let list : List Con = opened cs ps ++ more in
     let read : List Con = read_by s list in
     let both = and_parts (counts_all s list) (counts_all var read) e in
-    let one = and_parts (not (list_any is_equation list)) (list_all (is_counted s list) list) both.0 in
-    let two = and_parts (not (list_any is_equation read)) (list_all (is_counted var read) read) both.1 in
+    let one = and_parts (not (list_any is_equation list)) (list_all (is_counted s (told_by s list)) list) both.0 in
+    let two = and_parts (not (list_any is_equation read)) (list_all (is_counted var (told_by var read)) read) both.1 in
     let none = none-of is_equation list (is-false (list_any is_equation list) one.0) in
-    let left = all-of (λ c. is_equation c ≡ false) s (settled-none s) cs fs f (Each-left (λ c. is_equation c ≡ false) (opened cs fs) more none) in
-    let rest = Each-append (λ c. is_equation c ≡ false) cs more left (Each-right (λ c. is_equation c ≡ false) (opened cs fs) more none) in
+    let left = all-of (λ c. is_equation c ≡ false) s (settled-none s) cs ps f (Each-left (λ c. is_equation c ≡ false) (opened cs ps) more none) in
+    let rest = Each-append (λ c. is_equation c ≡ false) cs more left (Each-right (λ c. is_equation c ≡ false) (opened cs ps) more none) in
     let whole = resolved-behind bs (cs ++ more) h ∙ no-equations s (cs ++ more) rest in
     let short = no-equations var read (none-of is_equation read (is-false (list_any is_equation read) two.0)) in
     record {
-      whole = counted-list s list (equations bs ++ (cs ++ more)) whole (λ p. stands p (equations bs) cs fs more) one.1;
+      whole = counted-list s list (equations bs ++ (cs ++ more)) whole (λ p. stands p (equations bs) cs ps more) one.1;
       short = all-typed read read (counted-list var read read short (λ p k. k) two.1);
     }
 
-are-typed : (bs : List Binding) (cs : List Con) (fs : List Bool) (more : List Con) → Triangular bs → AreFlags (sub_of bs) cs fs → is_sorted (sub_of bs) (opened cs fs ++ more) ≡ true → Typed bs cs fs more
-are-typed bs cs fs more h f e = by (list_any is_row (opened cs fs ++ more)) refl e
+are-typed : (bs : List Binding) (cs : List Con) (ps : List ℕ) (more : List Con) → Triangular bs → AreOpen (sub_of bs) cs ps → is_sorted (sub_of bs) (opened cs ps ++ more) ≡ true → Typed bs cs ps more
+are-typed bs cs ps more h f e = by (list_any is_row (opened cs ps ++ more)) refl e
   where
-    by : (b : Bool) → list_any is_row (opened cs fs ++ more) ≡ b → (not b || (counts_all (sub_of bs) (opened cs fs ++ more) && counts_all var (read_by (sub_of bs) (opened cs fs ++ more)))) ≡ true → Typed bs cs fs more
-    by false k g = without-rows bs cs fs more k
-    by true k g = with-rows bs cs fs more h f g
+    by : (b : Bool) → list_any is_row (opened cs ps ++ more) ≡ b → (not b || (counts_all (sub_of bs) (opened cs ps ++ more) && counts_all var (read_by (sub_of bs) (opened cs ps ++ more)))) ≡ true → Typed bs cs ps more
+    by false k g = without-rows bs cs ps more k
+    by true k g = with-rows bs cs ps more h f g
 
-whole-typed : (bs : List Binding) (cs : List Con) (fs : List Bool) (more : List Con) → Triangular bs → AreFlags (sub_of bs) cs fs → Typed bs cs fs more → is_typed (equations bs ++ (cs ++ more)) ≡ true
-whole-typed bs cs fs more h f t =
+whole-typed : (bs : List Binding) (cs : List Con) (ps : List ℕ) (more : List Con) → Triangular bs → AreOpen (sub_of bs) cs ps → Typed bs cs ps more → is_typed (equations bs ++ (cs ++ more)) ≡ true
+whole-typed bs cs ps more h f t =
     let all : List Con = equations bs ++ (cs ++ more) in
     let k = goes-on (sub_of bs) (cs ++ more) in
     let same = resolved-behind bs (cs ++ more) h ∙ k.1 in
-    let given = all-of (λ c. is_typed_con all c ≡ true) (sub_of bs) (settled-typed all (sub_of bs) k.0 same) cs fs f (Each-left (λ c. is_typed_con all c ≡ true) (opened cs fs) more t.whole) in
-    let rest = Each-append (λ c. is_typed_con all c ≡ true) cs more given (Each-right (λ c. is_typed_con all c ≡ true) (opened cs fs) more t.whole) in
+    let given = all-of (λ c. is_typed_con all c ≡ true) (sub_of bs) (settled-typed all (sub_of bs) k.0 same) cs ps f (Each-left (λ c. is_typed_con all c ≡ true) (opened cs ps) more t.whole) in
+    let rest = Each-append (λ c. is_typed_con all c ≡ true) cs more given (Each-right (λ c. is_typed_con all c ≡ true) (opened cs ps) more t.whole) in
     join-all (is_typed_con all) (equations bs) (cs ++ more) (sorted-equations all bs) (all-typed all (cs ++ more) rest)
 
 -- the settled constraints hold in any case
-with-settled : (s : Sub) (cs : List Con) (fs : List Bool) (more : List Con) → AreFlags s cs fs → SatUnder s (cs ++ more) ↔ SatUnder s (opened cs fs ++ more)
-with-settled s cs fs more f = (to, from)
+with-settled : (s : Sub) (cs : List Con) (ps : List ℕ) (more : List Con) → AreOpen s cs ps → SatUnder s (cs ++ more) ↔ SatUnder s (opened cs ps ++ more)
+with-settled s cs ps more f = (to, from)
   where
     Met : Sub → Con → Type 0
     Met v c = holds (then_by s v) c ≡ true
@@ -292,42 +327,49 @@ with-settled s cs fs more f = (to, from)
     test : (v : Sub) (ds : List Con) → Each (Met v) ds → list_all (holds (then_by s v)) ds ≡ true
     test v ds e = test_from-Each (holds (then_by s v)) (Met v) (λ c k. k) ds e
 
-    to : SatUnder s (cs ++ more) → SatUnder s (opened cs fs ++ more)
+    to : SatUnder s (cs ++ more) → SatUnder s (opened cs ps ++ more)
     to a =
         let e = each a.by.of (cs ++ more) a.meets in
-        record { by = a.by; meets = test a.by.of (opened cs fs ++ more) (Each-append (Met a.by.of) (opened cs fs) more (open-of (Met a.by.of) cs fs (Each-left (Met a.by.of) cs more e)) (Each-right (Met a.by.of) cs more e)) }
+        record { by = a.by; meets = test a.by.of (opened cs ps ++ more) (Each-append (Met a.by.of) (opened cs ps) more (open-of (Met a.by.of) cs ps (Each-left (Met a.by.of) cs more e)) (Each-right (Met a.by.of) cs more e)) }
 
-    from : SatUnder s (opened cs fs ++ more) → SatUnder s (cs ++ more)
+    from : SatUnder s (opened cs ps ++ more) → SatUnder s (cs ++ more)
     from a =
-        let e = each a.by.of (opened cs fs ++ more) a.meets in
-        record { by = a.by; meets = test a.by.of (cs ++ more) (Each-append (Met a.by.of) cs more (all-of (Met a.by.of) s (λ c k. k.always a.by.of) cs fs f (Each-left (Met a.by.of) (opened cs fs) more e)) (Each-right (Met a.by.of) (opened cs fs) more e)) }
+        let e = each a.by.of (opened cs ps ++ more) a.meets in
+        record { by = a.by; meets = test a.by.of (cs ++ more) (Each-append (Met a.by.of) cs more (all-of (Met a.by.of) s (λ c k. k.always a.by.of) cs ps f (Each-left (Met a.by.of) (opened cs ps) more e)) (Each-right (Met a.by.of) (opened cs ps) more e)) }
 
-pub asked_alike : (bs : List Binding) (cs : List Con) (fs : List Bool) (more : List Con) → Triangular bs → AreFlags (sub_of bs) cs fs → RowsNormal (opened cs fs ++ more) → is_askable (sub_of bs) (opened cs fs ++ more) ≡ true → sat (equations bs ++ (cs ++ more)) ≡ sat (read_by (sub_of bs) (opened cs fs ++ more))
-asked_alike bs cs fs more h f n e =
+pub asked_alike : (bs : List Binding) (cs : List Con) (ps : List ℕ) (more : List Con) → Triangular bs → AreOpen (sub_of bs) cs ps → RowsNormal (opened cs ps ++ more) → is_askable (sub_of bs) (opened cs ps ++ more) ≡ true → sat (equations bs ++ (cs ++ more)) ≡ sat (read_by (sub_of bs) (opened cs ps ++ more))
+asked_alike bs cs ps more h f n e =
     let s : Sub = sub_of bs in
-    let list : List Con = opened cs fs ++ more in
+    let list : List Con = opened cs ps ++ more in
     let k = and_parts (list_all (is_readable s) list) (is_sorted s list) e in
-    let t = are-typed bs cs fs more h f k.1 in
+    let t = are-typed bs cs ps more h f k.1 in
     let solved = solved-self bs h in
-    let all = sat-sorted (equations bs ++ (cs ++ more)) (typed (whole-typed bs cs fs more h f t)) in
+    let all = sat-sorted (equations bs ++ (cs ++ more)) (typed (whole-typed bs cs ps more h f t)) in
     let part = sat-sorted (read_by s list) (typed t.short) in
     let bound = bound-read bs (cs ++ more) solved in
-    let same = with-settled s cs fs more f in
+    let same = with-settled s cs ps more f in
     let read = list-met s list (absorbed s bs solved) (all-read s list n k.0) in
     same-truth (sat (equations bs ++ (cs ++ more))) (sat (read_by s list))
     (λ q. part.1 (read.0 (same.0 (bound.0 (all.0 q)))))
     (λ q. all.1 (bound.1 (same.1 (read.1 (part.0 q)))))
 
--- ---- what is read of the list that is told
+pub asked_typed : (bs : List Binding) (cs : List Con) (ps : List ℕ) (more : List Con) → Triangular bs → AreOpen (sub_of bs) cs ps → is_askable (sub_of bs) (opened cs ps ++ more) ≡ true → is_typed (read_by (sub_of bs) (opened cs ps ++ more)) ≡ true
+asked_typed bs cs ps more h f e =
+    let list : List Con = opened cs ps ++ more in
+    let k = and_parts (list_all (is_readable (sub_of bs)) list) (is_sorted (sub_of bs) list) e in
+    (are-typed bs cs ps more h f k.1).short
 
-one-told : (bs : List Binding) (y : ℕ) (c : Con) → is_number_test (reading bs) y c ≡ is_num_of (sub_of bs) (var y) c
-one-told bs y (con.Num t) = refl
-one-told bs y (con.Eq t u) = refl
-one-told bs y (con.Neq t u) = refl
-one-told bs y (con.NotShape x f n) = refl
-one-told bs y (con.NotNum t) = refl
-one-told bs y (con.Row r) = refl
+-- ---- a list by itself
 
-pub told_alike : (bs : List Binding) (y : ℕ) (cs : List Con) → list_any (is_number_test (reading bs) y) cs ≡ list_any (is_num_of (sub_of bs) (var y)) cs
-told_alike bs y [] = refl
-told_alike bs y (c ∷ cs) = λ i. one-told bs y c i || told_alike bs y cs i
+rows-typed : (cs : List Con) → counts_all var cs ≡ true → is_typed cs ≡ true
+rows-typed cs e =
+    let k = and_parts (not (list_any is_equation cs)) (list_all (is_counted var (told_by var cs)) cs) e in
+    let alone = no-equations var cs (none-of is_equation cs (is-false (list_any is_equation cs) k.0)) in
+    all-typed cs cs (counted-list var cs cs alone (λ p q. q) k.1)
+
+pub alone_typed : (cs : List Con) → (not (list_any is_row cs) || counts_all var cs) ≡ true → is_typed cs ≡ true
+alone_typed cs e = by (list_any is_row cs) refl e
+  where
+    by : (b : Bool) → list_any is_row cs ≡ b → (not b || counts_all var cs) ≡ true → is_typed cs ≡ true
+    by false k f = all-typed cs cs (Each-map (λ c. is_row c ≡ false) (λ c. is_typed_con cs c ≡ true) (no-row-typed cs) cs (none-of is_row cs k))
+    by true k f = rows-typed cs f

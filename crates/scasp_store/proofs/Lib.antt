@@ -1,6 +1,7 @@
 pub mod AskLemmas
-pub mod FlagLemmas
+pub mod FixLemmas
 pub mod KeepLemmas
 pub mod NewLemmas
+pub mod OpenLemmas
 pub mod SolvedLemmas
 pub mod TrueLemmas

@@ -1,23 +1,20 @@
 //! Short lists that are asked in place of whole ones.
-ghost use Rattle.std.specs.Prelude.{◌≡◌, ◌++◌, [], ◌∷◌, Bool, IfOk, IfSome, List, not};
+ghost use Rattle.std.specs.Prelude.{◌≡◌, ◌++◌, [], ◌∷◌, IfOk, OnOk, not};
 ghost use Rattle.std.specs.List.{list_all, list_any};
 ghost use Rattle.scasp_hint.specs.AskedRows.{RowsNormal};
-ghost use Rattle.scasp_hint.specs.Satisfying.{sat};
-ghost use Rattle.scasp_law_parts.specs.Bound.{Triangular, equations};
-ghost use Rattle.scasp_store.specs.Inside.Asking.{counts_all, is_askable, is_counted, is_equation, is_flat, is_readable, is_row, is_sorted, is_told, read_by};
-ghost use Rattle.scasp_store.specs.Inside.Open.{AreFlags, has_values, opened};
+ghost use Rattle.scasp_store.specs.Inside.Asking.{counts_all, is_askable, is_counted, is_equation, is_flat, is_readable, is_row, is_sorted, is_told, one_var, read_by, told_by, told_var};
+ghost use Rattle.scasp_store.specs.Inside.Open.{has_values};
 ghost use Rattle.scasp_syntax.specs.Constraints.{is_number};
-ghost use Rattle.scasp_syntax.specs.declared.con.Con.{Con as ThisCon};
+ghost use Rattle.scasp_syntax.specs.Values.{under};
+ghost use Rattle.scasp_syntax.specs.View.{tm_of};
 ghost use Rattle.scasp_unify.specs.Solving.{sub_of};
 ghost use Rattle.scasp_unify.specs.TermFailures.{is_compound};
 
 use scasp_bound::Bound;
-use scasp_hint::is_satisfiable;
 use scasp_list::Memory;
 use scasp_num::Coeff;
-use scasp_readings::{has_number_test, is_unreplaced, read_con};
-use scasp_rows::LinErr;
-use scasp_syntax::{Con, Cons, Term};
+use scasp_readings::{is_among, is_unreplaced, read_con};
+use scasp_syntax::{Con, Cons, Term, VarList};
 use std::alloc::Global;
 
 // ---- kinds of constraints
@@ -44,7 +41,7 @@ fn is_equation(constraint: &Con) -> bool
     }
 }
 
-fn has_row(list: &[Con]) -> bool
+pub(crate) fn has_row(list: &[Con]) -> bool
     ensures { result ≡ list_any is_row list.now }
 {
     list.iter().any(is_row)
@@ -84,24 +81,23 @@ fn are_flat(alloc: Global, bound: &Bound, coeffs: &[Coeff]) -> Result<bool, Memo
     Ok(true)
 }
 
-/// Whether the variable stands for a number, or for a variable of which the list says so.
-#[tactic(auto, using(crate::proofs::AskLemmas::told_alike))]
-fn is_told(alloc: Global, bound: &Bound, list: &[Con], x: u64) -> Result<bool, Memory>
-    ensures { IfOk result (λ answer. answer ≡ is_told (sub_of bound.now.now) list.now (sub_of bound.now.now x)) }
+/// Whether the variable stands for a number, or for one of the variables that are said to be numbers.
+fn is_told(alloc: Global, bound: &Bound, told: &[u64], x: u64) -> Result<bool, Memory>
+    ensures { IfOk result (λ answer. answer ≡ is_told told.now (sub_of bound.now.now x)) }
 {
     match bound.read(alloc, &Term::Var(x))? {
         Term::Num(_) => Ok(true),
-        Term::Var(y) => has_number_test(alloc, bound, y, list),
+        Term::Var(y) => Ok(is_among(y, told)),
         Term::App(_, _) => Ok(false),
     }
 }
 
 /// Whether each variable of the row counts as a number.
-fn are_told(alloc: Global, bound: &Bound, list: &[Con], coeffs: &[Coeff]) -> Result<bool, Memory>
-    ensures { IfOk result (λ answer. answer ≡ list_all (λ k. is_told (sub_of bound.now.now) list.now (sub_of bound.now.now k.x)) coeffs.now) }
+fn are_told(alloc: Global, bound: &Bound, told: &[u64], coeffs: &[Coeff]) -> Result<bool, Memory>
+    ensures { IfOk result (λ answer. answer ≡ list_all (λ k. is_told told.now (sub_of bound.now.now k.x)) coeffs.now) }
 {
     for coeff in coeffs {
-        if !is_told(alloc, bound, list, coeff.x)? {
+        if !is_told(alloc, bound, told, coeff.x)? {
             return Ok(false);
         }
     }
@@ -142,15 +138,55 @@ pub(crate) fn is_readable(alloc: Global, bound: &Bound, constraint: &Con) -> Res
     is_flat(alloc, bound, constraint)
 }
 
-fn is_counted(alloc: Global, bound: &Bound, list: &[Con], constraint: &Con) -> Result<bool, Memory>
-    ensures { IfOk result (λ answer. answer ≡ is_counted (sub_of bound.now.now) list.now constraint.now) }
+fn is_counted(alloc: Global, bound: &Bound, told: &[u64], constraint: &Con) -> Result<bool, Memory>
+    ensures { IfOk result (λ answer. answer ≡ is_counted (sub_of bound.now.now) told.now constraint.now) }
 {
     match constraint {
-        Con::Row(row) => are_told(alloc, bound, list, row.coeffs().as_slice()),
+        Con::Row(row) => are_told(alloc, bound, told, row.coeffs().as_slice()),
         Con::Eq(_, _) | Con::Neq(_, _) | Con::NotShape(_, _, _) | Con::Num(_) | Con::NotNum(_) => {
             Ok(true)
         }
     }
+}
+
+// ---- what is said of variables
+
+/// Puts what the term reads as behind the others, if that is a variable.
+fn push_var(alloc: Global, bound: &Bound, term: &Term, found: &mut VarList) -> Result<(), Memory>
+    ensures { OnOk result (found.new ≡ found.old ++ one_var (under (sub_of bound.now.now) (tm_of term.now))) }
+{
+    match bound.read(alloc, term)? {
+        Term::Var(y) => found.push(y),
+        Term::Num(_) | Term::App(_, _) => Ok(()),
+    }
+}
+
+/// Puts the variable of which the constraint says that it is a number behind the others, if there is one.
+fn push_told(
+    alloc: Global,
+    bound: &Bound,
+    constraint: &Con,
+    found: &mut VarList,
+) -> Result<(), Memory>
+    ensures { OnOk result (found.new ≡ found.old ++ told_var (sub_of bound.now.now) constraint.now) }
+{
+    match constraint {
+        Con::Num(term) => push_var(alloc, bound, term, found),
+        Con::Row(_) | Con::Eq(_, _) | Con::Neq(_, _) | Con::NotShape(_, _, _) | Con::NotNum(_) => {
+            Ok(())
+        }
+    }
+}
+
+/// The variables of which the list says that they are numbers.
+pub(crate) fn told_by(alloc: Global, bound: &Bound, list: &[Con]) -> Result<VarList, Memory>
+    ensures { IfOk result (λ found. found ≡ told_by (sub_of bound.now.now) list.now) }
+{
+    let mut found = VarList::new(alloc);
+    for constraint in list {
+        push_told(alloc, bound, constraint, &mut found)?;
+    }
+    Ok(found)
 }
 
 // ---- lists
@@ -165,7 +201,7 @@ pub(crate) fn note_row(constraint: &Con)
 }
 
 /// Notes that each row of the list is in normal form.
-fn note_rows(list: &[Con])
+pub(crate) fn note_rows(list: &[Con])
     ensures { RowsNormal list.now }
 {
     for constraint in list {
@@ -173,7 +209,7 @@ fn note_rows(list: &[Con])
     }
 }
 
-fn are_readable(alloc: Global, bound: &Bound, list: &[Con]) -> Result<bool, Memory>
+pub(crate) fn are_readable(alloc: Global, bound: &Bound, list: &[Con]) -> Result<bool, Memory>
     ensures { IfOk result (λ answer. answer ≡ list_all (is_readable (sub_of bound.now.now)) list.now) }
 {
     for constraint in list {
@@ -184,11 +220,11 @@ fn are_readable(alloc: Global, bound: &Bound, list: &[Con]) -> Result<bool, Memo
     Ok(true)
 }
 
-fn are_counted(alloc: Global, bound: &Bound, list: &[Con]) -> Result<bool, Memory>
-    ensures { IfOk result (λ answer. answer ≡ list_all (is_counted (sub_of bound.now.now) list.now) list.now) }
+fn are_counted(alloc: Global, bound: &Bound, told: &[u64], list: &[Con]) -> Result<bool, Memory>
+    ensures { IfOk result (λ answer. answer ≡ list_all (is_counted (sub_of bound.now.now) told.now) list.now) }
 {
     for constraint in list {
-        if !is_counted(alloc, bound, list, constraint)? {
+        if !is_counted(alloc, bound, told, constraint)? {
             return Ok(false);
         }
     }
@@ -196,17 +232,18 @@ fn are_counted(alloc: Global, bound: &Bound, list: &[Con]) -> Result<bool, Memor
 }
 
 /// Whether no equation is in the list, and the variables of each row count as numbers.
-fn counts_all(alloc: Global, bound: &Bound, list: &[Con]) -> Result<bool, Memory>
+pub(crate) fn counts_all(alloc: Global, bound: &Bound, list: &[Con]) -> Result<bool, Memory>
     ensures { IfOk result (λ answer. answer ≡ counts_all (sub_of bound.now.now) list.now) }
 {
     if has_equation(list) {
         return Ok(false);
     }
-    are_counted(alloc, bound, list)
+    let told = told_by(alloc, bound, list)?;
+    are_counted(alloc, bound, told.as_slice(), list)
 }
 
 /// The list as the bindings read it.
-fn read_all(alloc: Global, bound: &Bound, list: &[Con]) -> Result<Cons, Memory>
+pub(crate) fn read_all(alloc: Global, bound: &Bound, list: &[Con]) -> Result<Cons, Memory>
     ensures { IfOk result (λ made. made ≡ read_by (sub_of bound.now.now) list.now) }
 {
     let mut made = Cons::new(alloc);
@@ -232,7 +269,12 @@ fn is_sorted(alloc: Global, bound: &Bound, list: &[Con], read: &[Con]) -> Result
 }
 
 /// Whether the list may be asked as it reads.
-fn is_askable(alloc: Global, bound: &Bound, list: &[Con], read: &[Con]) -> Result<bool, Memory>
+pub(crate) fn is_askable(
+    alloc: Global,
+    bound: &Bound,
+    list: &[Con],
+    read: &[Con],
+) -> Result<bool, Memory>
     requires { read.now ≡ read_by (sub_of bound.now.now) list.now }
     ensures { IfOk result (λ answer. answer ≡ is_askable (sub_of bound.now.now) list.now) }
 {
@@ -240,44 +282,4 @@ fn is_askable(alloc: Global, bound: &Bound, list: &[Con], read: &[Con]) -> Resul
         return Ok(false);
     }
     is_sorted(alloc, bound, list, read)
-}
-
-/// Whether the list passes the test; None where its arithmetic overflows.
-fn tested(alloc: Global, list: &[Con]) -> Result<Option<bool>, Memory>
-    ensures { IfOk result (λ found. IfSome found (λ answer. answer ≡ sat list.now)) }
-{
-    match is_satisfiable(alloc, list) {
-        Ok(answer) => Ok(Some(answer)),
-        Err(LinErr::Overflow) => Ok(None),
-        Err(LinErr::Memory) => Err(Memory),
-    }
-}
-
-/// As `answer`, where the list reads so.
-fn answer_by(
-    alloc: Global,
-    bound: &Bound,
-    list: &[Con],
-    read: &[Con],
-) -> Result<Option<bool>, Memory>
-    requires normal { RowsNormal list.now }
-    requires read { read.now ≡ read_by (sub_of bound.now.now) list.now }
-    ensures { (cs more : List ThisCon) (fs : List Bool) → Triangular bound.now.now → AreFlags (sub_of bound.now.now) cs fs → list.now ≡ opened cs fs ++ more
-        → IfOk result (λ found. IfSome found (λ answer. answer ≡ sat (equations bound.now.now ++ (cs ++ more)))) }
-{
-    if !is_askable(alloc, bound, list, read)? {
-        return Ok(None);
-    }
-    tested(alloc, read)
-}
-
-/// Whether the bindings and constraints have a valuation, of which this list is what is left where the settled ones are
-/// left out; None where the whole list is to be asked.
-pub(crate) fn answer(alloc: Global, bound: &Bound, list: &[Con]) -> Result<Option<bool>, Memory>
-    ensures { (cs more : List ThisCon) (fs : List Bool) → Triangular bound.now.now → AreFlags (sub_of bound.now.now) cs fs → list.now ≡ opened cs fs ++ more
-        → IfOk result (λ found. IfSome found (λ answer. answer ≡ sat (equations bound.now.now ++ (cs ++ more)))) }
-{
-    note_rows(list);
-    let read = read_all(alloc, bound, list)?;
-    answer_by(alloc, bound, list, read.as_slice())
 }

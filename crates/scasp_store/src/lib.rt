@@ -1,7 +1,9 @@
 //! Bindings and given constraints whose changes can be undone, and the question whether they have a valuation with others.
 #![tactic(auto)]
 
+mod answering;
 mod asking;
+mod fixing;
 mod opening;
 mod store;
 

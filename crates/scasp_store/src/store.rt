@@ -6,8 +6,8 @@ ghost use Rattle.scasp_search_constraints.specs.Assuming.Taken.{Gives};
 ghost use Rattle.scasp_store.specs.Held.{list_with};
 ghost use Rattle.scasp_trail.specs.Past.{earlier, is_marked, latest};
 
-use crate::asking::answer;
-use crate::opening::{is_new, open_all, settle, standing};
+use crate::answering::answer;
+use crate::opening::{is_new, settle, standing, take_out};
 use scasp_bound::Bound;
 use scasp_given::Given;
 use scasp_list::Memory;
@@ -24,8 +24,9 @@ use std::marker::Model;
 pub struct Store {
     bound: Bound,
     given: Given,
-    /// Whether the constraint is to be asked: one that holds as it reads, whatever its variables stand for, is not.
-    flags: Trailed<bool>,
+    /// The places of the given constraints that are to be asked: one that holds as it reads, whatever its variables stand
+    /// for, is not. They are in no order.
+    places: Trailed<usize>,
     /// Whether each binding was of an unbound variable, to a term of unbound variables, so that none leads back to itself.
     is_solved: bool,
     /// Whether no change has failed since the latest mark.
@@ -44,7 +45,7 @@ impl Model for Store {
 
     ghost view = { λ s. record { bound = s.bound; given = s.given } };
 
-    ghost invariant = { λ s. IsKept s.is_solved s.is_known s.bound s.given s.flags };
+    ghost invariant = { λ s. IsKept s.is_solved s.is_known s.bound s.given s.places };
 }
 
 impl Store {
@@ -56,7 +57,7 @@ impl Store {
         Store {
             bound: Bound::new(alloc),
             given: Given::new(alloc),
-            flags: Trailed::new(alloc),
+            places: Trailed::new(alloc),
             is_solved: true,
             is_known: true,
         }
@@ -95,7 +96,6 @@ impl Store {
     }
 
     /// Takes the bindings of the variables of a list out, but for those that are also in another one.
-    #[tactic(auto, using(crate::proofs::KeepLemmas::good_fewer))]
     pub fn end_case(&mut self, universals: &[u64], but: &[u64]) -> Result<(), Memory>
         ensures bound { OnOk result (self.new.bound.now ≡ unbound universals.now but.now self.old.bound.now) }
         ensures given { self.new.given ≡ self.old.given }
@@ -103,8 +103,8 @@ impl Store {
     {
         let was_known = self.is_known;
         self.is_known = false;
-        self.bound.end_case(universals, but)?;
-        open_all(&mut self.flags)?;
+        let count = self.given.as_slice().len();
+        take_out(&mut self.bound, &mut self.places, count, universals, but)?;
         self.is_known = was_known;
         Ok(())
     }
@@ -118,8 +118,9 @@ impl Store {
     {
         let was_known = self.is_known;
         self.is_known = false;
+        let place = self.given.as_slice().len();
         self.given.give(constraint)?;
-        self.flags.push(true)?;
+        self.places.push(place)?;
         self.is_known = was_known;
         Ok(())
     }
@@ -137,7 +138,7 @@ impl Store {
 
     /// Whether what is held has a valuation with these constraints, by what is open alone; None where the whole list is to
     /// be asked.
-    #[tactic(auto, using(crate::proofs::KeepLemmas::good_flags))]
+    #[tactic(auto, using(crate::proofs::KeepLemmas::good_places))]
     fn answer(&mut self, alloc: Global, more: &[Con]) -> Result<Option<bool>, Memory>
         ensures answer { IfOk result (λ found. IfSome found (λ answer. answer ≡ sat (list_with self.old more.now))) }
         ensures same { self.new ≡ self.old }
@@ -146,8 +147,8 @@ impl Store {
             return Ok(None);
         }
         let given = self.given.as_slice();
-        settle(alloc, &self.bound, given, &mut self.flags)?;
-        let list = standing(alloc, given, self.flags.as_slice(), more)?;
+        settle(alloc, &self.bound, given, &mut self.places)?;
+        let list = standing(alloc, given, self.places.as_slice(), more)?;
         answer(alloc, &self.bound, list.as_slice())
     }
 
@@ -187,7 +188,7 @@ impl Store {
             self.bound.leave();
             return Err(Memory);
         }
-        if self.flags.mark().is_err() {
+        if self.places.mark().is_err() {
             self.bound.leave();
             self.given.leave();
             return Err(Memory);
@@ -206,7 +207,7 @@ impl Store {
         let was_marked = self.bound.is_marked();
         self.bound.leave();
         self.given.leave();
-        self.flags.leave();
+        self.places.leave();
         self.is_known = self.is_known || was_marked;
     }
 }

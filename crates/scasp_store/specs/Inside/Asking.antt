@@ -1,13 +1,13 @@
 -- When a short list may be asked in place of a whole one.
-use Rattle.std.specs.Prelude.{Bool, true, false, ◌&&◌, ◌||◌, not, List, map}
-use Rattle.std.specs.List.{list_all, list_any}
-use Rattle.scasp_search_rules.specs.Successors.Reading.{con_under}
+use Rattle.std.specs.Prelude.{ℕ, Bool, true, false, ◌&&◌, ◌||◌, not, List, [], ◌∷◌, map}
+use Rattle.std.specs.List.{flat_map, list_all, list_any}
+use Rattle.scasp_search_rules.specs.Successors.Reading.{among, con_under}
 use Rattle.scasp_search_rules.specs.Successors.Replacing.{is_unreplaced}
 use Rattle.scasp_syntax.specs.Tm.{Tm, var, num, app}
-use Rattle.scasp_syntax.specs.Values.{Sub}
+use Rattle.scasp_syntax.specs.Values.{Sub, under}
+use Rattle.scasp_syntax.specs.View.{tm_of}
 use Rattle.scasp_syntax.specs.declared.con.Con.{Con}
 use Rattle.scasp_syntax.specs.declared.con.Con.TheVariants as con
-use Rattle.scasp_unify.specs.Numbers.{is_num_of}
 use Rattle.scasp_unify.specs.TermFailures.{is_compound}
 
 abbrev pub is_row : Con → Bool
@@ -39,27 +39,46 @@ is_flat s (con.NotNum t) = true
 abbrev pub is_readable : Sub → Con → Bool
 is_readable s c = not (is_unreplaced s c) && is_flat s c
 
--- the term is a number, or the list says so of a variable
-abbrev pub is_told : Sub → List Con → Tm → Bool
-is_told s cs (var y) = list_any (is_num_of s (var y)) cs
-is_told s cs (num q) = true
-is_told s cs (app f ts) = false
+-- the term, if it is a variable
+abbrev pub one_var : Tm → List ℕ
+one_var (var y) = y ∷ []
+one_var (num q) = []
+one_var (app f ts) = []
 
--- each variable of a row counts as a number
-abbrev pub is_counted : Sub → List Con → Con → Bool
-is_counted s cs (con.Row r) = list_all (λ k. is_told s cs (s k.x)) r.coeffs
-is_counted s cs (con.Eq t u) = true
-is_counted s cs (con.Neq t u) = true
-is_counted s cs (con.NotShape x f n) = true
-is_counted s cs (con.Num t) = true
-is_counted s cs (con.NotNum t) = true
+-- the variable of which the constraint says that it is a number, if there is one
+abbrev pub told_var : Sub → Con → List ℕ
+told_var s (con.Num t) = one_var (under s (tm_of t))
+told_var s (con.Row r) = []
+told_var s (con.Eq t u) = []
+told_var s (con.Neq t u) = []
+told_var s (con.NotShape x f n) = []
+told_var s (con.NotNum t) = []
+
+-- the variables of which the list says that they are numbers
+abbrev pub told_by : Sub → List Con → List ℕ
+told_by s cs = flat_map (told_var s) cs
+
+-- the term is a number, or one of these variables
+abbrev pub is_told : List ℕ → Tm → Bool
+is_told ys (var y) = among y ys
+is_told ys (num q) = true
+is_told ys (app f ts) = false
+
+-- each variable of a row counts as a number, where these variables do
+abbrev pub is_counted : Sub → List ℕ → Con → Bool
+is_counted s ys (con.Row r) = list_all (λ k. is_told ys (s k.x)) r.coeffs
+is_counted s ys (con.Eq t u) = true
+is_counted s ys (con.Neq t u) = true
+is_counted s ys (con.NotShape x f n) = true
+is_counted s ys (con.Num t) = true
+is_counted s ys (con.NotNum t) = true
 
 abbrev pub read_by : Sub → List Con → List Con
 read_by s cs = map (con_under s) cs
 
 -- no equation is there, and the variables of each row count as numbers
 abbrev pub counts_all : Sub → List Con → Bool
-counts_all s cs = not (list_any is_equation cs) && list_all (is_counted s cs) cs
+counts_all s cs = not (list_any is_equation cs) && list_all (is_counted s (told_by s cs)) cs
 
 -- there is no row, or each row's variables count as numbers, in the list as it stands and as it reads
 abbrev pub is_sorted : Sub → List Con → Bool

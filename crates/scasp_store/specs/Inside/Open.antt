@@ -1,7 +1,7 @@
 -- Given constraints that need not be asked any more, and which of them are still open.
-use Rattle.std.specs.Prelude.{◌≡◌, Bool, true, false, ◌&&◌, not, nat_eq, ℕ, zero, suc, List, [], ◌∷◌, ⊤}
-use Rattle.std.specs.List.{list_all}
-use Rattle.scasp_bound.specs.Bounds.{is_bound_in}
+use Rattle.std.specs.Prelude.{◌≡◌, ◌<◌, Bool, true, false, ◌&&◌, not, nat_eq, ℕ, List, [], ◌∷◌, Option, None, Some, slice_get, ⊤}
+use Rattle.std.specs.List.{flat_map, list_all}
+use Rattle.scasp_bound.specs.Bounds.{among, is_bound_in}
 use Rattle.scasp_law_parts.specs.Bound.{IsFree, Triangular}
 use Rattle.scasp_list.specs.Each.{Each}
 use Rattle.scasp_syntax.specs.Constraints.{holds, is_number}
@@ -29,57 +29,53 @@ pub record IsSettled (s : Sub) (c : Con) : Type 0 where
   pub always : (v : Sub) → holds (then_by s v) c ≡ true
   pub values : has_values s c ≡ true
 
--- the constraints with this flag
-abbrev pub opened : List Con → List Bool → List Con
-opened [] fs = []
-opened (c ∷ cs) [] = []
-opened (c ∷ cs) (true ∷ fs) = c ∷ opened cs fs
-opened (c ∷ cs) (false ∷ fs) = opened cs fs
+-- what is there, by itself
+abbrev pub one_of : Option Con → List Con
+one_of None = []
+one_of (Some c) = c ∷ []
 
--- the constraint by itself, if its flag is set
-abbrev pub one_opened : Con → Bool → List Con
-one_opened c true = c ∷ []
-one_opened c false = []
+-- the constraints at these places
+abbrev pub opened : List Con → List ℕ → List Con
+opened cs ps = flat_map (λ p. one_of (slice_get cs p)) ps
 
--- the first flags, so many, are set
-abbrev pub opened_to : ℕ → List Bool → List Bool
-opened_to zero fs = fs
-opened_to (suc n) [] = []
-opened_to (suc n) (f ∷ fs) = true ∷ opened_to n fs
+-- each constraint is at one of the places, or settled
+pub record AreOpen (s : Sub) (cs : List Con) (ps : List ℕ) : Type 0 where
+  pub settled : (i : ℕ) (c : Con) → Some c ≡ slice_get cs i → among i ps ≡ false → IsSettled s c
 
--- each constraint without it is settled
-abbrev pub AreFlags : Sub → List Con → List Bool → Type 0
-AreFlags s [] [] = ⊤
-AreFlags s [] (f ∷ fs) = ⊥
-AreFlags s (c ∷ cs) [] = ⊥
-AreFlags s (c ∷ cs) (true ∷ fs) = AreFlags s cs fs
-AreFlags s (c ∷ cs) (false ∷ fs) = IsSettled s c × AreFlags s cs fs
+-- the first places, so many, are among the new ones where they are asked for; else nothing is changed
+abbrev pub Reopens : Bool → ℕ → List ℕ → List ℕ → Type 0
+Reopens true n ps qs = (i : ℕ) → i < n → among i qs ≡ true
+Reopens false n ps qs = qs ≡ ps
+
+-- the variable is bound, and not in the list
+abbrev pub is_taken : List Binding → List ℕ → ℕ → Bool
+is_taken bs but x = is_bound_in bs x && not (among x but)
 
 -- the bindings may leave the lists that are asked, and so may what is not open
-pub record IsGood (bs : List Binding) (cs : List Con) (fs : List Bool) : Type 0 where
+pub record IsGood (bs : List Binding) (cs : List Con) (ps : List ℕ) : Type 0 where
   pub triangular : Triangular bs
-  pub flags : AreFlags (sub_of bs) cs fs
+  pub places : AreOpen (sub_of bs) cs ps
 
-abbrev pub IsGoodIf : Bool → List Binding → List Con → List Bool → Type 0
-IsGoodIf false bs cs fs = ⊤
-IsGoodIf true bs cs fs = IsGood bs cs fs
+abbrev pub IsGoodIf : Bool → List Binding → List Con → List ℕ → Type 0
+IsGoodIf false bs cs ps = ⊤
+IsGoodIf true bs cs ps = IsGood bs cs ps
 
-abbrev pub AreGood : List (List Binding) → List (List Con) → List (List Bool) → Type 0
+abbrev pub AreGood : List (List Binding) → List (List Con) → List (List ℕ) → Type 0
 AreGood [] [] [] = ⊤
-AreGood [] [] (fs ∷ fss) = ⊥
-AreGood [] (cs ∷ css) fss = ⊥
-AreGood (bs ∷ bss) [] fss = ⊥
+AreGood [] [] (ps ∷ pss) = ⊥
+AreGood [] (cs ∷ css) pss = ⊥
+AreGood (bs ∷ bss) [] pss = ⊥
 AreGood (bs ∷ bss) (cs ∷ css) [] = ⊥
-AreGood (bs ∷ bss) (cs ∷ css) (fs ∷ fss) = IsGood bs cs fs × AreGood bss css fss
+AreGood (bs ∷ bss) (cs ∷ css) (ps ∷ pss) = IsGood bs cs ps × AreGood bss css pss
 
-abbrev pub AreGoodIf : Bool → List (List Binding) → List (List Con) → List (List Bool) → Type 0
-AreGoodIf false bss css fss = ⊤
-AreGoodIf true bss css fss = AreGood bss css fss
+abbrev pub AreGoodIf : Bool → List (List Binding) → List (List Con) → List (List ℕ) → Type 0
+AreGoodIf false bss css pss = ⊤
+AreGoodIf true bss css pss = AreGood bss css pss
 
 -- so it is at each mark, and now where no change has failed since
-pub record IsKept (is_solved is_known : Bool) (bound : Past Binding) (given : Past Con) (flags : Past Bool) : Type 0 where
-  pub now : IsGoodIf (is_solved && is_known) bound.now given.now flags.now
-  pub before : AreGoodIf is_solved bound.before given.before flags.before
+pub record IsKept (is_solved is_known : Bool) (bound : Past Binding) (given : Past Con) (places : Past ℕ) : Type 0 where
+  pub now : IsGoodIf (is_solved && is_known) bound.now given.now places.now
+  pub before : AreGoodIf is_solved bound.before given.before places.before
 
 -- y is another variable than x, and unbound
 abbrev pub is_unbound : List Binding → ℕ → ℕ → Bool

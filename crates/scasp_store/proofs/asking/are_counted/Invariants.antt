@@ -5,4 +5,4 @@ use Rattle.scasp_store.specs.Inside.Asking.{is_counted}
 use Rattle.scasp_store.proofs.asking.are_counted.Given as goal
 
 abbrev pub invariant-loop-constraint : goal.invariant-loop-constraint
-invariant-loop-constraint l = list_all (is_counted (sub_of l.bound.now) l.list) (drop l.constraint-index l.list) ≡ list_all (is_counted (sub_of l.bound.now) l.list) l.list
+invariant-loop-constraint l = list_all (is_counted (sub_of l.bound.now) l.told) (drop l.constraint-index l.list) ≡ list_all (is_counted (sub_of l.bound.now) l.told) l.list

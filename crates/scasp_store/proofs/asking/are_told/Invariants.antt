@@ -5,4 +5,4 @@ use Rattle.scasp_store.specs.Inside.Asking.{is_told}
 use Rattle.scasp_store.proofs.asking.are_told.Given as goal
 
 abbrev pub invariant-loop-coeff : goal.invariant-loop-coeff
-invariant-loop-coeff l = list_all (λ k. is_told (sub_of l.bound.now) l.list (sub_of l.bound.now k.x)) (drop l.coeff-index l.coeffs) ≡ list_all (λ k. is_told (sub_of l.bound.now) l.list (sub_of l.bound.now k.x)) l.coeffs
+invariant-loop-coeff l = list_all (λ k. is_told l.told (sub_of l.bound.now k.x)) (drop l.coeff-index l.coeffs) ≡ list_all (λ k. is_told l.told (sub_of l.bound.now k.x)) l.coeffs

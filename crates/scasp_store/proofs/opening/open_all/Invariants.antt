@@ -1,12 +1,12 @@
-use Rattle.std.proofs.Common.{◌≡◌, ◌-◌, length}
-use Rattle.scasp_store.specs.Inside.Open.{opened_to}
+use Rattle.std.proofs.Common.{◌≡◌, ◌-◌, ◌<◌, ℕ, true}
+use Rattle.scasp_bound.specs.Bounds.{among}
 use Rattle.scasp_store.proofs.opening.open_all.Given as goal
 
-abbrev pub invariant-loop-at : goal.invariant-loop-at
-invariant-loop-at l = record {
-  now : l.flags.now ≡ opened_to l.at l.fn.flags.now;
-  before : l.flags.before ≡ l.fn.flags.before;
+abbrev pub invariant-loop-place : goal.invariant-loop-place
+invariant-loop-place l = record {
+  now : (i : ℕ) → i < l.place → among i l.places.now ≡ true;
+  before : l.places.before ≡ l.fn.places.before;
 }
 
-abbrev pub decreases-loop-at : goal.decreases-loop-at
-decreases-loop-at l = length l.fn.flags.now - l.at
+abbrev pub decreases-loop-place : goal.decreases-loop-place
+decreases-loop-place l = l.count - l.place

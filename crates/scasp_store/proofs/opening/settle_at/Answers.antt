@@ -1,8 +1,10 @@
-use Rattle.std.proofs.Common.{◌≡◌, false, sym, subst}
+use Rattle.std.proofs.Common.{slice_get, ap, ◌∙◌}
 use Rattle.scasp_unify.specs.Solving.{sub_of}
-use Rattle.scasp_store.specs.Inside.Open.{AreFlags}
-use Rattle.scasp_store.proofs.FlagLemmas.{one_settled}
+use Rattle.scasp_store.proofs.OpenLemmas.{one_settled}
 use Rattle.scasp_store.proofs.opening.settle_at.Goals as goal
 
-pub returns-in_ok-set-clause-flags : goal.returns-in_ok-set-clause-flags
-returns-in_ok-set-clause-flags c = λ t f. subst (AreFlags (sub_of c.args.bound.now.now) c.args.given.now) (sym c.in_ok-set.ensures.now) (one_settled (sub_of c.args.bound.now.now) c.args.given.now c.args.flags.now.now c.args.at c.con_at.result.now f c.con_at.ensures (c.in_ok-is_settled.ensures t c.if-branch.true))
+pub returns-in_err-take_away-clause-places : goal.returns-in_err-take_away-clause-places
+returns-in_err-take_away-clause-places c = λ t h. one_settled (sub_of c.args.bound.now.now) c.args.given.now c.args.places.now.now c.take_away.new.places.now c.args.at c.place_at-place.result (c.place_at-place.ensures ∙ ap (λ xs. slice_get xs c.args.at) c.as_slice.ensures) (λ d g. c.in_ok-is_settled_at.ensures d t g c.if-not-branch.false) c.take_away.ensures.stay h
+
+pub returns-clause-places : goal.returns-clause-places
+returns-clause-places c = λ t h. one_settled (sub_of c.args.bound.now.now) c.args.given.now c.args.places.now.now c.take_away.new.places.now c.args.at c.place_at-place.result (c.place_at-place.ensures ∙ ap (λ xs. slice_get xs c.args.at) c.as_slice.ensures) (λ d g. c.in_ok-is_settled_at.ensures d t g c.if-not-branch.false) c.take_away.ensures.stay h
