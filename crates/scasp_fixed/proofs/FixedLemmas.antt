@@ -128,8 +128,8 @@ had-absorbed v (b ∷ vs) h y = by (nat_eq y b.x) refl (had-absorbed v vs h.1 y)
     by : (k : Bool) → nat_eq y b.x ≡ k → under v (sub_of vs y) ≡ v y → under v (sub_of (b ∷ vs) y) ≡ v y
     by true p rest =
         ap (λ k. under v (under (sub_of vs) (if k then tm_of b.term else var y))) p
-        ∙ ap (λ t. under v (under (sub_of vs) (tm_of t))) h.0.1.0
-        ∙ sym (ap v (eqb-true y b.x p) ∙ h.0.1.1)
+        ∙ ap (λ t. under v (under (sub_of vs) (tm_of t))) h.0.1
+        ∙ sym (ap v (eqb-true y b.x p) ∙ h.0.2)
     by false p rest = ap (λ k. under v (under (sub_of vs) (if k then tm_of b.term else var y))) p ∙ rest
 
 -- ---- lists with the values put in
@@ -168,7 +168,7 @@ lists-same s w n (cs ∷ lists) k e =
 -- ---- what is told
 
 -- a valuation that has the values is the same with them put in
-absorbed-same : (v s : Sub) → Absorbs v s → then_by s v ≡ v
+pub absorbed-same : (v s : Sub) → Absorbs v s → then_by s v ≡ v
 absorbed-same v s a = λ i y. a y i
 
 abbrev Filled : (lists : List (List Con)) → Valuation → Telling → Type 0

@@ -1,2 +1,3 @@
 pub mod SkeletonLemmas
+pub mod TellingLemmas
 mod Vectors

@@ -24,7 +24,7 @@ use Rattle.scasp_shorten.specs.Told.{tells, tells_all}
 use Rattle.scasp_shorten.proofs.RowsLemmas.{normal-append, normal-negated}
 
 -- it is told, and so it holds
-tells-holds : (v : Sub) (c : Con) → tells v c ≡ true → holds v c ≡ true
+pub tells-holds : (v : Sub) (c : Con) → tells v c ≡ true → holds v c ≡ true
 tells-holds v (con.Row r) m = (and_parts (list_all (λ k. is_number (v k.x)) r.coeffs) (row_holds v r) m).1
 tells-holds v (con.Eq t u) m = m
 tells-holds v (con.Neq t u) m = m
