@@ -98,7 +98,7 @@ fn told_by(alloc: Global, values: Vec<Binding>, lists: ConLists) -> Result<Told,
     ensures values { IfOk result (λ told. told.values.items ≡ (telling_by values.items lists).values) }
     ensures lists { IfOk result (λ told. told.lists ≡ (telling_by values.items lists).lists) }
 {
-    if values.len() == 0 || !are_all_read(alloc, values.as_slice(), lists.as_slice())? {
+    if values.as_slice().len() == 0 || !are_all_read(alloc, values.as_slice(), lists.as_slice())? {
         let values = Vec::new(alloc);
         return Ok(Told { values, lists });
     }

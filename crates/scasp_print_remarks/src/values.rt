@@ -2,6 +2,7 @@
 ghost use Rattle.std.specs.Prelude.{◌≡◌, ◌++◌, OnOk, IfOk, flat_map};
 ghost use Rattle.scasp_cert.specs.Text.Terms.{term_text};
 ghost use Rattle.scasp_print_remarks.specs.Remarks as spec;
+ghost use Rattle.scasp_syntax.specs.Tm.{var};
 ghost use Rattle.scasp_syntax.specs.Values.{under};
 ghost use Rattle.scasp_syntax.specs.View.{tm_of, tms_of};
 ghost use Rattle.scasp_unify.specs.Solving.{sub_of};
@@ -24,7 +25,16 @@ fn put_with(
 ) -> Result<(), Memory>
     ensures { OnOk result (out.new.items ≡ out.old.items ++ term_text names.now (under (sub_of numbers.now) (tm_of term.now))) }
 {
-    put_term(out, names, &read(*out.allocator(), term, numbers)?)
+    let told = read(*out.allocator(), term, numbers)?;
+    put_term(out, names, &told)
+}
+
+/// Puts the term as it stands, which is how no numbers make it.
+#[tactic(auto, using(crate::proofs::PlainLemmas::plain_text))]
+fn put_plain(out: &mut Vec<u8>, names: &Names, term: &Term) -> Result<(), Memory>
+    ensures { OnOk result (out.new.items ≡ out.old.items ++ term_text names.now (under var (tm_of term.now))) }
+{
+    put_term(out, names, term)
 }
 
 /// Puts the term as it is told: without numbers to put in, as it stands, since it may be deeper than what is read.
@@ -36,10 +46,9 @@ fn put_told(
 ) -> Result<(), Memory>
     ensures { OnOk result (out.new.items ≡ out.old.items ++ term_text names.now (under (sub_of numbers.now) (tm_of term.now))) }
 {
-    if numbers.is_empty() {
-        put_term(out, names, term)
-    } else {
-        put_with(out, names, numbers, term)
+    match numbers {
+        [] => put_plain(out, names, term),
+        [_, ..] => put_with(out, names, numbers, term),
     }
 }
 
