@@ -209,7 +209,8 @@ values-had lists sample v n m =
 
 pub told-fills : (lists : List (List Con)) (sample : List Tm) (v : Valuation) → Each RowsNormal lists → Filled lists v (telling lists sample)
 told-fills lists sample v n =
-    told-by (Filled lists v) (found_values lists sample) lists (λ m. m)
+    told-by (Filled lists v) (found_values lists sample) lists
+    (λ m. sym (ap (λ (w : Sub). list_any (list_all (holds w)) lists) (absorbed-same v.of var (λ y. refl))) ∙ m)
     (λ e m. sym (lists-same (sub_of (found_values lists sample)) v.of (values-number lists sample) lists n e) ∙ m)
 
 pub told-same : (lists : List (List Con)) (sample : List Tm) (v : Valuation) → Each RowsNormal lists → Same lists v (telling lists sample)

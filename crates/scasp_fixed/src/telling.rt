@@ -95,8 +95,8 @@ fn all_with_values(alloc: Global, values: &[Binding], lists: &[Cons]) -> Result<
 
 /// What is told of the lists by these values: no value, and the lists as they are, if a row passes its range.
 fn told_by(alloc: Global, values: Vec<Binding>, lists: ConLists) -> Result<Told, Memory>
-    ensures values { IfOk result (λ told. told.values.items ≡ (telling_by values.items lists).values) }
-    ensures lists { IfOk result (λ told. told.lists ≡ (telling_by values.items lists).lists) }
+    ensures told_values { IfOk result (λ t. t.values.items ≡ (telling_by values.items lists).values) }
+    ensures told_lists { IfOk result (λ t. t.lists ≡ (telling_by values.items lists).lists) }
 {
     if values.as_slice().len() == 0 || !are_all_read(alloc, values.as_slice(), lists.as_slice())? {
         let values = Vec::new(alloc);
@@ -110,8 +110,8 @@ fn told_by(alloc: Global, values: Vec<Binding>, lists: ConLists) -> Result<Told,
 /// equations of every list fix, and the lists with these numbers put in. A list of more than 32 constraints fixes none.
 /// Where a number is put into a row and that overflows, no value is told and the lists are as they were.
 pub fn told(lists: ConLists, sample: &Terms) -> Result<Told, Memory>
-    ensures values { IfOk result (λ told. told.values.items ≡ (telling lists (items sample.now)).values) }
-    ensures lists { IfOk result (λ told. told.lists ≡ (telling lists (items sample.now)).lists) }
+    ensures told_values { IfOk result (λ t. t.values.items ≡ (telling lists (items sample.now)).values) }
+    ensures told_lists { IfOk result (λ t. t.lists ≡ (telling lists (items sample.now)).lists) }
 {
     let alloc = lists.allocator();
     let fixing = fixing_of_each(alloc, lists.as_slice())?;

@@ -25,8 +25,8 @@ fn put_with(
 ) -> Result<(), Memory>
     ensures { OnOk result (out.new.items ≡ out.old.items ++ term_text names.now (under (sub_of numbers.now) (tm_of term.now))) }
 {
-    let told = read(*out.allocator(), term, numbers)?;
-    put_term(out, names, &told)
+    let made = read(*out.allocator(), term, numbers)?;
+    put_term(out, names, &made)
 }
 
 /// Puts the term as it stands, which is how no numbers make it.

@@ -102,15 +102,15 @@ fn put_told(
 ) -> Result<(), Memory>
     ensures { OnOk result (out.new.items ≡ out.old.items ++ spec.told_text names.now (spec.values_of variables.now cert.now.terms) (items cert.now.sample) (Some (projected.Alternatives lists))) }
 {
-    let told = told(lists, &cert.sample)?;
+    let left = told(lists, &cert.sample)?;
     put_values(
         out,
         names,
-        told.values.as_slice(),
+        left.values.as_slice(),
         variables,
         cert.terms.as_slice(),
     )?;
-    put_alternatives(out, names, &shortest(&told.lists)?)
+    put_alternatives(out, names, &shortest(&left.lists)?)
 }
 
 /// Puts the values of the variables, and what the given constraints say of the variables that the values speak of.

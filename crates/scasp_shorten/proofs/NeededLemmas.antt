@@ -59,7 +59,7 @@ same-tests before rest c e x =
     ∙ sym (list_any-append (is_test_of x) before rest)
 
 -- whether each variable of a row passes a test
-by-tests : (ℕ → Bool) → Con → Bool
+abbrev by-tests : (ℕ → Bool) → Con → Bool
 by-tests f (con.Row r) = list_all (λ k. f k.x) r.coeffs
 by-tests f (con.Eq t u) = true
 by-tests f (con.Neq t u) = true
@@ -203,7 +203,7 @@ not-said cs ds c k h shorter m says =
 -- ---- what stays
 
 -- what stays of the list behind these
-kept : List Con → List Con → List Con
+abbrev kept : List Con → List Con → List Con
 kept before [] = []
 kept before (c ∷ rest) = if not (is_test c) && follows (before ++ rest) c then kept before rest else c ∷ kept (before ++ c ∷ []) rest
 
