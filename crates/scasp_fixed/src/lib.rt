@@ -5,4 +5,4 @@ pub mod laws;
 mod telling;
 mod values;
 
-pub use telling::{Told, told};
+pub use telling::{Told, tell};

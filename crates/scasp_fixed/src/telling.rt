@@ -109,7 +109,7 @@ fn told_by(alloc: Global, values: Vec<Binding>, lists: ConLists) -> Result<Told,
 /// What is told of lists of which one holds, and of which this sample meets one: each number of the sample that the
 /// equations of every list fix, and the lists with these numbers put in. A list of more than 32 constraints fixes none.
 /// Where a number is put into a row and that overflows, no value is told and the lists are as they were.
-pub fn told(lists: ConLists, sample: &Terms) -> Result<Told, Memory>
+pub fn tell(lists: ConLists, sample: &Terms) -> Result<Told, Memory>
     ensures told_values { IfOk result (λ t. t.values.items ≡ (telling lists (items sample.now)).values) }
     ensures told_lists { IfOk result (λ t. t.lists ≡ (telling lists (items sample.now)).lists) }
 {

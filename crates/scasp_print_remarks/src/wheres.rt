@@ -7,7 +7,7 @@ ghost use Rattle.scasp_syntax.specs.Tm.{items, var};
 
 use crate::values::put_values;
 use scasp_cert::Cert;
-use scasp_fixed::told;
+use scasp_fixed::tell;
 use scasp_name::{Memory, NameId, Names};
 use scasp_print::put_con;
 use scasp_print_words::{put, put_separator};
@@ -102,7 +102,7 @@ fn put_told(
 ) -> Result<(), Memory>
     ensures { OnOk result (out.new.items ≡ out.old.items ++ spec.told_text names.now (spec.values_of variables.now cert.now.terms) (items cert.now.sample) (Some (projected.Alternatives lists))) }
 {
-    let left = told(lists, &cert.sample)?;
+    let left = tell(lists, &cert.sample)?;
     put_values(
         out,
         names,
