@@ -1,2 +1,4 @@
+pub mod PlainLemmas
 pub mod SkeletonLemmas
+pub mod TellingLemmas
 mod Vectors

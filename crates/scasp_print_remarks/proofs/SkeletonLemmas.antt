@@ -50,7 +50,7 @@ flat-bare c = ap (are_flat (length (items c.sample))) (both (trees-bare c.trees)
 -- the remarks where the answer is flat or is not
 remarks-bare : (names : List (List ℕ)) (variables : List (Option ℕ)) (c : Certificate) → remarks_text names variables (skeleton c) ≡ remarks_text names variables c
 remarks-bare names variables c =
-    ap (λ (b : Bool). values_text names c.given (values_of variables c.terms) ++ (if b then codes "% domain any\n" else codes "% domain closed\n")) (flat-bare c)
+    ap (λ (b : Bool). values_text names c.given (items c.sample) (values_of variables c.terms) ++ (if b then codes "% domain any\n" else codes "% domain closed\n")) (flat-bare c)
 
 pub remarks-same : SameRemarks
 remarks-same names variables one other e =

@@ -62,21 +62,21 @@ two_shapes = simp (d0) refl
 
 -- ---- alternatives
 
-none_left : where_text texts (Some (projected.Alternatives [])) ≡ codes "% where false\n"
+none_left : where_text texts [] (Some (projected.Alternatives [])) ≡ codes "% where false\n"
 none_left = refl
 
-one_without_constraints : where_text texts (Some (projected.Alternatives ([] ∷ []))) ≡ []
+one_without_constraints : where_text texts [] (Some (projected.Alternatives ([] ∷ []))) ≡ []
 one_without_constraints = refl
 
-some_without_constraints : where_text texts (Some (projected.Alternatives ((is_number 0 ∷ []) ∷ [] ∷ []))) ≡ []
+some_without_constraints : where_text texts [] (Some (projected.Alternatives ((is_number 0 ∷ []) ∷ [] ∷ []))) ≡ []
 some_without_constraints = refl
 
-many : where_text texts (Some projected.TooMany) ≡ codes "% where more\n"
+many : where_text texts [] (Some projected.TooMany) ≡ codes "% where more\n"
 many = refl
 
-too_large : where_text texts None ≡ codes "% where overflow\n"
+too_large : where_text texts [] None ≡ codes "% where overflow\n"
 too_large = refl
 
-four : where_text texts (Some (projected.Alternatives ((is_number 0 ∷ []) ∷ (is_number 1 ∷ []) ∷ (is_number 2 ∷ []) ∷ (is_number 3 ∷ []) ∷ [])))
+four : where_text texts [] (Some (projected.Alternatives ((is_number 0 ∷ []) ∷ (is_number 1 ∷ []) ∷ (is_number 2 ∷ []) ∷ (is_number 3 ∷ []) ∷ [])))
     ≡ codes "% where num(V0)\n% or num(V1)\n% or num(V2)\n% or num(V3)\n"
 four = simp (d0, d1, d2, d3) refl

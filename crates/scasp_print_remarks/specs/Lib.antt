@@ -1,3 +1,4 @@
 pub mod Inside
 pub mod Remarks
 pub mod Sameness
+pub mod Telling

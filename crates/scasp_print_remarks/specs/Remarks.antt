@@ -1,9 +1,13 @@
 -- The remarks behind the block of an answer: what it says of the query's variables, and over which domains it holds.
 use Rattle.std.specs.Prelude.{ℕ, ◌==◌, Bool, true, false, if◌then◌else◌, List, [], ◌∷◌, ◌++◌, length, flat_map, Option, None, Some, codes}
 use Rattle.std.specs.List.{list_any}
-use Rattle.scasp_syntax.specs.Tm.{Tm, Tms, nil, cons}
+use Rattle.scasp_fixed.specs.Fixed.{telling}
+use Rattle.scasp_syntax.specs.Tm.{Tm, Tms, nil, cons, items}
+use Rattle.scasp_syntax.specs.Values.{Sub, under}
 use Rattle.scasp_syntax.specs.declared.con.Con.{Con}
+use Rattle.scasp_unify.specs.Solving.{sub_of}
 use Rattle.scasp_unify.specs.Unification.{term_vars}
+use Rattle.scasp_unify.specs.declared.bindings.Binding.{Binding}
 use Rattle.scasp_cert.specs.Certificate.{Certificate}
 use Rattle.scasp_cert.specs.Flat.{is_flat}
 use Rattle.scasp_cert.specs.Text.Constraints.{con_text}
@@ -33,9 +37,9 @@ values_of [] ts = []
 values_of (v ∷ vs) nil = []
 values_of (v ∷ vs) (cons t ts) = value_of v t ++ values_of vs ts
 
--- `% X = f(a,V0)`
-abbrev pub value_line : List (List ℕ) → Value → List ℕ
-value_line names v = codes "% " ++ text_at names v.name ++ codes " = " ++ term_text names v.term ++ codes "\n"
+-- `% X = f(a,V0)`, or `% X = f(a,7)` where V0 stands for 7
+abbrev pub value_line : List (List ℕ) → Sub → Value → List ℕ
+value_line names s v = codes "% " ++ text_at names v.name ++ codes " = " ++ term_text names (under s v.term) ++ codes "\n"
 
 -- the variables that the values speak of
 abbrev pub shown_variables : List Value → List ℕ
@@ -62,11 +66,17 @@ abbrev pub alternatives_text : List (List ℕ) → List (List Con) → List ℕ
 alternatives_text names lists =
     if length lists == 0 then codes "% where false\n" else if has_empty lists then [] else alternative_lines names true lists
 
--- what the given constraints say of the variables, in the shortest form; none where that overflows
-abbrev pub where_text : List (List ℕ) → Option Projected → List ℕ
-where_text names None = codes "% where overflow\n"
-where_text names (Some projected.TooMany) = codes "% where more\n"
-where_text names (Some (projected.Alternatives lists)) = alternatives_text names (shortest lists)
+-- what is told by a sample of what the given constraints say of the variables: the numbers that equations fix
+abbrev pub numbers_told : List Tm → Option Projected → List Binding
+numbers_told sample None = []
+numbers_told sample (Some projected.TooMany) = []
+numbers_told sample (Some (projected.Alternatives lists)) = (telling lists sample).values
+
+-- and what is left of it, in the shortest form; none where that overflows
+abbrev pub where_text : List (List ℕ) → List Tm → Option Projected → List ℕ
+where_text names sample None = codes "% where overflow\n"
+where_text names sample (Some projected.TooMany) = codes "% where more\n"
+where_text names sample (Some (projected.Alternatives lists)) = alternatives_text names (shortest (telling lists sample).lists)
 
 -- ---- all
 
@@ -74,10 +84,14 @@ where_text names (Some (projected.Alternatives lists)) = alternatives_text names
 abbrev pub domain_line : Certificate → List ℕ
 domain_line c = if is_flat c then codes "% domain any\n" else codes "% domain closed\n"
 
+-- the values, with what a projection says of their variables
+abbrev pub told_text : List (List ℕ) → List Value → List Tm → Option Projected → List ℕ
+told_text names vs sample p = flat_map (value_line names (sub_of (numbers_told sample p))) vs ++ where_text names sample p
+
 -- the values, and what the given constraints say of their variables
-abbrev pub values_text : List (List ℕ) → List Con → List Value → List ℕ
-values_text names given vs = flat_map (value_line names) vs ++ where_text names (projection given (shown_variables vs))
+abbrev pub values_text : List (List ℕ) → List Con → List Tm → List Value → List ℕ
+values_text names given sample vs = told_text names vs sample (projection given (shown_variables vs))
 
 -- the remarks on an answer to a query with these variables
 abbrev pub remarks_text : List (List ℕ) → List (Option ℕ) → Certificate → List ℕ
-remarks_text names variables c = values_text names c.given (values_of variables c.terms) ++ domain_line c
+remarks_text names variables c = values_text names c.given (items c.sample) (values_of variables c.terms) ++ domain_line c

@@ -3,8 +3,8 @@ ghost use Rattle.std.specs.Prelude.{◌≡◌, ◌++◌, OnOk, IfOk};
 ghost use Rattle.scasp_cert.specs.Certificate.{certificate_of};
 ghost use Rattle.scasp_print_remarks.specs.Remarks as spec;
 
-use crate::values::{put_values, shown_variables};
-use crate::wheres::put_where;
+use crate::values::shown_variables;
+use crate::wheres::put_with_where;
 use scasp_cert::{Cert, flat};
 use scasp_name::{Memory, NameId, Names};
 use scasp_print_words::put;
@@ -21,10 +21,11 @@ fn domain_line(cert: &Cert) -> Result<&'static str, Memory>
 }
 
 /// Puts the remarks on an answer to a query with these variables at the end: a line `% NAME = TERM` for each of them that
-/// has a name; what the given constraints say of the variables in these terms, as `% where C, C` for the first alternative
-/// and `% or C, C` for each further one, as `% where false` where there is none, `% where more` where there are too many
-/// and `% where overflow` where their projection overflows, and no line where some alternative has no constraint; and
-/// `% domain any` or `% domain closed`. A name that the table lacks is written as the empty text.
+/// has a name, in which a variable that equations fix to a number is this number; what the given constraints say of the
+/// other variables in these terms, as `% where C, C` for the first alternative and `% or C, C` for each further one, as
+/// `% where false` where there is none, `% where more` where there are too many and `% where overflow` where their
+/// projection overflows, and no line where some alternative has no constraint; and `% domain any` or `% domain closed`. A
+/// name that the table lacks is written as the empty text.
 pub fn put_remarks(
     out: &mut Vec<u8>,
     names: &Names,
@@ -33,9 +34,7 @@ pub fn put_remarks(
 ) -> Result<(), Memory>
     ensures { OnOk result (out.new.items ≡ out.old.items ++ spec.remarks_text names.now variables.now (certificate_of cert.now)) }
 {
-    let terms = cert.terms.as_slice();
-    put_values(out, names, variables, terms)?;
-    let shown = shown_variables(*out.allocator(), variables, terms)?;
-    put_where(out, names, &cert.given, &shown)?;
+    let spoken_of = shown_variables(*out.allocator(), variables, cert.terms.as_slice())?;
+    put_with_where(out, names, variables, cert, &spoken_of)?;
     put(out, domain_line(cert)?)
 }

@@ -1,9 +1,14 @@
-//! What the given constraints say of the variables that an answer shows.
-ghost use Rattle.std.specs.Prelude.{◌≡◌, ◌++◌, true, OnOk, if◌then◌else◌, codes};
+//! The values that an answer shows, and what the given constraints say of their variables.
+ghost use Rattle.std.specs.Prelude.{◌≡◌, ◌++◌, true, OnOk, Some, if◌then◌else◌, codes, flat_map};
 ghost use Rattle.scasp_project.specs.Projection.{projection};
+ghost use Rattle.scasp_project.specs.declared.projecting.Projected.TheVariants as projected;
 ghost use Rattle.scasp_print_remarks.specs.Remarks as spec;
+ghost use Rattle.scasp_syntax.specs.Tm.{items, var};
 
-use scasp_name::{Memory, Names};
+use crate::values::put_values;
+use scasp_cert::Cert;
+use scasp_fixed::tell;
+use scasp_name::{Memory, NameId, Names};
 use scasp_print::put_con;
 use scasp_print_words::{put, put_separator};
 use scasp_project::{Projected, project};
@@ -75,19 +80,59 @@ fn put_alternatives(out: &mut Vec<u8>, names: &Names, lists: &ConLists) -> Resul
     }
 }
 
-/// Puts what the constraints say of the variables.
-pub(crate) fn put_where(
+/// Puts the values as they stand.
+fn put_plain(
     out: &mut Vec<u8>,
     names: &Names,
-    given: &Cons,
-    shown: &VarList,
+    variables: &[Option<NameId>],
+    cert: &Cert,
 ) -> Result<(), Memory>
-    ensures { OnOk result (out.new.items ≡ out.old.items ++ spec.where_text names.now (projection given.now shown.now)) }
+    ensures { OnOk result (out.new.items ≡ out.old.items ++ flat_map (spec.value_line names.now var) (spec.values_of variables.now cert.now.terms)) }
 {
-    match project(given, shown) {
-        Ok(Projected::Alternatives(lists)) => put_alternatives(out, names, &shortest(&lists)?),
-        Ok(Projected::TooMany) => put(out, "% where more\n"),
-        Err(LinErr::Overflow) => put(out, "% where overflow\n"),
+    put_values(out, names, &[], variables, cert.terms.as_slice())
+}
+
+/// Puts the values with the numbers that the equations of the alternatives fix, and what the alternatives say.
+fn put_told(
+    out: &mut Vec<u8>,
+    names: &Names,
+    variables: &[Option<NameId>],
+    cert: &Cert,
+    lists: ConLists,
+) -> Result<(), Memory>
+    ensures { OnOk result (out.new.items ≡ out.old.items ++ spec.told_text names.now (spec.values_of variables.now cert.now.terms) (items cert.now.sample) (Some (projected.Alternatives lists))) }
+{
+    let left = tell(lists, &cert.sample)?;
+    put_values(
+        out,
+        names,
+        left.values.as_slice(),
+        variables,
+        cert.terms.as_slice(),
+    )?;
+    put_alternatives(out, names, &shortest(&left.lists)?)
+}
+
+/// Puts the values of the variables, and what the given constraints say of the variables that the values speak of.
+pub(crate) fn put_with_where(
+    out: &mut Vec<u8>,
+    names: &Names,
+    variables: &[Option<NameId>],
+    cert: &Cert,
+    spoken_of: &VarList,
+) -> Result<(), Memory>
+    ensures { OnOk result (out.new.items ≡ out.old.items ++ spec.told_text names.now (spec.values_of variables.now cert.now.terms) (items cert.now.sample) (projection cert.now.given spoken_of.now)) }
+{
+    match project(&cert.given, spoken_of) {
+        Ok(Projected::Alternatives(lists)) => put_told(out, names, variables, cert, lists),
+        Ok(Projected::TooMany) => {
+            put_plain(out, names, variables, cert)?;
+            put(out, "% where more\n")
+        }
+        Err(LinErr::Overflow) => {
+            put_plain(out, names, variables, cert)?;
+            put(out, "% where overflow\n")
+        }
         Err(LinErr::Memory) => Err(Memory),
     }
 }

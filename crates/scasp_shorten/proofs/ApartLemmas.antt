@@ -18,7 +18,7 @@ use Rattle.scasp_shorten.proofs.ShorteningLemmas.{shortened-each, shortened-told
 
 -- ---- one list
 
-list-told : (cs : List Con) (v : Valuation) → RowsNormal cs → tells_all v.of (shortest_list cs) ≡ tells_all v.of cs
+pub list-told : (cs : List Con) (v : Valuation) → RowsNormal cs → tells_all v.of (shortest_list cs) ≡ tells_all v.of cs
 list-told cs v n = by (nat_lt most_constraints (length cs)) refl
   where
     short : List Con

@@ -24,7 +24,7 @@ use Rattle.scasp_shorten.specs.Told.{tells, tells_all}
 use Rattle.scasp_shorten.proofs.RowsLemmas.{normal-append, normal-negated}
 
 -- it is told, and so it holds
-tells-holds : (v : Sub) (c : Con) → tells v c ≡ true → holds v c ≡ true
+pub tells-holds : (v : Sub) (c : Con) → tells v c ≡ true → holds v c ≡ true
 tells-holds v (con.Row r) m = (and_parts (list_all (λ k. is_number (v k.x)) r.coeffs) (row_holds v r) m).1
 tells-holds v (con.Eq t u) m = m
 tells-holds v (con.Neq t u) m = m
@@ -113,7 +113,7 @@ by-number v cs (term.App f ts) m e = cc
 -- ---- what is asked
 
 -- its negation has no new variables
-abbrev IsPlain : Con → Type 0
+abbrev pub IsPlain : Con → Type 0
 IsPlain (con.Eq t u) = ⊤
 IsPlain (con.Neq t u) = ⊤
 IsPlain (con.NotShape x f n) = ⊥
@@ -141,17 +141,20 @@ shown-unmet cs n e m = by (found cs) refl
     by unknown_list p = true≢false (sym e ∙ ap is_shown p)
     by (hint h) p = shown-unsat cs h n (found-hint cs h n p) m
 
-asked-holds : (cs : List Con) (c : Con) (v : Valuation) → RowsNormal cs → RowsNormal (c ∷ []) → IsPlain c → is_asked cs c ≡ true → tells_all v.of cs ≡ true → holds v.of c ≡ true
-asked-holds cs c v n k i e m = by (holds v.of c) refl
+pub asked-meets : (cs : List Con) (c : Con) (v : Valuation) → RowsNormal cs → RowsNormal (c ∷ []) → IsPlain c → is_asked cs c ≡ true → list_all (holds v.of) cs ≡ true → holds v.of c ≡ true
+asked-meets cs c v n k i e m = by (holds v.of c) refl
   where
     both : holds v.of c ≡ false → list_all (holds v.of) (cs ++ negated 0 c ∷ []) ≡ true
     both p =
         list_all-append (holds v.of) cs (negated 0 c ∷ [])
-        ∙ and_from (list_all (holds v.of) cs) (holds v.of (negated 0 c) && true) (tells-meets v.of cs m) (and_from (holds v.of (negated 0 c)) true (negated-holds v.of c i p) refl)
+        ∙ and_from (list_all (holds v.of) cs) (holds v.of (negated 0 c) && true) m (and_from (holds v.of (negated 0 c)) true (negated-holds v.of c i p) refl)
 
     by : (b : Bool) → holds v.of c ≡ b → holds v.of c ≡ true
     by true p = p
     by false p = absurd (shown-unmet (cs ++ negated 0 c ∷ []) (normal-append cs (negated 0 c ∷ []) n (normal-negated c k)) e (record { by = v; meets = both p }))
+
+asked-holds : (cs : List Con) (c : Con) (v : Valuation) → RowsNormal cs → RowsNormal (c ∷ []) → IsPlain c → is_asked cs c ≡ true → tells_all v.of cs ≡ true → holds v.of c ≡ true
+asked-holds cs c v n k i e m = asked-meets cs c v n k i e (tells-meets v.of cs m)
 
 -- ---- both
 

@@ -1,5 +1,6 @@
 pub mod ApartLemmas
 pub mod FollowingLemmas
+pub mod NeededLemmas
 pub mod OrderingLemmas
 pub mod RowsLemmas
 pub mod ShorteningLemmas

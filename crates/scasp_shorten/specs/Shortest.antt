@@ -82,10 +82,10 @@ abbrev pub shortened : List Con → List Con → List Con
 shortened before [] = before
 shortened before (c ∷ rest) = if not (is_test c) && follows (before ++ rest) c then shortened before rest else shortened (before ++ c ∷ []) rest
 
--- it is a number test of a variable that some row of the list has
+-- it is a number test of a number, or of a variable that some row of the list has
 abbrev pub is_told_by_rows : List Con → Con → Bool
 is_told_by_rows cs (con.Num (term.Var x)) = list_any (is_row_of x) cs
-is_told_by_rows cs (con.Num (term.Num q)) = false
+is_told_by_rows cs (con.Num (term.Num q)) = true
 is_told_by_rows cs (con.Num (term.App f ts)) = false
 is_told_by_rows cs (con.Eq t u) = false
 is_told_by_rows cs (con.Neq t u) = false
@@ -93,7 +93,7 @@ is_told_by_rows cs (con.NotShape x f n) = false
 is_told_by_rows cs (con.NotNum t) = false
 is_told_by_rows cs (con.Row r) = false
 
--- without the number tests of variables that rows have
+-- without the number tests of numbers, and of variables that rows have
 abbrev pub without_tests : List Con → List Con
 without_tests cs = filter (λ c. not (is_told_by_rows cs c)) cs
 

@@ -15,7 +15,7 @@ use scasp_syntax::{Con, ConLists, Cons, DeepCopy};
 use std::alloc::Global;
 
 /// So many constraints of a list are looked through.
-const MOST_CONSTRAINTS: usize = 32;
+pub const MOST_CONSTRAINTS: usize = 32;
 
 /// So many lists are looked through.
 const MOST_LISTS: usize = 8;

@@ -53,7 +53,7 @@ fn is_row_of(x: u64, constraint: &Con) -> bool
 }
 
 /// Whether some row of the list has the variable.
-pub(crate) fn has_row_of(list: &[Con], x: u64) -> bool
+pub fn has_row_of(list: &[Con], x: u64) -> bool
     ensures { result ≡ list_any (is_row_of x) list.now }
 {
     list.iter().any(|constraint| is_row_of(x, constraint))
@@ -118,8 +118,9 @@ fn is_asked(alloc: Global, list: &[Con], constraint: &Con) -> Result<bool, Memor
     }
 }
 
-/// Whether the list tells the constraint.
-pub(crate) fn follows(alloc: Global, list: &[Con], constraint: &Con) -> Result<bool, Memory>
+/// Whether the list tells the constraint: a hint shows that with its negation the list has no valuation, and the list
+/// tells that the variables of a row are numbers. Not so where what is asked for the hint overflows.
+pub fn follows(alloc: Global, list: &[Con], constraint: &Con) -> Result<bool, Memory>
     ensures { IfOk result (λ is. is ≡ follows list.now constraint.now) }
 {
     match constraint {

@@ -7,4 +7,5 @@ pub mod laws;
 mod ordering;
 mod shortening;
 
-pub use alternatives::shortest;
+pub use alternatives::{MOST_CONSTRAINTS, shortest};
+pub use following::{follows, has_row_of};

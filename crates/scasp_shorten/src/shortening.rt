@@ -52,20 +52,21 @@ pub(crate) fn shortened(alloc: Global, list: &[Con]) -> Result<Cons, Memory>
     Ok(before)
 }
 
-/// Whether the constraint is the number test of a variable that some row of the list has.
+/// Whether the constraint is the number test of a number, or of a variable that some row of the list has.
 fn is_told_by_rows(list: &[Con], constraint: &Con) -> bool
     ensures { result ≡ is_told_by_rows list.now constraint.now }
 {
     match constraint {
         Con::Num(Term::Var(x)) => has_row_of(list, *x),
-        Con::Num(Term::Num(_)) | Con::Num(Term::App(_, _)) => false,
+        Con::Num(Term::Num(_)) => true,
+        Con::Num(Term::App(_, _)) => false,
         Con::Eq(_, _) | Con::Neq(_, _) | Con::NotShape(_, _, _) | Con::NotNum(_) | Con::Row(_) => {
             false
         }
     }
 }
 
-/// The list without the number tests of variables that rows have.
+/// The list without the number tests of numbers, and of variables that rows have.
 pub(crate) fn without_tests(alloc: Global, list: &[Con]) -> Result<Cons, Memory>
     ensures { IfOk result (λ made. made ≡ without_tests list.now) }
 {

@@ -1,0 +1,73 @@
+-- The variables that the equations of lists fix to a number, and the lists with these numbers put in.
+use Rattle.std.specs.Prelude.{ℕ, ◌+◌, ◌==◌, nat_lt, Bool, true, false, ◌&&◌, ◌||◌, not, if◌then◌else◌, is_some, List, [], ◌∷◌, ◌++◌, filter, map, length}
+use Rattle.std.specs.List.{list_all, list_any}
+use Rattle.scasp_num.specs.Linear.{is_equation}
+use Rattle.scasp_num.specs.Number.{Number}
+use Rattle.scasp_search_rules.specs.Successors.Reading.{con_under}
+use Rattle.scasp_shorten.specs.Shortest.{follows, is_row_of, most_constraints}
+use Rattle.scasp_syntax.specs.Tm.{Tm, var, num, app}
+use Rattle.scasp_syntax.specs.Values.{Sub}
+use Rattle.scasp_syntax.specs.declared.con.Con.{Con}
+use Rattle.scasp_syntax.specs.declared.con.Con.TheVariants as con
+use Rattle.scasp_syntax.specs.declared.term.Term.TheVariants as term
+use Rattle.scasp_unify.specs.ResolvedRows.{resolved_row}
+use Rattle.scasp_unify.specs.Solving.{sub_of}
+use Rattle.scasp_unify.specs.declared.bindings.Binding.{Binding}
+
+-- ---- what fixes a variable
+
+abbrev pub is_fixing : Con → Bool
+is_fixing (con.Num t) = true
+is_fixing (con.Row r) = is_equation r.op
+is_fixing (con.Eq t u) = false
+is_fixing (con.Neq t u) = false
+is_fixing (con.NotShape x f n) = false
+is_fixing (con.NotNum t) = false
+
+-- the number tests and equations of a list; none of a list that is too long
+abbrev pub fixing : List Con → List Con
+fixing cs = if nat_lt most_constraints (length cs) then [] else filter is_fixing cs
+
+-- number tests and equations give the variable this number
+abbrev pub gives : List Con → ℕ → Number → Bool
+gives cs x q = list_any (is_row_of x) cs && follows cs (con.Eq (term.Var x) (term.Num q))
+
+-- the number that a sample has for the variable x, if each of the lists gives it
+abbrev pub value_of : List (List Con) → ℕ → Tm → List Binding
+value_of lists x (num q) = if list_all (λ cs. gives cs x q) lists then record { x = x; term = term.Num q } ∷ [] else []
+value_of lists x (var y) = []
+value_of lists x (app f ts) = []
+
+-- so for the variables of a sample, the first of them x
+abbrev pub values_from : List (List Con) → ℕ → List Tm → List Binding
+values_from lists x [] = []
+values_from lists x (t ∷ ts) = value_of lists x t ++ values_from lists (x + 1) ts
+
+-- ---- what is told
+
+-- a row is within range with the values put in
+abbrev pub is_read : Sub → Con → Bool
+is_read s (con.Row r) = is_some (resolved_row s r)
+is_read s (con.Eq t u) = true
+is_read s (con.Neq t u) = true
+is_read s (con.NotShape x f n) = true
+is_read s (con.Num t) = true
+is_read s (con.NotNum t) = true
+
+abbrev pub are_read : Sub → List Con → Bool
+are_read s cs = list_all (is_read s) cs
+
+pub record Telling : Type 0 where
+  pub values : List Binding
+  pub lists : List (List Con)
+
+-- the lists with the values put in; no value and the lists as they are where a row passes its range
+abbrev pub telling_by : List Binding → List (List Con) → Telling
+telling_by vs lists =
+    if length vs == 0 || not (list_all (are_read (sub_of vs)) lists)
+    then record { values = []; lists = lists }
+    else record { values = vs; lists = map (map (con_under (sub_of vs))) lists }
+
+-- what is told of lists of which one holds, and of which a sample meets one
+abbrev pub telling : List (List Con) → List Tm → Telling
+telling lists sample = telling_by (values_from (map fixing lists) 0 sample) lists
