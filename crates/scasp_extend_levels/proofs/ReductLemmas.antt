@@ -5,7 +5,8 @@ use Rattle.std.specs.List.{filter, list_any, flat_map}
 use Rattle.std.proofs.lemmas.Grind.{flat_map-append}
 use Rattle.std.proofs.lemmas.List.Elements.{filter-append}
 use Rattle.scasp_closure.specs.Reading.{Stand, StandFor, atoms_in}
-use Rattle.scasp_closure.proofs.ReadingLemmas.{from-set, in-set, one-number, same_truth}
+use Rattle.std.proofs.lemmas.Bool.{true≢false, and_parts, cond-true, cond-false, cond_both, false_from_ne_true, not-true, or_from, or_left, or_parts, or_right}
+use Rattle.scasp_syntax.proofs.SameLemmas.{atom_decided}
 use Rattle.scasp_model.specs.Atoms.{among, are_distinct}
 use Rattle.scasp_model.specs.Levelled.{is_lower, read_lower}
 use Rattle.scasp_model.specs.Programs.{head_is, is_blocked, positive_atoms, rules_for}
@@ -13,7 +14,7 @@ use Rattle.scasp_model.specs.Reduct.{reduced as ground_reduced, reduct as ground
 use Rattle.scasp_model.specs.Stable.{is_true_in}
 use Rattle.scasp_model.specs.declared.program.DefiniteRule.{DefiniteRule}
 use Rattle.scasp_model.specs.declared.program.GroundClause.{GroundClause}
-use Rattle.scasp_syntax.specs.Same.{same_bool}
+use Rattle.scasp_syntax.specs.Same.{same_atom, same_bool}
 use Rattle.scasp_syntax.specs.declared.atom.Atom.{Atom}
 use Rattle.scasp_syntax.specs.declared.atom.Lit.{Lit}
 use Rattle.scasp_worklist.specs.declared.numbered.NumberedRule.{NumberedRule}
@@ -23,12 +24,45 @@ use Rattle.scasp_extend_levels.specs.declared.numbered.NumberedClause.{NumberedC
 use Rattle.scasp_extend_levels.specs.declared.numbered.NumberedLit.{NumberedLit}
 use Rattle.scasp_extend_levels.specs.declared.standings.Standing.{Standing}
 
+not-inside : (set : ℕ → Bool) (table : List Atom) (a : Atom) → among table a ≡ false → among (atoms_in set table) a ≡ false
+not-inside set [] a n = refl
+not-inside set (b ∷ table) a n =
+    let rest : List Atom = atoms_in (λ k. set (suc k)) table in
+    let p = or_parts (same_atom a b) (among table a) n in
+    let none : among rest a ≡ false = not-inside (λ k. set (suc k)) table a p.1 in
+    cond_both (set 0) (b ∷ rest) rest (λ z. among z a ≡ false) (λ i. or_from (same_atom a b) (among rest a) p.0 none) (λ i. none)
+
+placed : (table : List Atom) (n : ℕ) (a : Atom) → slice_get table n ≡ Some a → among table a ≡ true
+placed [] n a e = cc
+placed (b ∷ table) zero a e = let same : b ≡ a = cc in or_left (same_atom a b) (among table a) ((atom_decided a b).1 (sym same))
+placed (b ∷ table) (suc n) a e = or_right (same_atom a b) (among table a) (placed table n a e)
+
 -- whether an atom is in a set is whether its number is
 pub inside-is : (table : List Atom) (set : ℕ → Bool) (n : ℕ) (a : Atom) → are_distinct table ≡ true → slice_get table n ≡ Some a → among (atoms_in set table) a ≡ set n
-inside-is table set n a d e =
-    same_truth (among (atoms_in set table) a) (set n)
-    (λ h. let i = in-set set table a h in ap set (one-number table a n i.number d e i.at) ∙ i.inside)
-    (λ h. from-set set table a n e h)
+inside-is [] set n a d e = cc
+inside-is (b ∷ table) set zero a d e = by (set 0) refl
+  where
+    rest : List Atom
+    rest = atoms_in (λ k. set (suc k)) table
+
+    same : b ≡ a
+    same = cc
+
+    by : (i : Bool) → set 0 ≡ i → among (atoms_in set (b ∷ table)) a ≡ set 0
+    by true i =
+        ap (λ z. among z a) (cond-true (set 0) (b ∷ rest) rest i) ∙ or_left (same_atom a b) (among rest a) ((atom_decided a b).1 (sym same)) ∙ sym i
+    by false i =
+        let p = and_parts (not (among table b)) (are_distinct table) d in
+        ap (λ z. among z a) (cond-false (set 0) (b ∷ rest) rest i)
+        ∙ not-inside (λ k. set (suc k)) table a (ap (among table) (sym same) ∙ not-true (among table b) p.0) ∙ sym i
+inside-is (b ∷ table) set (suc n) a d e =
+    let rest : List Atom = atoms_in (λ k. set (suc k)) table in
+    let p = and_parts (not (among table b)) (are_distinct table) d in
+    let there : among table a ≡ true = placed table n a e in
+    let apart : same_atom a b ≡ false =
+    false_from_ne_true (same_atom a b) (λ h. true≢false (sym there ∙ ap (among table) ((atom_decided a b).0 h) ∙ not-true (among table b) p.0)) in
+    let later : among rest a ≡ set (suc n) = inside-is table (λ k. set (suc k)) n a p.1 e in
+    cond_both (set 0) (b ∷ rest) rest (λ z. among z a ≡ set (suc n)) (λ i. ap (λ z. z || among rest a) apart ∙ later) (λ i. later)
 
 standing-is : (f : Atom → Standing) (table : List Atom) (n : ℕ) (a : Atom) → slice_get table n ≡ Some a → standing_at (map f table) n ≡ f a
 standing-is f [] n a e = cc

@@ -1,6 +1,7 @@
 -- Reducts by sets with the same atoms, and steps that end.
 use Rattle.std.proofs.Common.{◌≡◌, ◌∙◌, ◌∷◌, ◌++◌, ℕ, zero, suc, ◌+◌, ◌-◌, ◌<◌, ◌≤◌, Bool, true, false, ◌&&◌, ◌||◌, not, nat_lt, cond, List, [], length, map, refl, ap, sym, arith, add-zero, add-suc, add-one, append_assoc}
 use Rattle.std.specs.List.{filter, flat_map, list_any}
+use Rattle.std.specs.Bool.{beq}
 use Rattle.std.proofs.lemmas.Bool.{ltb-true, ltb-false}
 use Rattle.scasp_closure.specs.Reading.{atoms_in}
 use Rattle.scasp_closure.proofs.ReadingLemmas.{least-read}
@@ -108,6 +109,12 @@ read-length level n m (c ∷ cs) = by (list_any (λ l. is_lower level n l && not
         → length (cond b [] (record { head = c.head; body = filter (λ l. not (is_lower level n l)) c.body } ∷ []) ++ flat_map (read_lower level n m) cs) ≤ suc (length cs)
     by true h = omega (arith, h)
     by false h = omega (arith, h)
+
+pub not-apart : (b c : Bool) → not (beq b c) ≡ false → b ≡ c
+not-apart true true e = refl
+not-apart true false e = e
+not-apart false true e = sym e
+not-apart false false e = refl
 
 -- one number more is the same in both sets
 pub below-more : (f g : ℕ → Bool) (k : ℕ) → ((n : ℕ) → n < k → f n ≡ g n) → f k ≡ g k → (n : ℕ) → n < k + 1 → f n ≡ g n

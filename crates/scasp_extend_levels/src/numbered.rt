@@ -42,10 +42,10 @@ fn numbered_body(
 {
     let mut made = Vec::with_capacity(alloc, body.len())?;
     for literal in body.as_slice() {
-        let atom = table.put(alloc, &literal.atom)? as u64;
+        let place = table.put(alloc, &literal.atom)?;
         made.push(NumberedLit {
             positive: literal.positive,
-            atom,
+            atom: place as u64,
         })?;
     }
     Ok(Sequence::from(made))
@@ -66,9 +66,12 @@ impl Level {
     pub(crate) fn push(&mut self, alloc: Global, head: &Atom, body: &Lits) -> Result<(), Memory>
         ensures { OnOk result ((cs : List ThisClause) → StandAll self.old.table self.old.rules cs → StandAll self.new.table self.new.rules (cs ++ record { head = Some head.now; body = body.now } ∷ [])) }
     {
-        let head = self.table.put(alloc, head)? as u64;
+        let place = self.table.put(alloc, head)?;
         let body = numbered_body(alloc, &mut self.table, body)?;
-        self.rules.push(NumberedClause { head, body })?;
+        self.rules.push(NumberedClause {
+            head: place as u64,
+            body,
+        })?;
         Ok(())
     }
 }

@@ -1,18 +1,19 @@
-use Rattle.std.proofs.Common.{◌≡◌, nat_eq, ap, sym}
+use Rattle.std.proofs.Common.{nat_eq, Option, ap}
 use Rattle.std.specs.BTreeMap.{get}
 use Rattle.std.specs.Ordering.{nat_cmp}
 use Rattle.scasp_sound.specs.MapLevels.{level_of}
+use Rattle.scasp_syntax.specs.declared.atom.Atom.{Atom}
 use Rattle.scasp_syntax.specs.declared.atom.Pred.{Pred}
 use Rattle.scasp_extend_levels.specs.Entries.{entry_at}
 use Rattle.scasp_extend_levels.proofs.BucketLemmas.{sorted-more, sorted-same}
 use Rattle.scasp_extend_levels.proofs.buckets.Levels.push.Goals as goal
 
-pub returns-in-Some : goal.returns-in-Some
-returns-in-Some c =
+pub returns-in_ok-put_at-in-Some : goal.returns-in_ok-put_at-in-Some
+returns-in_ok-put_at-in-Some c =
     λ map g sorted. (
       sorted.0,
       sorted-more map (λ (p : Pred). entry_at c.args.self.now.entries p) (get nat_cmp c.args.self.now.levels) (get nat_cmp c.put_at.new.levels) c.args.clause.now
-          c.in-Some.head c.args.clause.now.body c.level_in-level.result g c.in-Some.is c.level_in-level.ensures sorted.0 c.in_ok-put_at.ensures sorted.1,
+          c.in-Some.head c.args.clause.now.body c.level_in-level.result g (ap (λ (o : Option Atom). record { head = o; body = c.args.clause.now.body }) c.in-Some.is) c.level_in-level.ensures sorted.0 c.in_ok-put_at-in-Some.ensures sorted.1,
     )
 
 pub returns-in-None : goal.returns-in-None

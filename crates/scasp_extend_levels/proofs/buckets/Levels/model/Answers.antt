@@ -5,7 +5,7 @@ use Rattle.scasp_sound.specs.MapLevels.{level_of, plus_of}
 use Rattle.scasp_syntax.specs.declared.atom.Pred.{Pred}
 use Rattle.scasp_extend_levels.specs.Entries.{entry_at}
 use Rattle.scasp_extend_levels.proofs.LevelLemmas.{begins, empty-get, ends, step-by-map, taken}
-use Rattle.scasp_extend_levels.proofs.levels.Levels.model.Goals as goal
+use Rattle.scasp_extend_levels.proofs.buckets.Levels.model.Goals as goal
 
 pub loop-lowest-init : goal.loop-lowest-init
 loop-lowest-init c =

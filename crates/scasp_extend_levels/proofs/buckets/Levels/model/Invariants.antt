@@ -6,7 +6,7 @@ use Rattle.scasp_sound.specs.MapLevels.{level_of, plus_of}
 use Rattle.scasp_syntax.specs.declared.predicate_map.PredMap.{PredMap}
 use Rattle.scasp_extend_levels.specs.Sorted.{IsSorted}
 use Rattle.scasp_extend_levels.proofs.LevelLemmas.{Reached}
-use Rattle.scasp_extend_levels.proofs.levels.Levels.model.Given as goal
+use Rattle.scasp_extend_levels.proofs.buckets.Levels.model.Given as goal
 
 abbrev pub invariant-loop-lowest : goal.invariant-loop-lowest
 invariant-loop-lowest l =
