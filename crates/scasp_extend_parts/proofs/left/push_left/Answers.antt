@@ -11,9 +11,9 @@ pub returns-in_ok-push-in-Some : goal.returns-in_ok-push-in-Some
 returns-in_ok-push-in-Some c =
     λ map g sorted.
     put-kept c.args.told.now.trues c.args.told.now.falses c.args.instance c.in-Some.body map c.push.new.self g (sym c.in_ok-knows.ensures ∙ c.if-branch.false)
-    (sym c.in_ok-left_of_body.ensures ∙ c.in-Some.is) (c.in_ok-push-in-Some.ensures map g sorted)
+    (sym c.in_ok-body.ensures ∙ c.in-Some.is) (c.in_ok-push-in-Some.ensures map g sorted)
 
 pub returns-in-None : goal.returns-in-None
 returns-in-None c =
     λ map g sorted.
-    put-wrong c.args.told.now.trues c.args.told.now.falses c.args.instance map c.args.made.now g (sym c.in_ok-left_of_body.ensures ∙ c.in-None.is) sorted
+    put-wrong c.args.told.now.trues c.args.told.now.falses c.args.instance map c.args.made.now g (sym c.in_ok-body.ensures ∙ c.in-None.is) sorted
