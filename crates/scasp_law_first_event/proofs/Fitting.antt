@@ -42,17 +42,23 @@ abbrev pub ArgsBelow : ℕ → Tms → Type 0
 ArgsBelow n ts = EachVars (λ y. y < n) ts
 
 -- the variables that an equation, a disequation or a shape has; no other constraint binds one
+abbrev pub ConEach : (ℕ → Type 0) → Con → Type 0
+ConEach G (con.Eq t u) = EachVar G (tm_of t) × EachVar G (tm_of u)
+ConEach G (con.Neq t u) = EachVar G (tm_of t) × EachVar G (tm_of u)
+ConEach G (con.NotShape x f k) = G x
+ConEach G (con.Num t) = ⊤
+ConEach G (con.NotNum t) = ⊤
+ConEach G (con.Row r) = ⊤
+
 abbrev pub ConBelow : ℕ → Con → Type 0
-ConBelow n (con.Eq t u) = TermBelow n (tm_of t) × TermBelow n (tm_of u)
-ConBelow n (con.Neq t u) = TermBelow n (tm_of t) × TermBelow n (tm_of u)
-ConBelow n (con.NotShape x f k) = x < n
-ConBelow n (con.Num t) = ⊤
-ConBelow n (con.NotNum t) = ⊤
-ConBelow n (con.Row r) = ⊤
+ConBelow n c = ConEach (λ y. y < n) c
+
+abbrev pub ItemEach : (ℕ → Type 0) → FlatItem → Type 0
+ItemEach G (flat.Call l) = EachVars G l.atom.args
+ItemEach G (flat.Test c) = ConEach G c
 
 abbrev pub ItemBelow : ℕ → FlatItem → Type 0
-ItemBelow n (flat.Call l) = ArgsBelow n l.atom.args
-ItemBelow n (flat.Test c) = ConBelow n c
+ItemBelow n i = ItemEach (λ y. y < n) i
 
 abbrev pub PairsBelow : ℕ → List Pair → Type 0
 PairsBelow n ps = Each (λ o. TermBelow n (tm_of o.left) × TermBelow n (tm_of o.right)) ps

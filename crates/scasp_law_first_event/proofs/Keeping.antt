@@ -183,7 +183,7 @@ keep-puts p s z v n ws r h fits =
 pub read-below : (p : Program) (s : State) (t : Tm) → Held p s → TermBelow (length s.made) t → TermBelow (length s.made) (under (meaning s) t)
 read-below p s t h k = read-keeps (λ y. y < length s.made) s.bound (terms-below (length s.made) s.bound h.solved) t k
 
-length-count : (k n : ℕ) → length (count_from k n) ≡ n
+pub length-count : (k n : ℕ) → length (count_from k n) ≡ n
 length-count k zero = refl
 length-count k (suc n) = ap suc (length-count (suc k) n)
 

@@ -1,3 +1,4 @@
 pub mod Events
 pub mod Examples
+pub mod Replaced
 pub mod Solved
