@@ -32,7 +32,7 @@ use Rattle.scasp_syntax.specs.declared.con.Con.{Con}
 use Rattle.scasp_syntax.specs.declared.con.Con.TheVariants as con
 use Rattle.scasp_syntax.specs.declared.program.Program.{Program}
 use Rattle.scasp_syntax.specs.declared.term.Term.{Term}
-use Rattle.scasp_syntax.specs.declared.term.Term.TheVariants.{Var, Num}
+use Rattle.scasp_syntax.specs.declared.term.Term.TheVariants.{Var}
 use Rattle.scasp_unify.specs.Negations.{new_parts}
 use Rattle.scasp_unify.specs.Parts.{occurs, occurs_among}
 use Rattle.scasp_unify.specs.SimpleForm.{differ, term_with}

@@ -24,3 +24,4 @@ mod Settling
 mod Steps
 mod Terms
 mod Turning
+mod Unnegated

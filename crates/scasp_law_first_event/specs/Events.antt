@@ -10,6 +10,7 @@ use Rattle.scasp_search_rules.specs.Successors.Search.{search_for, start}
 use Rattle.scasp_search_walk.specs.Walks.{Allows, Reached}
 use Rattle.scasp_syntax.specs.WellFormed.{is_query_well_formed}
 use Rattle.scasp_syntax.specs.declared.clause.Query.{Query}
+use Rattle.scasp_law_first_event.specs.Positive.{is_positive}
 use Rattle.scasp_law_first_event.specs.Replaced.{replaces_inside}
 use Rattle.scasp_law_first_event.specs.Solved.{has_circle, is_solved}
 
@@ -77,6 +78,12 @@ abbrev pub FindsOrReplaces : Type 0
 FindsOrReplaces =
     (p : Problem) (q : Query) (budget calls : ℕ) (states : List State) → is_query_well_formed q ≡ true → calls ≤ budget → Each (IsReachable p q) states
     → HasEvent (search_for p q) budget states calls ⊎ ComesToReplacement p q
+
+-- Where neither the query nor a clause has a negated literal, and no clause is checked, the search has a first event from any such states.
+abbrev pub PositiveFinds : Type 0
+PositiveFinds =
+    (p : Problem) (q : Query) (budget calls : ℕ) (states : List State) → is_query_well_formed q ≡ true → is_positive p q ≡ true → calls ≤ budget
+    → Each (IsReachable p q) states → HasEvent (search_for p q) budget states calls
 
 -- there is a first event, and it is an overflow or tells that a list was asked that overflows
 abbrev pub TellsOverflow : {S A : Type 0} → Machine S A → ℕ → List S → ℕ → Type 0

@@ -1,6 +1,6 @@
 //! What holds of each search.
 ghost use Rattle.scasp_cert.specs.Certificate.{Certificate};
-ghost use Rattle.scasp_law_first_event.specs.Events.{AllowedIsTold, AllowedIsToldOrReplaces, AllowedIsToldOrUnsolved, CirclesAreReplaced, FindsOrGrows, FindsOrReplaces, FindsOrUnsolved, ToldIsAllowed};
+ghost use Rattle.scasp_law_first_event.specs.Events.{AllowedIsTold, AllowedIsToldOrReplaces, AllowedIsToldOrUnsolved, CirclesAreReplaced, FindsOrGrows, FindsOrReplaces, FindsOrUnsolved, PositiveFinds, ToldIsAllowed};
 ghost use Rattle.scasp_search_rules.specs.declared.states.state.State.{State as ThisState};
 
 /// From any states, with no more calls spent than the budget has, a search comes to a first event within some number of steps; or,
@@ -25,6 +25,12 @@ pub fn searches_have_events()
 /// makes such a circle: not a call, not an equation, and not a head that is matched.
 pub fn circles_are_replacements()
     ensures { CirclesAreReplaced }
+{}
+
+/// Where neither the query nor a clause has a negated literal, and no clause is checked, a search comes to a first event within some
+/// number of steps: from states that come of its start, with no more calls spent than the budget has.
+pub fn positive_searches_have_events()
+    ensures { PositiveFinds }
 {}
 
 /// Where a walk allows an overflow its first event is an overflow or tells of a list that overflows, or the search comes to a
