@@ -1,14 +1,13 @@
 -- Bindings in solved form: what is read under them, and how many variables they leave free.
-use Rattle.std.specs.Prelude.{◌≡◌, ◌≢◌, ℕ, zero, suc, ◌+◌, ◌<◌, ◌≤◌, nat_eq, nat_lt, Bool, true, false, ◌&&◌, ◌||◌, not, List, [], ◌∷◌, ◌++◌, length, ⊤}
-use Rattle.std.specs.List.{list_all, list_any}
+use Rattle.std.specs.Prelude.{◌≡◌, ◌≢◌, ℕ, zero, suc, ◌+◌, ◌<◌, ◌≤◌, nat_eq, nat_lt, Bool, true, false, ◌&&◌, ◌||◌, not, List, [], ◌∷◌, ◌++◌, ⊤}
 use Rattle.std.proofs.Common.{refl, ap, sym, subst, arith, ◌∙◌}
-use Rattle.std.proofs.lemmas.Bool.{and_parts, or_parts, or_from, or_right, eqb-true, eqb-false, eq-eqb, ne_eqb, ltb-true, not-true}
+use Rattle.std.proofs.lemmas.Bool.{and_parts, or_parts, or_from, or_right, eqb-true, eqb-false, ne_eqb, ltb-true, not-true}
 use Rattle.scasp_list.specs.Each.{Each}
-use Rattle.scasp_list.proofs.EachLemmas.{Each-map, Each-from_test}
+use Rattle.scasp_list.proofs.EachLemmas.{Each-from_test}
 use Rattle.scasp_search_rules.specs.Successors.Splits.{is_bound_in}
 use Rattle.scasp_search_rules.specs.Successors.Variables.{binding}
-use Rattle.scasp_syntax.specs.Tm.{Tm, Tms, var}
-use Rattle.scasp_syntax.specs.Values.{Sub, under, all_under}
+use Rattle.scasp_syntax.specs.Tm.{Tm, var}
+use Rattle.scasp_syntax.specs.Values.{Sub, under}
 use Rattle.scasp_syntax.specs.View.{tm_of}
 use Rattle.scasp_syntax.specs.WellFormed.{is_below}
 use Rattle.scasp_syntax.proofs.ValueLemmas.{under-under}
@@ -19,7 +18,7 @@ use Rattle.scasp_unify.specs.declared.bindings.Binding.{Binding}
 use Rattle.scasp_unify.proofs.SimpleLemmas.{viewed}
 use Rattle.scasp_unify.proofs.SolvingLemmas.{under-var, sub-push}
 use Rattle.scasp_law_first_event.specs.Solved.{is_absent, are_solved, are_bindings_below}
-use Rattle.scasp_law_first_event.proofs.Terms.{EachVar, EachVars, each-weaker, each-both, each-under, under-self, all-self, all-weaker, single-each, single-other, below-each, absent-each}
+use Rattle.scasp_law_first_event.proofs.Terms.{EachVar, each-weaker, each-both, each-under, under-self, single-each, single-other, below-each, absent-each}
 
 -- in no binding's term stands its variable, or one that was bound before; and all variables are below n
 abbrev pub Solved : ℕ → List Binding → Type 0

@@ -1,21 +1,16 @@
 -- Calls, covers and cases keep what is held, but where a variable is bound to a term in which it stands; and so each step does.
-use Rattle.std.specs.Prelude.{◌≡◌, ◌⊎◌, ℕ, zero, suc, ◌+◌, ◌<◌, ◌≤◌, nat_eq, nat_lt, Bool, true, false, ◌&&◌, ◌||◌, not, if◌then◌else◌, Option, Some, None, List, [], ◌∷◌, ◌++◌, length, map, filter, slice_get, slice_set, replicate, ⊤}
-use Rattle.std.specs.List.{list_all, flat_map}
+use Rattle.std.specs.Prelude.{◌≡◌, ◌⊎◌, ℕ, zero, suc, ◌+◌, ◌<◌, ◌≤◌, nat_eq, Bool, true, false, ◌&&◌, ◌||◌, not, if◌then◌else◌, Option, Some, None, List, [], ◌∷◌, ◌++◌, length, map, filter}
 use Rattle.std.proofs.Common.{refl, arith, ap, sym, subst, ◌∙◌, inl, inr}
-use Rattle.std.proofs.lemmas.Bool.{and_parts}
-use Rattle.std.proofs.lemmas.List.{append-nil, length-set}
-use Rattle.scasp_checker_rules.specs.PairLists.{raising, term_raised, con_raised}
+use Rattle.std.proofs.lemmas.List.{append-nil}
 use Rattle.scasp_list.specs.Each.{Each}
-use Rattle.scasp_list.proofs.EachLemmas.{Each-map, Each-append, Each-filter, Each-from_test, Each-at}
+use Rattle.scasp_list.proofs.EachLemmas.{Each-map, Each-append, Each-filter}
 use Rattle.scasp_search_rules.specs.declared.states.covers.Cover.{Cover}
 use Rattle.scasp_search_rules.specs.declared.states.covers.Remainder.{Remainder}
 use Rattle.scasp_search_rules.specs.declared.states.lines.Line.{Line}
 use Rattle.scasp_search_rules.specs.declared.states.lines.Line.TheVariants as line
 use Rattle.scasp_search_rules.specs.declared.states.outcomes.Repeated.{Repeated}
-use Rattle.scasp_search_rules.specs.declared.states.state.Kind.{Kind}
-use Rattle.scasp_search_rules.specs.declared.states.state.Kind.TheVariants.{Existential, Universal, Matched}
+use Rattle.scasp_search_rules.specs.declared.states.state.Kind.TheVariants.{Existential, Matched}
 use Rattle.scasp_search_rules.specs.declared.states.state.Literal.{Literal}
-use Rattle.scasp_search_rules.specs.declared.states.state.Made.{Made}
 use Rattle.scasp_search_rules.specs.declared.states.state.State.{State}
 use Rattle.scasp_search_rules.specs.declared.states.tasks.Aim.{Aim}
 use Rattle.scasp_search_rules.specs.declared.states.tasks.Aim.TheVariants as aims
@@ -23,157 +18,53 @@ use Rattle.scasp_search_rules.specs.declared.states.tasks.Pair.{Pair}
 use Rattle.scasp_search_rules.specs.declared.states.tasks.Task.{Task}
 use Rattle.scasp_search_rules.specs.declared.states.tasks.Task.TheVariants as task
 use Rattle.scasp_search_rules.specs.Successors.Assumptions.{assume_all}
-use Rattle.scasp_search_rules.specs.Successors.Calls.{call, judged, looped, unrepeated, entered, by_rule, by_no_rule, opposites, is_opposite, is_free, differing, nearest, ancestors, can_be_seen, at_number, looping, marked, moved, left, finished, with_literal, vars_in, args_in, vars_of_clause, head_args, covered, leave_literal, lit_under}
-use Rattle.scasp_search_rules.specs.Successors.Cases.{universals_at, failing_at, with_items, leaf_at, head_call, with_head, leaves, cases_where, cases_of, cover_for, with_cover, unbound_of, begin_cases, check_clause, kept_literal, unbound, ended_case, replaced_now, remaining, taken_up, after_case, close_case}
-use Rattle.scasp_search_rules.specs.Successors.Equations.{equations, equations_of}
+use Rattle.scasp_search_rules.specs.Successors.Calls.{call, judged, looped, unrepeated, entered, by_rule, by_no_rule, opposites, is_opposite, is_free, differing, nearest, ancestors, can_be_seen, at_number, looping, marked, moved, left, finished, vars_of_clause, head_args, covered}
+use Rattle.scasp_search_rules.specs.Successors.Cases.{failing_at, with_items, leaf_at, head_call, with_head, cases_where, cases_of, cover_for, with_cover, unbound_of, begin_cases, check_clause, kept_literal, ended_case, replaced_now, remaining, taken_up, after_case, close_case}
+use Rattle.scasp_search_rules.specs.Successors.Equations.{equations}
 use Rattle.scasp_search_rules.specs.Successors.Falls.{EachState}
-use Rattle.scasp_search_rules.specs.Successors.Items.{item_raised, opposite_item, items_of, body_of, with_line}
+use Rattle.scasp_search_rules.specs.Successors.Items.{opposite_item, body_of, with_line}
 use Rattle.scasp_search_rules.specs.Successors.Pairs.{pairs}
-use Rattle.scasp_search_rules.specs.Successors.Reading.{among, count_from, term_under}
+use Rattle.scasp_search_rules.specs.Successors.Reading.{among, count_from}
 use Rattle.scasp_search_rules.specs.Successors.Regions.{before, context, asked_with}
 use Rattle.scasp_search_rules.specs.Successors.Search.{done, step, step_at}
-use Rattle.scasp_search_rules.specs.Successors.Steps.{Step, gives}
-use Rattle.scasp_search_rules.specs.Successors.Variables.{binding, meaning, next_variable, with_new}
-use Rattle.scasp_syntax.specs.Flat.{flat_after, flat_body, number_test, unseen}
+use Rattle.scasp_search_rules.specs.Successors.Steps.{gives}
+use Rattle.scasp_search_rules.specs.Successors.Variables.{meaning, next_variable, with_new}
 use Rattle.scasp_syntax.specs.Programs.{numbered, rules_of, pred_of}
-use Rattle.scasp_syntax.specs.Tm.{Tm, Tms, var, num, app, nil, cons, items}
-use Rattle.scasp_syntax.specs.Values.{raised, under, all_under}
+use Rattle.scasp_syntax.specs.Tm.{Tms, app, nil, cons, items}
+use Rattle.scasp_syntax.specs.Values.{under}
 use Rattle.scasp_syntax.specs.View.{tm_of}
-use Rattle.scasp_syntax.specs.WellFormed.{is_below, are_below, is_item_below, is_head_below, is_clause_well_formed, is_query_well_formed}
 use Rattle.scasp_syntax.specs.declared.atom.Atom.{Atom}
 use Rattle.scasp_syntax.specs.declared.atom.Lit.{Lit}
-use Rattle.scasp_syntax.specs.declared.clause.Clause.{Clause}
 use Rattle.scasp_syntax.specs.declared.clause.FlatItem.{FlatItem}
 use Rattle.scasp_syntax.specs.declared.clause.FlatItem.TheVariants as flat
-use Rattle.scasp_syntax.specs.declared.clause.Item.{Item}
-use Rattle.scasp_syntax.specs.declared.clause.Item.TheVariants as item
 use Rattle.scasp_syntax.specs.declared.con.Con.{Con}
 use Rattle.scasp_syntax.specs.declared.program.Program.{Program}
 use Rattle.scasp_syntax.specs.declared.term.Term.{Term}
 use Rattle.scasp_syntax.specs.declared.term.Term.TheVariants.{Var, Num, App}
-use Rattle.scasp_unify.specs.Negations.{new_parts}
-use Rattle.scasp_unify.specs.SimpleForm.{term_with, list_term}
+use Rattle.scasp_unify.specs.SimpleForm.{list_term}
 use Rattle.scasp_unify.specs.declared.bindings.Binding.{Binding}
 use Rattle.scasp_unify.proofs.SimpleLemmas.{viewed}
 use Rattle.scasp_law_first_event.specs.Events.{IsCircular}
-use Rattle.scasp_law_first_event.specs.Solved.{has_circle}
-use Rattle.scasp_law_first_event.proofs.Bindings.{Solved, Free, read-free}
-use Rattle.scasp_law_first_event.proofs.EachStates.{each_append, each_followed, each_weaker}
-use Rattle.scasp_law_first_event.proofs.Fitting.{TermBelow, ArgsBelow, ConBelow, ItemBelow, PairsBelow, EquationBelow, LiteralBelow, ClauseBelow, CoverBelow, Later, Front, later, becomes, IsNumber, args-more, item-more, cover-more, all-later-more, equations-later, pairs-below}
-use Rattle.scasp_law_first_event.proofs.Keeping.{Held, Orderly, Keep, solved-more, solved-filter, literals-more, keep-itself, keep-same, keep-bound, keep-all-assumed, read-below}
+use Rattle.scasp_law_first_event.proofs.Bindings.{Solved, read-free}
+use Rattle.scasp_law_first_event.proofs.EachStates.{each_append, each_followed}
+use Rattle.scasp_law_first_event.proofs.Fitting.{TermBelow, ArgsBelow, ConBelow, ItemBelow, EquationBelow, LiteralBelow, ClauseBelow, CoverBelow, Later, Front, later, becomes, args-more, item-more, all-later-more, equations-later, pairs-below}
+use Rattle.scasp_law_first_event.proofs.Loose.{universals-length}
+use Rattle.scasp_law_first_event.proofs.Keeping.{Held, Orderly, Keep, solved-more, solved-filter, literals-more, keep-itself, keep-bound, keep-all-assumed, read-below}
 use Rattle.scasp_law_first_event.proofs.Loads.{all-assumed-same}
 use Rattle.scasp_law_first_event.proofs.Moves.{new-length, covers-more}
-use Rattle.scasp_law_first_event.proofs.Steps.{Out, out-goes, each_both, before-out, assumed-out, variable-out, value-out, avoid-out, name-out, differ-out, test-out, equate-out}
-use Rattle.scasp_law_first_event.proofs.Terms.{EachVar, EachVars, each-under, all-under, below-each, below-all}
-
--- ---- items of a program
+use Rattle.scasp_law_first_event.proofs.Raising.{BodyEach, Raised, Each-mapped, raised-of}
+use Rattle.scasp_law_first_event.proofs.Steps.{Out, each_both, assumed-out, variable-out, value-out, avoid-out, name-out, differ-out, test-out, equate-out}
 
 -- the item, and the one that is true where it is false
 abbrev BodyItem : ℕ → FlatItem → Type 0
-BodyItem n i = ItemBelow n i × ItemBelow n (opposite_item i)
+BodyItem n i = BodyEach (λ y. y < n) i
 
-raised-args : (n first : ℕ) (ts : Tms) → ArgsBelow n ts → ArgsBelow (first + n) (all_under (raised first) ts)
-raised-args n first ts h = all-under (λ y. y < n) (λ y. y < first + n) (raised first) (λ x l. omega (arith, l)) ts h
+-- what the variables of a clause are below
+abbrev RaisedBelow : Program → ℕ → ℕ → Type 0
+RaisedBelow p k first = Raised (λ y. y < first + vars_of_clause p k) (numbered p.clauses k) first
 
-raised-term : (n first : ℕ) (t : Term) → TermBelow n (tm_of t) → TermBelow (first + n) (tm_of (term_raised 0 first t))
-raised-term n first t h =
-    subst (TermBelow (first + n)) (sym (viewed (under (raising 0 first) (tm_of t))))
-    (each-under (λ y. y < n) (λ y. y < first + n) (raising 0 first) (λ x l. one x l (nat_lt x 0)) (tm_of t) h)
-  where
-    one : (x : ℕ) → x < n → (b : Bool) → (if b then x else x + first) < first + n
-    one x l true = omega (arith, l)
-    one x l false = omega (arith, l)
-
-Each-mapped : {A B : Type 0} (P : B → Type 0) (f : A → B) (xs : List A) → Each (λ x. P (f x)) xs → Each P (map f xs)
-Each-mapped P f [] h = tt
-Each-mapped P f (x ∷ xs) h = (h.0, Each-mapped P f xs h.1)
-
-tests-raised : (n first : ℕ) (xs : List ℕ) → Each (λ i. BodyItem n (item_raised first i)) (map number_test xs)
-tests-raised n first [] = tt
-tests-raised n first (x ∷ xs) = ((tt, tt), tests-raised n first xs)
-
-flat-raised : (n first : ℕ) (seen : List ℕ) (is : List Item) → list_all (is_item_below n) is ≡ true → Each (λ i. BodyItem (first + n) (item_raised first i)) (flat_after seen is)
-flat-raised n first seen [] e = tt
-flat-raised n first seen (item.Call l ∷ is) e =
-    let q = and_parts (is_item_below n (item.Call l)) (list_all (is_item_below n) is) e in
-    let b = raised-args n first l.atom.args (below-all n l.atom.args q.0) in
-    ((b, b), flat-raised n first seen is q.1)
-flat-raised n first seen (item.Equal t u ∷ is) e =
-    let q = and_parts (is_item_below n (item.Equal t u)) (list_all (is_item_below n) is) e in
-    let o = and_parts (is_below n (tm_of t)) (is_below n (tm_of u)) q.0 in
-    let a = raised-term n first t (below-each n (tm_of t) o.0) in
-    let b = raised-term n first u (below-each n (tm_of u) o.1) in
-    (((a, b), (a, b)), flat-raised n first seen is q.1)
-flat-raised n first seen (item.Differ t u ∷ is) e =
-    let q = and_parts (is_item_below n (item.Differ t u)) (list_all (is_item_below n) is) e in
-    let o = and_parts (is_below n (tm_of t)) (is_below n (tm_of u)) q.0 in
-    let a = raised-term n first t (below-each n (tm_of t) o.0) in
-    let b = raised-term n first u (below-each n (tm_of u) o.1) in
-    (((a, b), (a, b)), flat-raised n first seen is q.1)
-flat-raised n first seen (item.Linear l ∷ is) e =
-    let q = and_parts (is_item_below n (item.Linear l)) (list_all (is_item_below n) is) e in
-    Each-append (λ (i : FlatItem). BodyItem (first + n) (item_raised first i)) (map number_test (unseen seen l.vars)) _ (tests-raised (first + n) first (unseen seen l.vars))
-    ((tt, tt), flat-raised n first (seen ++ l.vars) is q.1)
-
--- the items of a query
-flat-items : (n : ℕ) (seen : List ℕ) (is : List Item) → list_all (is_item_below n) is ≡ true → Each (ItemBelow n) (flat_after seen is)
-flat-items n seen [] e = tt
-flat-items n seen (item.Call l ∷ is) e =
-    let q = and_parts (is_item_below n (item.Call l)) (list_all (is_item_below n) is) e in (below-all n l.atom.args q.0, flat-items n seen is q.1)
-flat-items n seen (item.Equal t u ∷ is) e =
-    let q = and_parts (is_item_below n (item.Equal t u)) (list_all (is_item_below n) is) e in
-    let o = and_parts (is_below n (tm_of t)) (is_below n (tm_of u)) q.0 in
-    ((below-each n (tm_of t) o.0, below-each n (tm_of u) o.1), flat-items n seen is q.1)
-flat-items n seen (item.Differ t u ∷ is) e =
-    let q = and_parts (is_item_below n (item.Differ t u)) (list_all (is_item_below n) is) e in
-    let o = and_parts (is_below n (tm_of t)) (is_below n (tm_of u)) q.0 in
-    ((below-each n (tm_of t) o.0, below-each n (tm_of u) o.1), flat-items n seen is q.1)
-flat-items n seen (item.Linear l ∷ is) e =
-    let q = and_parts (is_item_below n (item.Linear l)) (list_all (is_item_below n) is) e in
-    Each-append (ItemBelow n) (map number_test (unseen seen l.vars)) _ (tests (unseen seen l.vars)) (tt, flat-items n (seen ++ l.vars) is q.1)
-  where
-    tests : (xs : List ℕ) → Each (ItemBelow n) (map number_test xs)
-    tests [] = tt
-    tests (x ∷ xs) = (tt, tests xs)
-
-pub query-items : (n : ℕ) (is : List Item) → list_all (is_item_below n) is ≡ true → Each (ItemBelow n) (flat_body is)
-query-items n is e = flat-items n [] is e
-
--- ---- clauses
-
-head-raised : (n first : ℕ) (o : Option Atom) (c : Clause) → is_head_below n o ≡ true → ArgsBelow (first + n) (all_under (raised first) (args_in (Some (record c { head = o }))))
-head-raised n first None c e = tt
-head-raised n first (Some a) c e = raised-args n first a.args (below-all n a.args e)
-
-head-called : (n first : ℕ) (o : Option Atom) (c : Clause) → is_head_below n o ≡ true → Each (ItemBelow (first + n)) (head_call (Some (record c { head = o })) first)
-head-called n first None c e = tt
-head-called n first (Some a) c e = (raised-args n first a.args (below-all n a.args e), tt)
-
-record Raised (o : Option Clause) (first : ℕ) : Type 0 where
-  head : ArgsBelow (first + vars_in o) (all_under (raised first) (args_in o))
-  body : Each (BodyItem (first + vars_in o)) (items_of o first)
-  call_of : Each (ItemBelow (first + vars_in o)) (head_call o first)
-
-raised-clause : (o : Option Clause) (first : ℕ) → ((c : Clause) → o ≡ Some c → is_clause_well_formed c ≡ true) → Raised o first
-raised-clause None first w = record { head = tt; body = tt; call_of = tt }
-raised-clause (Some c) first w =
-    let q = and_parts (is_head_below c.vars c.head) (list_all (is_item_below c.vars) c.body) (w c refl) in
-    record {
-      head = head-raised c.vars first c.head c q.0;
-      body = Each-mapped (BodyItem (first + c.vars)) (item_raised first) (flat_body c.body) (flat-raised c.vars first [] c.body q.1);
-      call_of = head-called c.vars first c.head c q.0;
-    }
-
-numbered-well : (cs : List Clause) → Each (λ c. is_clause_well_formed c ≡ true) cs → (k : ℕ) (c : Clause) → numbered cs k ≡ Some c → is_clause_well_formed c ≡ true
-numbered-well cs h zero c e = absurd (cc e)
-numbered-well cs h (suc n) c e = Each-at (λ (d : Clause). is_clause_well_formed d ≡ true) cs n c h (sym e)
-
-raised-of : (p : Program) (k first : ℕ) → Raised (numbered p.clauses k) first
-raised-of p k first =
-    raised-clause (numbered p.clauses k) first
-    (numbered-well p.clauses
-    (Each-from_test is_clause_well_formed (λ c. is_clause_well_formed c ≡ true) (λ c e. e) p.clauses
-    (and_parts (list_all is_clause_well_formed p.clauses) (list_all is_query_well_formed p.queries) p.well_formed).0) k)
+raised-below : (p : Program) (k first : ℕ) → RaisedBelow p k first
+raised-below p k first = raised-of (λ y. y < first + vars_of_clause p k) p k first (λ z a b. b)
 
 -- ---- literals
 
@@ -187,15 +78,15 @@ differing-below n l a h k = (
   subst (TermBelow n) (sym (viewed (list_term (items a.lit.atom.args)))) (list-below n a.lit.atom.args k),
 )
 
-at-number-below : (n m : ℕ) (f : Literal → Literal) → ((a : Literal) → LiteralBelow n a → LiteralBelow n (f a)) → (xs : List Literal) → Each (LiteralBelow n) xs → Each (LiteralBelow n) (at_number m f xs)
-at-number-below n m f k [] h = tt
-at-number-below n m f k (a ∷ xs) h = (by (nat_eq a.number m), at-number-below n m f k xs h.1)
+pub at-number-each : (P : Literal → Type 0) (m : ℕ) (f : Literal → Literal) → ((a : Literal) → P a → P (f a)) → (xs : List Literal) → Each P xs → Each P (at_number m f xs)
+at-number-each P m f k [] h = tt
+at-number-each P m f k (a ∷ xs) h = (by (nat_eq a.number m), at-number-each P m f k xs h.1)
   where
-    by : (b : Bool) → LiteralBelow n (if b then f a else a)
+    by : (b : Bool) → P (if b then f a else a)
     by true = k a h.0
     by false = h.0
 
-each-of : {A : Type 0} (P : State → Type 0) (f : A → State) → ((x : A) → P (f x)) → (xs : List A) → EachState P (map f xs)
+pub each-of : {A : Type 0} (P : State → Type 0) (f : A → State) → ((x : A) → P (f x)) → (xs : List A) → EachState P (map f xs)
 each-of P f h [] = tt
 each-of P f h (x ∷ xs) = (h x, each-of P f h xs)
 
@@ -229,7 +120,7 @@ module _ (p : Program) (sat : List Con → Bool) where
 
     marked-below : (bs : List Literal) (xs : List Literal) → Each (LiteralBelow (length s.made)) xs → Out p (marked bs (record s { literals = xs }))
     marked-below [] xs b = literals-out xs b
-    marked-below (a ∷ bs) xs b = literals-out (at_number a.number looping xs) (at-number-below (length s.made) a.number looping (λ c k. k) xs b)
+    marked-below (a ∷ bs) xs b = literals-out (at_number a.number looping xs) (at-number-each (LiteralBelow (length s.made)) a.number looping (λ c k. k) xs b)
 
     moved-out : (a : Literal) (bs : List Literal) (xs : List Literal) → Each (LiteralBelow (length s.made)) xs → Out p (moved a bs (record s { literals = xs }))
     moved-out a [] xs b = literals-out xs b
@@ -242,7 +133,7 @@ module _ (p : Program) (sat : List Con → Bool) where
     left-out : (bs : List Literal) → Out p (left bs s)
     left-out [] = literals-out s.literals h.literals
     left-out (a ∷ bs) =
-        moved-out a bs (at_number a.number finished s.literals) (at-number-below (length s.made) a.number finished (λ c k. k) s.literals h.literals)
+        moved-out a bs (at_number a.number finished s.literals) (at-number-each (LiteralBelow (length s.made)) a.number finished (λ c k. k) s.literals h.literals)
 
     -- ---- a literal that is gone into
 
@@ -270,8 +161,8 @@ module _ (p : Program) (sat : List Con → Bool) where
         body : List FlatItem
         body = body_of p k (next_variable s)
 
-        r : Raised (numbered p.clauses k) (length s.made)
-        r = raised-of p k (length s.made)
+        r : RaisedBelow p k (length s.made)
+        r = raised-below p k (length s.made)
 
         long : length (by_rule p s l k).made ≡ length s.made + vars_of_clause p k
         long = new-length s Existential (length s.covers) (vars_of_clause p k)
@@ -314,7 +205,7 @@ module _ (p : Program) (sat : List Con → Bool) where
             loops [] = line-out (line.Loop l r.number) [] tt
             loops (a ∷ xs) =
                 out-held s (marked (a ∷ xs) (with_line s (line.Loop l r.number)))
-                (held-other s (marked (a ∷ xs) (with_line s (line.Loop l r.number))) refl (omega arith) h.covers (at-number-below (length s.made) a.number looping (λ c k. k) s.literals h.literals) h)
+                (held-other s (marked (a ∷ xs) (with_line s (line.Loop l r.number))) refl (omega arith) h.covers (at-number-each (LiteralBelow (length s.made)) a.number looping (λ c k. k) s.literals h.literals) h)
                 (omega arith) [] refl tt w
         by false false = tt
 
@@ -367,7 +258,7 @@ module _ (p : Program) (sat : List Con → Bool) where
         out-held s (covered p s a k)
         (held-other s (covered p s a k) refl more (covers-more p n m more s.covers h.covers) (literals-more n m more s.literals h.literals) h)
         more (task.Differ (pairs a.args (head_args p k n)) (aims.Head k n) ∷ []) refl
-        ((pairs-below m a.args (head_args p k n) (args-more p n m more a.args b) (args-more p (n + vars_of_clause p k) m room (head_args p k n) (raised-of p k n).head), room), tt) w
+        ((pairs-below m a.args (head_args p k n) (args-more p n m more a.args b) (args-more p (n + vars_of_clause p k) m room (head_args p k n) (raised-below p k n).head), room), tt) w
       where
         n : ℕ
         n = length s.made
@@ -407,8 +298,8 @@ module _ (p : Program) (sat : List Con → Bool) where
         body : List FlatItem
         body = body_of p c.clause c.first
 
-        r : Raised (numbered p.clauses c.clause) c.first
-        r = raised-of p c.clause c.first
+        r : RaisedBelow p c.clause c.first
+        r = raised-below p c.clause c.first
 
         each : Each (BodyItem (length s.made)) (body_of p c.clause c.first)
         each =
@@ -445,13 +336,6 @@ module _ (p : Program) (sat : List Con → Bool) where
           each_append (Out p) (map (leaf_at s (body_of p c.clause c.first)) (count_from 0 (length (body_of p c.clause c.first)))) _
           (each-of (Out p) (leaf_at s (body_of p c.clause c.first)) (λ k. inr o) (count_from 0 (length (body_of p c.clause c.first)))) (either c.checks_head)
       by false = (inr o, tt)
-
-  universals-length : (d : ℕ) (xs : List ℕ) (made : List Made) → length (universals_at d xs made) ≡ length made
-  universals-length d [] made = refl
-  universals-length d (x ∷ xs) made =
-      let m : Made = record { kind = Universal; depth = d } in
-      let rest = universals-length d xs (slice_set made x m) in
-      let here = length-set {A = Made} made x m in omega (arith, rest, here)
 
   begin-out : (s : State) → Held p s → Each (Later p (length s.made)) s.work → (k first : ℕ) (head : Bool) → ClauseBelow p (length s.made) k first
       → EachState (Out p) (begin_cases p sat s k first head).states

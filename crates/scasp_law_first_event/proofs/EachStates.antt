@@ -1,5 +1,5 @@
 -- Each of the states of a step.
-use Rattle.std.specs.Prelude.{◌≡◌, Bool, true, false, List, [], ◌∷◌, ◌++◌, map}
+use Rattle.std.specs.Prelude.{Bool, true, false, List, [], ◌∷◌, ◌++◌, map}
 use Rattle.std.specs.List.{Contains, flat_map}
 use Rattle.std.proofs.Common.{inl, inr, subst}
 use Rattle.scasp_list.proofs.MemberLemmas.{Contains-none, Contains-cases}

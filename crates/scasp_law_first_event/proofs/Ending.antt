@@ -1,11 +1,10 @@
 -- Each way of steps that cost nothing ends, or comes to a state that is not solved: as unification ends.
-use Rattle.std.specs.Prelude.{◌≡◌, ◌⊎◌, ◌≢◌, ℕ, zero, suc, ◌+◌, ◌<◌, ◌≤◌, nat_eq, Bool, true, false, ◌&&◌, if◌then◌else◌, List, [], ◌∷◌, ◌++◌, length, map, ⊤}
+use Rattle.std.specs.Prelude.{◌≡◌, ◌⊎◌, ◌≢◌, ℕ, zero, suc, ◌+◌, ◌<◌, ◌≤◌, Bool, true, false, ◌&&◌, List, [], ◌∷◌, ◌++◌, length, ⊤}
 use Rattle.std.specs.List.{Contains, list_all}
 use Rattle.std.proofs.Common.{refl, arith, ap, sym, subst, ◌∙◌, inl, inr}
 use Rattle.std.proofs.lemmas.Bool.{and_parts, ne_eqb}
 use Rattle.std.proofs.lemmas.List.{append-nil, append_assoc, map-append, length-append}
 use Rattle.scasp_list.specs.Each.{Each}
-use Rattle.scasp_list.proofs.EachLemmas.{Each-append}
 use Rattle.scasp_list.proofs.MemberLemmas.{Contains-none}
 use Rattle.scasp_search_rules.specs.declared.states.state.State.{State}
 use Rattle.scasp_search_rules.specs.declared.states.tasks.Aim.{Aim}
@@ -13,13 +12,11 @@ use Rattle.scasp_search_rules.specs.declared.states.tasks.Aim.TheVariants as aim
 use Rattle.scasp_search_rules.specs.declared.states.tasks.Pair.{Pair}
 use Rattle.scasp_search_rules.specs.declared.states.tasks.Task.{Task}
 use Rattle.scasp_search_rules.specs.declared.states.tasks.Task.TheVariants as task
-use Rattle.scasp_syntax.specs.Same.{same_number}
-use Rattle.scasp_syntax.specs.Tm.{Tm, Tms, var, num, app, nil, cons, items, weight, weight_s}
-use Rattle.scasp_syntax.specs.Values.{Sub, under}
+use Rattle.scasp_syntax.specs.Tm.{Tm, Tms, var, num, app, items, weight, weight_s}
+use Rattle.scasp_syntax.specs.Values.{under}
 use Rattle.scasp_syntax.specs.View.{tm_of}
 use Rattle.scasp_syntax.specs.WellFormed.{is_below}
 use Rattle.scasp_syntax.specs.declared.clause.Query.{Query}
-use Rattle.scasp_syntax.specs.declared.con.Con.{Con}
 use Rattle.scasp_syntax.specs.declared.term.Term.{Term}
 use Rattle.scasp_syntax.specs.declared.term.Term.TheVariants.{Var}
 use Rattle.scasp_unify.specs.Negations.{new_parts}
@@ -30,22 +27,22 @@ use Rattle.scasp_unify.proofs.SimpleLemmas.{viewed}
 use Rattle.scasp_search_rules.specs.Successors.Differences.{when_same, differ_first, differ_pairs}
 use Rattle.scasp_search_rules.specs.Successors.Equations.{equated, equate_pairs, equations_of}
 use Rattle.scasp_search_rules.specs.Successors.Falls.{EachState}
-use Rattle.scasp_search_rules.specs.Successors.Pairs.{pair, pairs, pairs_of, all_pairs_of, in_front as put_first, from_first}
+use Rattle.scasp_search_rules.specs.Successors.Pairs.{pair, pairs, pairs_of, in_front as put_first, from_first}
 use Rattle.scasp_search_rules.specs.Successors.Problems.{Problem}
 use Rattle.scasp_search_rules.specs.Successors.Regions.{before}
 use Rattle.scasp_search_rules.specs.Successors.Search.{done, costs, pays_for, search_for, step_at}
 use Rattle.scasp_search_rules.specs.Successors.Splits.{is_bound_in}
-use Rattle.scasp_search_rules.specs.Successors.Variables.{meaning, binding, next_variable}
+use Rattle.scasp_search_rules.specs.Successors.Variables.{binding, next_variable}
 use Rattle.scasp_law_first_event.specs.Events.{HasEvent, ComesTo, IsUnsolved}
-use Rattle.scasp_law_first_event.specs.Solved.{are_solved, are_bindings_below, are_pairs_below, is_task_below, is_solved}
+use Rattle.scasp_law_first_event.specs.Solved.{are_solved, are_bindings_below, is_task_below, is_solved}
 use Rattle.scasp_law_first_event.proofs.Bindings.{Solved, Free, solved-from, read-free, unbound-self, free_count, one-less, some-more}
-use Rattle.scasp_law_first_event.proofs.EachStates.{each-state, each_weaker}
+use Rattle.scasp_law_first_event.proofs.EachStates.{each_weaker}
 use Rattle.scasp_law_first_event.proofs.Loads.{load, load_of, Less, is_pairing, free-less, equations-load}
 use Rattle.scasp_law_first_event.proofs.Moves.{Puts, After, equated-after, equated-states}
 use Rattle.scasp_law_first_event.proofs.Pairing.{Sides, FirstSides, pairs-keep, first-sides, pairs-from_test}
 use Rattle.scasp_law_first_event.proofs.Parting.{Ends, next-by, Low, differs, first-ends}
 use Rattle.scasp_law_first_event.proofs.Pieces.{Piece, pair_for, paired, fresh_from, pairs-fresh, length-fresh, Outside, Ready, sizes, ready-next, next-apart, ready-bound, sizes-bound, ready-shaped, sizes-shaped}
-use Rattle.scasp_law_first_event.proofs.Settling.{Settles, met, costs as pays_there, goes_on, finds}
+use Rattle.scasp_law_first_event.proofs.Settling.{met, costs as pays_there, goes_on, finds}
 use Rattle.scasp_law_first_event.proofs.Terms.{EachVar, EachVars, each-weaker, all-weaker, below-each, weight-some, absent-all}
 
 -- ---- pairs that two terms come to

@@ -1,13 +1,11 @@
 -- States whose variables were made: what their tasks, covers and literals speak of.
-use Rattle.std.specs.Prelude.{◌≡◌, ◌≢◌, ℕ, zero, suc, ◌+◌, ◌<◌, ◌≤◌, nat_eq, nat_lt, Bool, true, false, ◌&&◌, if◌then◌else◌, Option, Some, None, List, [], ◌∷◌, ◌++◌, length, map, ⊤}
-use Rattle.std.specs.List.{list_all}
-use Rattle.std.proofs.Common.{refl, arith, ap, sym, subst}
+use Rattle.std.specs.Prelude.{ℕ, zero, suc, ◌+◌, ◌<◌, ◌≤◌, nat_eq, Bool, true, false, if◌then◌else◌, Option, Some, None, List, [], ◌∷◌, ⊤}
+use Rattle.std.proofs.Common.{arith, sym, subst}
 use Rattle.scasp_list.specs.Each.{Each}
 use Rattle.scasp_list.proofs.EachLemmas.{Each-map, Each-append}
 use Rattle.scasp_search_rules.specs.declared.states.covers.Cover.{Cover}
 use Rattle.scasp_search_rules.specs.declared.states.covers.Remainder.{Remainder}
 use Rattle.scasp_search_rules.specs.declared.states.state.Literal.{Literal}
-use Rattle.scasp_search_rules.specs.declared.states.state.State.{State}
 use Rattle.scasp_search_rules.specs.declared.states.tasks.Aim.{Aim}
 use Rattle.scasp_search_rules.specs.declared.states.tasks.Aim.TheVariants as aims
 use Rattle.scasp_search_rules.specs.declared.states.tasks.Pair.{Pair}
@@ -15,9 +13,9 @@ use Rattle.scasp_search_rules.specs.declared.states.tasks.Task.{Task}
 use Rattle.scasp_search_rules.specs.declared.states.tasks.Task.TheVariants as task
 use Rattle.scasp_search_rules.specs.Successors.Calls.{vars_of_clause}
 use Rattle.scasp_search_rules.specs.Successors.Equations.{equations_of}
-use Rattle.scasp_search_rules.specs.Successors.Pairs.{pair, pairs}
+use Rattle.scasp_search_rules.specs.Successors.Pairs.{pairs}
 use Rattle.scasp_syntax.specs.Same.{same_number}
-use Rattle.scasp_syntax.specs.Tm.{Tm, Tms, var, num, app, nil, cons, items}
+use Rattle.scasp_syntax.specs.Tm.{Tm, Tms, var, num, app, nil, cons}
 use Rattle.scasp_syntax.specs.View.{tm_of}
 use Rattle.scasp_syntax.specs.declared.clause.FlatItem.{FlatItem}
 use Rattle.scasp_syntax.specs.declared.clause.FlatItem.TheVariants as flat
@@ -27,11 +25,11 @@ use Rattle.scasp_syntax.specs.declared.program.Program.{Program}
 use Rattle.scasp_syntax.specs.declared.term.Term.{Term}
 use Rattle.scasp_syntax.specs.declared.term.Term.TheVariants.{Var, Num, App}
 use Rattle.scasp_unify.specs.Negations.{new_parts}
-use Rattle.scasp_unify.specs.Parts.{Part, occurs, occurs_among, part_if, both_parts, parts, parts_each, left_side, right_side}
-use Rattle.scasp_unify.specs.SimpleForm.{term_with, list_term, differ, one_part, by_parts}
+use Rattle.scasp_unify.specs.Parts.{Part, occurs, part_if, both_parts, parts, parts_each, left_side, right_side}
+use Rattle.scasp_unify.specs.SimpleForm.{term_with, one_part, by_parts}
 use Rattle.scasp_unify.specs.declared.bindings.Binding.{Binding}
 use Rattle.scasp_unify.proofs.SimpleLemmas.{viewed}
-use Rattle.scasp_law_first_event.proofs.Bindings.{Solved, Free}
+use Rattle.scasp_law_first_event.proofs.Bindings.{Free}
 use Rattle.scasp_law_first_event.proofs.Terms.{EachVar, EachVars, each-weaker, all-weaker}
 
 -- each variable is below n
@@ -42,17 +40,23 @@ abbrev pub ArgsBelow : ℕ → Tms → Type 0
 ArgsBelow n ts = EachVars (λ y. y < n) ts
 
 -- the variables that an equation, a disequation or a shape has; no other constraint binds one
+abbrev pub ConEach : (ℕ → Type 0) → Con → Type 0
+ConEach G (con.Eq t u) = EachVar G (tm_of t) × EachVar G (tm_of u)
+ConEach G (con.Neq t u) = EachVar G (tm_of t) × EachVar G (tm_of u)
+ConEach G (con.NotShape x f k) = G x
+ConEach G (con.Num t) = ⊤
+ConEach G (con.NotNum t) = ⊤
+ConEach G (con.Row r) = ⊤
+
 abbrev pub ConBelow : ℕ → Con → Type 0
-ConBelow n (con.Eq t u) = TermBelow n (tm_of t) × TermBelow n (tm_of u)
-ConBelow n (con.Neq t u) = TermBelow n (tm_of t) × TermBelow n (tm_of u)
-ConBelow n (con.NotShape x f k) = x < n
-ConBelow n (con.Num t) = ⊤
-ConBelow n (con.NotNum t) = ⊤
-ConBelow n (con.Row r) = ⊤
+ConBelow n c = ConEach (λ y. y < n) c
+
+abbrev pub ItemEach : (ℕ → Type 0) → FlatItem → Type 0
+ItemEach G (flat.Call l) = EachVars G l.atom.args
+ItemEach G (flat.Test c) = ConEach G c
 
 abbrev pub ItemBelow : ℕ → FlatItem → Type 0
-ItemBelow n (flat.Call l) = ArgsBelow n l.atom.args
-ItemBelow n (flat.Test c) = ConBelow n c
+ItemBelow n i = ItemEach (λ y. y < n) i
 
 abbrev pub PairsBelow : ℕ → List Pair → Type 0
 PairsBelow n ps = Each (λ o. TermBelow n (tm_of o.left) × TermBelow n (tm_of o.right)) ps

@@ -1,52 +1,44 @@
 -- What each step keeps of bindings in solved form, of covers and of literals, but where a variable is bound to a term in which it stands.
-use Rattle.std.specs.Prelude.{◌≡◌, ◌⊎◌, ◌≢◌, ℕ, zero, suc, ◌+◌, ◌-◌, ◌<◌, ◌≤◌, nat_eq, Bool, true, false, ◌&&◌, ◌||◌, not, if◌then◌else◌, Option, Some, None, List, [], ◌∷◌, ◌++◌, length, map, filter, replicate, ⊤}
-use Rattle.std.specs.List.{list_any, flat_map, fold}
+use Rattle.std.specs.Prelude.{◌≡◌, ◌⊎◌, ◌≢◌, ℕ, zero, suc, ◌+◌, ◌-◌, ◌<◌, ◌≤◌, nat_eq, Bool, true, false, ◌||◌, if◌then◌else◌, List, [], ◌∷◌, ◌++◌, length, map, filter}
+use Rattle.std.specs.List.{fold}
 use Rattle.std.proofs.Common.{refl, arith, ap, sym, subst, ◌∙◌, inl, inr}
 use Rattle.std.proofs.lemmas.Bool.{cases_Bool, or_left, or_right, or_parts, eqb-false}
-use Rattle.std.proofs.lemmas.List.{append-nil, length-append, length-replicate}
+use Rattle.std.proofs.lemmas.List.{append-nil}
 use Rattle.std.proofs.lemmas.List.Folds.{list_any-append}
 use Rattle.scasp_list.specs.Each.{Each}
 use Rattle.scasp_list.proofs.EachLemmas.{Each-map, Each-append, Each-filter}
-use Rattle.scasp_search_rules.specs.declared.states.covers.Cover.{Cover}
 use Rattle.scasp_search_rules.specs.declared.states.outcomes.Parting.{Parting}
 use Rattle.scasp_search_rules.specs.declared.states.outcomes.Status.{Status}
 use Rattle.scasp_search_rules.specs.declared.states.outcomes.Status.TheVariants.{Entailed, Impossible, Added, Parts}
 use Rattle.scasp_search_rules.specs.declared.states.state.Kind.TheVariants.{Universal}
 use Rattle.scasp_search_rules.specs.declared.states.state.Literal.{Literal}
-use Rattle.scasp_search_rules.specs.declared.states.state.Made.{Made}
 use Rattle.scasp_search_rules.specs.declared.states.state.State.{State}
-use Rattle.scasp_search_rules.specs.declared.states.tasks.Pair.{Pair}
 use Rattle.scasp_search_rules.specs.declared.states.tasks.Task.{Task}
 use Rattle.scasp_search_rules.specs.Successors.Assumptions.{performed, as_read, status, assume, assume_all}
-use Rattle.scasp_search_rules.specs.Successors.Equations.{equated, equate_pairs, equations_of}
 use Rattle.scasp_search_rules.specs.Successors.Falls.{EachState}
-use Rattle.scasp_search_rules.specs.Successors.Pairs.{pairs, pairs_of}
-use Rattle.scasp_search_rules.specs.Successors.Reading.{con_vars, con_under, count_from, not_shaped}
-use Rattle.scasp_search_rules.specs.Successors.Regions.{before, with_given}
+use Rattle.scasp_search_rules.specs.Successors.Reading.{con_vars, count_from, not_shaped}
+use Rattle.scasp_search_rules.specs.Successors.Regions.{with_given}
 use Rattle.scasp_search_rules.specs.Successors.Splits.{split_at, split_by, owner, numbered_to, is_number_by, parted, replacement, bound_by, is_bound_in}
 use Rattle.scasp_search_rules.specs.Successors.Variables.{binding, meaning, depth_of, next_variable, is_universal, with_new, lowered}
 use Rattle.scasp_syntax.specs.Constraints.{has_shape}
-use Rattle.scasp_syntax.specs.Tm.{Tm, Tms, var, num, app, nil, cons, items}
-use Rattle.scasp_syntax.specs.Values.{under, all_under}
+use Rattle.scasp_syntax.specs.Tm.{Tm, var, num, app}
+use Rattle.scasp_syntax.specs.Values.{under}
 use Rattle.scasp_syntax.specs.View.{tm_of}
 use Rattle.scasp_syntax.specs.declared.con.Con.{Con}
 use Rattle.scasp_syntax.specs.declared.con.Con.TheVariants as con
 use Rattle.scasp_syntax.specs.declared.program.Program.{Program}
-use Rattle.scasp_syntax.specs.declared.term.Term.{Term}
 use Rattle.scasp_syntax.specs.declared.term.Term.TheVariants.{Var, Num, App}
-use Rattle.scasp_unify.specs.Negations.{new_parts}
 use Rattle.scasp_unify.specs.Parts.{occurs, parts}
-use Rattle.scasp_unify.specs.SimpleForm.{term_with, simple, by_parts}
-use Rattle.scasp_unify.specs.Solving.{sub_of}
+use Rattle.scasp_unify.specs.SimpleForm.{term_with, simple}
 use Rattle.scasp_unify.specs.declared.bindings.Binding.{Binding}
 use Rattle.scasp_unify.proofs.SimpleLemmas.{viewed}
 use Rattle.scasp_law_first_event.specs.Events.{IsCircular}
 use Rattle.scasp_law_first_event.specs.Solved.{has_circle}
 use Rattle.scasp_law_first_event.proofs.Bindings.{Solved, Free, read-free, read-keeps}
-use Rattle.scasp_law_first_event.proofs.EachStates.{each_followed, each_map, each_weaker}
-use Rattle.scasp_law_first_event.proofs.Fitting.{TermBelow, ArgsBelow, ConBelow, PairsBelow, EquationBelow, LiteralBelow, CoverBelow, Later, Front, later, becomes, term-more, args-more, con-more, all-later-more, pairs-below, parts-below, parts-keep as parts-part, Fits, FitsEquation, equation-fits, other-fits, parts-fit}
-use Rattle.scasp_law_first_event.proofs.Moves.{Puts, After, lowered-length, new-length, covers-more, covers-parted, split-puts}
-use Rattle.scasp_law_first_event.proofs.Terms.{EachVar, EachVars, each-weaker, all-weaker, absent-each}
+use Rattle.scasp_law_first_event.proofs.EachStates.{each_followed}
+use Rattle.scasp_law_first_event.proofs.Fitting.{TermBelow, ConBelow, EquationBelow, LiteralBelow, CoverBelow, Front, term-more, con-more, parts-below, parts-keep as parts-part, Fits, equation-fits, other-fits, parts-fit}
+use Rattle.scasp_law_first_event.proofs.Moves.{Puts, lowered-length, new-length, covers-parted, split-puts}
+use Rattle.scasp_law_first_event.proofs.Terms.{EachVar, each-weaker, all-weaker, absent-each}
 
 -- ---- bindings
 
@@ -183,7 +175,7 @@ keep-puts p s z v n ws r h fits =
 pub read-below : (p : Program) (s : State) (t : Tm) → Held p s → TermBelow (length s.made) t → TermBelow (length s.made) (under (meaning s) t)
 read-below p s t h k = read-keeps (λ y. y < length s.made) s.bound (terms-below (length s.made) s.bound h.solved) t k
 
-length-count : (k n : ℕ) → length (count_from k n) ≡ n
+pub length-count : (k n : ℕ) → length (count_from k n) ≡ n
 length-count k zero = refl
 length-count k (suc n) = ap suc (length-count (suc k) n)
 

@@ -1,6 +1,6 @@
 -- Tasks that do not equate terms or tell them apart: what is left to do grows less.
-use Rattle.std.specs.Prelude.{◌≡◌, ◌⊎◌, ◌≢◌, ℕ, ◌+◌, ◌<◌, ◌≤◌, Bool, true, false, ◌&&◌, ◌||◌, not, if◌then◌else◌, List, [], ◌∷◌, ◌++◌, length, map}
-use Rattle.std.specs.List.{flat_map, fold}
+use Rattle.std.specs.Prelude.{◌≡◌, ℕ, ◌+◌, ◌<◌, ◌≤◌, Bool, true, false, ◌&&◌, if◌then◌else◌, List, [], ◌∷◌, ◌++◌, length, map}
+use Rattle.std.specs.List.{fold}
 use Rattle.std.proofs.Common.{refl, arith, ap, ◌∙◌, inl, inr}
 use Rattle.scasp_num.specs.Number.{Number}
 use Rattle.scasp_search_rules.specs.declared.states.lines.Line.TheVariants as line
@@ -19,13 +19,12 @@ use Rattle.scasp_syntax.specs.declared.clause.FlatItem.TheVariants as flat
 use Rattle.scasp_syntax.specs.declared.con.Con.{Con}
 use Rattle.scasp_syntax.specs.declared.con.Con.TheVariants as con
 use Rattle.scasp_syntax.specs.declared.program.Program.{Program}
-use Rattle.scasp_syntax.specs.declared.term.Term.{Term}
 use Rattle.scasp_syntax.specs.declared.term.Term.TheVariants.{Var}
 use Rattle.scasp_unify.specs.Negations.{new_parts}
 use Rattle.scasp_unify.specs.SimpleForm.{differ, term_with}
 use Rattle.scasp_search_rules.specs.Successors.Assumptions.{performed, as_read, status, assume, assume_all}
 use Rattle.scasp_search_rules.specs.Successors.Calls.{marked, moved, left, at_number, finished, ancestors}
-use Rattle.scasp_search_rules.specs.Successors.Differences.{when_apart, alternatives, at_part, differ_value, same_value, same_shape}
+use Rattle.scasp_search_rules.specs.Successors.Differences.{when_apart, alternatives, differ_value, same_value, same_shape}
 use Rattle.scasp_search_rules.specs.Successors.Equations.{becomes_shape, equated, equations_of}
 use Rattle.scasp_search_rules.specs.Successors.Falls.{EachState}
 use Rattle.scasp_search_rules.specs.Successors.Items.{test_item, number_tests, with_line}
@@ -33,10 +32,10 @@ use Rattle.scasp_search_rules.specs.Successors.Pairs.{pairs}
 use Rattle.scasp_search_rules.specs.Successors.Regions.{before, with_given}
 use Rattle.scasp_search_rules.specs.Successors.Search.{done, costs}
 use Rattle.scasp_search_rules.specs.Successors.Splits.{split_at, split_by, owner, numbered_to, is_number_by}
-use Rattle.scasp_search_rules.specs.Successors.Steps.{Step, goes}
+use Rattle.scasp_search_rules.specs.Successors.Steps.{goes}
 use Rattle.scasp_search_rules.specs.Successors.Variables.{universals_of, is_empty, depth_of, next_variable, is_universal}
 use Rattle.scasp_search_rules.proofs.SuccessorsLemmas.FallLemmas.{close_keeps_work}
-use Rattle.scasp_law_first_event.proofs.EachStates.{each_only_if, each_append, each_followed, each_map, each_weaker}
+use Rattle.scasp_law_first_event.proofs.EachStates.{each_followed, each_map, each_weaker}
 use Rattle.scasp_law_first_event.proofs.Moves.{Puts, After, equated-states, shape-puts}
 
 -- How much a task may still bring about beside equations. What it leads to weighs less, but for what is equated or told apart.
@@ -160,7 +159,7 @@ shape-less sat s x f ts ps aim =
     (before (task.Differ (pairs (new_parts (next_variable s) (length (items ts))) ts ++ ps) aim ∷ [])) (becomes_shape sat s x f (length (items ts))).states
     (shape-puts sat s x f (length (items ts))) (λ r p. let e : load r.work ≡ load s.work = ap load p.work_is in omega (arith, e))
 
-marked-same : (as_open : List Literal) (s : State) → (marked as_open s).work ≡ s.work
+pub marked-same : (as_open : List Literal) (s : State) → (marked as_open s).work ≡ s.work
 marked-same [] s = refl
 marked-same (a ∷ rest) s = refl
 
@@ -172,7 +171,7 @@ moved-same a (b ∷ bs) s = by (a.loops && a.lit.positive && b.lit.positive)
     by true = marked-same (b ∷ bs) s
     by false = refl
 
-left-same : (open_ones : List Literal) (s : State) → (left open_ones s).work ≡ s.work
+pub left-same : (open_ones : List Literal) (s : State) → (left open_ones s).work ≡ s.work
 left-same [] s = refl
 left-same (a ∷ rest) s = moved-same a rest (record s { literals = at_number a.number finished s.literals })
 

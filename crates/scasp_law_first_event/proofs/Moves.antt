@@ -1,6 +1,5 @@
 -- What equating makes of a state: one binding more, for a name with the new variables of its arguments.
-use Rattle.std.specs.Prelude.{◌≡◌, ◌⊎◌, ℕ, zero, ◌+◌, ◌-◌, ◌<◌, ◌≤◌, Bool, true, false, ◌&&◌, not, nat_eq, nat_le, nat_lt, min, max, if◌then◌else◌, List, [], ◌∷◌, ◌++◌, length, map, replicate, slice_get, slice_set}
-use Rattle.std.specs.List.{flat_map}
+use Rattle.std.specs.Prelude.{◌≡◌, ◌⊎◌, ℕ, ◌+◌, ◌-◌, ◌<◌, ◌≤◌, Bool, true, false, ◌&&◌, not, nat_eq, nat_le, nat_lt, min, max, if◌then◌else◌, List, [], ◌∷◌, ◌++◌, length, replicate, slice_get, slice_set}
 use Rattle.std.proofs.Common.{refl, arith, ap, sym, subst, ◌∙◌, inl, inr}
 use Rattle.std.proofs.lemmas.Bool.{ltb-true, ltb-false}
 use Rattle.std.proofs.lemmas.List.{length-append, length-set, length-replicate, append-nil}
@@ -28,14 +27,14 @@ use Rattle.scasp_unify.specs.Parts.{occurs_among}
 use Rattle.scasp_unify.specs.SimpleForm.{term_with}
 use Rattle.scasp_unify.specs.Unification.{term_vars}
 use Rattle.scasp_unify.specs.declared.bindings.Binding.{Binding}
-use Rattle.scasp_search_rules.specs.Successors.Assumptions.{performed, as_read, status, assume}
+use Rattle.scasp_search_rules.specs.Successors.Assumptions.{performed, status, assume}
 use Rattle.scasp_search_rules.specs.Successors.Equations.{replaced_if, bound_if, mixed, two_variables, is_inside, becomes_number, variable_number, becomes_shape, variable_app, equated, equations_of}
 use Rattle.scasp_search_rules.specs.Successors.Falls.{EachState}
 use Rattle.scasp_search_rules.specs.Successors.Pairs.{pairs}
 use Rattle.scasp_search_rules.specs.Successors.Reading.{con_vars}
 use Rattle.scasp_search_rules.specs.Successors.Regions.{before, context, asked_with, is_constrained}
 use Rattle.scasp_search_rules.specs.Successors.Splits.{split_at, owner, parted, replacement, cover_parted, at_depth}
-use Rattle.scasp_search_rules.specs.Successors.Steps.{Step, fails, goes, each, only_if}
+use Rattle.scasp_search_rules.specs.Successors.Steps.{fails, goes, each}
 use Rattle.scasp_search_rules.specs.Successors.Variables.{bind, binding, with_new, lowered, lower, depth_of, meaning, next_variable, is_universal}
 use Rattle.scasp_law_first_event.proofs.Fitting.{CoverBelow, EquationBelow, cover-more}
 use Rattle.scasp_law_first_event.proofs.EachStates.{each_only_if, each_followed, each_map, each_weaker}

@@ -1,7 +1,7 @@
 -- Terms that are to be apart: each state behind a pair has less left to do, or has one binding more.
-use Rattle.std.specs.Prelude.{◌≡◌, ◌⊎◌, ℕ, ◌+◌, ◌<◌, ◌≤◌, Bool, true, false, if◌then◌else◌, List, [], ◌∷◌, ◌++◌, length}
+use Rattle.std.specs.Prelude.{◌≡◌, ℕ, ◌+◌, ◌<◌, Bool, true, false, if◌then◌else◌, List, [], ◌∷◌, ◌++◌, length}
 use Rattle.std.specs.List.{Contains}
-use Rattle.std.proofs.Common.{refl, arith, ap, sym, subst, ◌∙◌, inl, inr}
+use Rattle.std.proofs.Common.{refl, arith, ap, subst, ◌∙◌, inl, inr}
 use Rattle.scasp_num.specs.Number.{Number}
 use Rattle.scasp_search_rules.specs.declared.states.outcomes.Status.{Status}
 use Rattle.scasp_search_rules.specs.declared.states.outcomes.Status.TheVariants.{Entailed, Impossible, Added, Parts}
@@ -29,10 +29,10 @@ use Rattle.scasp_search_rules.specs.Successors.Pairs.{pairs}
 use Rattle.scasp_search_rules.specs.Successors.Problems.{Problem}
 use Rattle.scasp_search_rules.specs.Successors.Regions.{before}
 use Rattle.scasp_search_rules.specs.Successors.Search.{done, search_for, step_at}
-use Rattle.scasp_search_rules.specs.Successors.Steps.{Step, goes}
+use Rattle.scasp_search_rules.specs.Successors.Steps.{goes}
 use Rattle.scasp_search_rules.specs.Successors.Variables.{binding, next_variable}
 use Rattle.scasp_law_first_event.specs.Events.{IsUnsolved}
-use Rattle.scasp_law_first_event.proofs.EachStates.{each-state, each_map, each_weaker}
+use Rattle.scasp_law_first_event.proofs.EachStates.{each-state, each_map}
 use Rattle.scasp_law_first_event.proofs.Loads.{load, apart-load}
 use Rattle.scasp_law_first_event.proofs.Moves.{Puts, Keeps, After, equated-after, shape-puts, in-front, tested}
 use Rattle.scasp_law_first_event.proofs.Settling.{Settles, goes_on}

@@ -1,5 +1,5 @@
 -- New variables that are to be equal to terms next, each to one: what a binding leaves of them.
-use Rattle.std.specs.Prelude.{◌≡◌, ◌≢◌, ℕ, zero, suc, ◌+◌, ◌<◌, ◌≤◌, List, [], ◌∷◌, ◌++◌, length, map, ⊤}
+use Rattle.std.specs.Prelude.{◌≡◌, ◌≢◌, ℕ, suc, ◌+◌, ◌<◌, ◌≤◌, List, [], ◌∷◌, ◌++◌, length, map, ⊤}
 use Rattle.std.proofs.Common.{refl, ap, sym, subst, arith, ◌∙◌}
 use Rattle.std.proofs.lemmas.Bool.{or_from, ne_eqb}
 use Rattle.scasp_list.specs.Each.{Each}
@@ -8,13 +8,13 @@ use Rattle.scasp_search_rules.specs.declared.states.tasks.Pair.{Pair}
 use Rattle.scasp_search_rules.specs.Successors.Pairs.{pair, pairs}
 use Rattle.scasp_search_rules.specs.Successors.Splits.{is_bound_in}
 use Rattle.scasp_search_rules.specs.Successors.Variables.{binding}
-use Rattle.scasp_syntax.specs.Tm.{Tm, Tms, var, num, app, nil, cons, items, weight, weight_s}
-use Rattle.scasp_syntax.specs.Values.{Sub, under}
+use Rattle.scasp_syntax.specs.Tm.{Tm, Tms, var, nil, cons, items, weight, weight_s}
+use Rattle.scasp_syntax.specs.Values.{under}
 use Rattle.scasp_unify.specs.Negations.{new_parts}
 use Rattle.scasp_unify.specs.Solving.{sub_of}
 use Rattle.scasp_unify.specs.Unification.{single}
 use Rattle.scasp_unify.specs.declared.bindings.Binding.{Binding}
-use Rattle.scasp_law_first_event.proofs.Terms.{EachVar, EachVars, each-weaker, all-weaker, each-both, all-both, each-under, single-each, single-self, single-weight, weight-under}
+use Rattle.scasp_law_first_event.proofs.Terms.{EachVar, EachVars, each-weaker, each-both, all-both, each-under, single-each, single-self, single-weight, weight-under}
 use Rattle.scasp_law_first_event.proofs.Bindings.{Solved, Free, read-free, free-self, read-push, bound-push, still-free, above-unbound}
 
 -- a new variable, and the term that it is to be equal to

@@ -1,6 +1,6 @@
 -- Free steps keep what is held, and what stands in front, but where a variable is bound to a term in which it stands.
-use Rattle.std.specs.Prelude.{◌≡◌, ◌⊎◌, ◌≢◌, ℕ, zero, suc, ◌+◌, ◌<◌, ◌≤◌, Bool, true, false, ◌&&◌, if◌then◌else◌, List, [], ◌∷◌, ◌++◌, length, map, ⊤}
-use Rattle.std.proofs.Common.{refl, arith, ap, sym, subst, ◌∙◌, inl, inr}
+use Rattle.std.specs.Prelude.{◌≡◌, ◌⊎◌, ℕ, zero, suc, ◌+◌, ◌<◌, ◌≤◌, Bool, true, false, if◌then◌else◌, List, [], ◌∷◌, ◌++◌, length, map}
+use Rattle.std.proofs.Common.{refl, arith, sym, subst, inl, inr}
 use Rattle.scasp_list.specs.Each.{Each}
 use Rattle.scasp_list.proofs.EachLemmas.{Each-append}
 use Rattle.scasp_num.specs.Linear.{Linear}
@@ -15,14 +15,14 @@ use Rattle.scasp_search_rules.specs.declared.states.tasks.Pair.{Pair}
 use Rattle.scasp_search_rules.specs.declared.states.tasks.Task.{Task}
 use Rattle.scasp_search_rules.specs.declared.states.tasks.Task.TheVariants as task
 use Rattle.scasp_search_rules.specs.Successors.Assumptions.{status, assume, assume_all}
-use Rattle.scasp_search_rules.specs.Successors.Differences.{when_apart, when_same, alternatives, at_part, part_of_variables, stands_first, differ_variables, differ_number, differ_value, differ_shape, differ_pair, differ_first, differ_pairs, differ_terms, same_value, same_shape, is_matched, take_up}
+use Rattle.scasp_search_rules.specs.Successors.Differences.{when_apart, alternatives, at_part, part_of_variables, stands_first, differ_variables, differ_number, differ_value, differ_shape, differ_pair, differ_first, differ_pairs, differ_terms, same_value, same_shape, is_matched, take_up}
 use Rattle.scasp_search_rules.specs.Successors.Equations.{becomes_shape, equated, equate_pairs, equate_terms, equations_of}
 use Rattle.scasp_search_rules.specs.Successors.Falls.{EachState}
 use Rattle.scasp_search_rules.specs.Successors.Items.{test_item, number_tests}
 use Rattle.scasp_search_rules.specs.Successors.Pairs.{pairs, pairs_of, from_first}
 use Rattle.scasp_search_rules.specs.Successors.Regions.{before}
-use Rattle.scasp_search_rules.specs.Successors.Steps.{Step, goes}
-use Rattle.scasp_search_rules.specs.Successors.Variables.{binding, meaning, next_variable, with_binding, universals_of, is_empty}
+use Rattle.scasp_search_rules.specs.Successors.Steps.{goes}
+use Rattle.scasp_search_rules.specs.Successors.Variables.{meaning, next_variable, with_binding, universals_of, is_empty}
 use Rattle.scasp_syntax.specs.Tm.{Tm, Tms, var, num, app, items}
 use Rattle.scasp_syntax.specs.Values.{under}
 use Rattle.scasp_syntax.specs.View.{tm_of}
@@ -30,7 +30,7 @@ use Rattle.scasp_syntax.specs.declared.con.Con.{Con}
 use Rattle.scasp_syntax.specs.declared.con.Con.TheVariants as con
 use Rattle.scasp_syntax.specs.declared.program.Program.{Program}
 use Rattle.scasp_syntax.specs.declared.term.Term.{Term}
-use Rattle.scasp_syntax.specs.declared.term.Term.TheVariants.{Var, Num, App}
+use Rattle.scasp_syntax.specs.declared.term.Term.TheVariants.{Var}
 use Rattle.scasp_unify.specs.Negations.{new_parts}
 use Rattle.scasp_unify.specs.Parts.{occurs_among}
 use Rattle.scasp_unify.specs.SimpleForm.{differ, term_with}

@@ -1,7 +1,7 @@
 -- What holds of each variable of a term, and what substitutions keep of it.
-use Rattle.std.specs.Prelude.{◌≡◌, ◌≢◌, ℕ, ◌+◌, ◌<◌, ◌≤◌, nat_eq, nat_lt, Bool, true, false, ◌&&◌, if◌then◌else◌, ⊤}
+use Rattle.std.specs.Prelude.{◌≡◌, ◌≢◌, ℕ, ◌+◌, ◌<◌, nat_eq, Bool, true, false, if◌then◌else◌, ⊤}
 use Rattle.std.proofs.Common.{refl, ap, sym, arith}
-use Rattle.std.proofs.lemmas.Bool.{and_parts, or_parts, eqb-true, eqb-false, ltb-true, ne_eqb}
+use Rattle.std.proofs.lemmas.Bool.{and_parts, or_from, or_parts, eqb-false, ltb-true, ne_eqb}
 use Rattle.scasp_syntax.specs.Tm.{Tm, Tms, var, num, app, nil, cons, weight, weight_s}
 use Rattle.scasp_syntax.specs.Values.{Sub, under, all_under}
 use Rattle.scasp_syntax.specs.WellFormed.{is_below, are_below}
@@ -121,3 +121,13 @@ mutual
   pub absent-all : (x : ℕ) (ts : Tms) → occurs_among x ts ≡ false → EachVars (λ y. y ≢ x) ts
   absent-all x nil e = tt
   absent-all x (cons t ts) e = let p = or_parts (occurs x t) (occurs_among x ts) e in (absent-each x t p.0, absent-all x ts p.1)
+
+mutual
+  pub each-absent : (x : ℕ) (t : Tm) → EachVar (λ y. y ≢ x) t → occurs x t ≡ false
+  each-absent x (var y) h = ne_eqb x y (λ e. h (sym e))
+  each-absent x (num q) h = refl
+  each-absent x (app f ts) h = all-absent x ts h
+
+  pub all-absent : (x : ℕ) (ts : Tms) → EachVars (λ y. y ≢ x) ts → occurs_among x ts ≡ false
+  all-absent x nil h = refl
+  all-absent x (cons t ts) h = or_from (occurs x t) (occurs_among x ts) (each-absent x t h.0) (all-absent x ts h.1)

@@ -10,6 +10,8 @@ use Rattle.scasp_search_rules.specs.Successors.Search.{search_for, start}
 use Rattle.scasp_search_walk.specs.Walks.{Allows, Reached}
 use Rattle.scasp_syntax.specs.WellFormed.{is_query_well_formed}
 use Rattle.scasp_syntax.specs.declared.clause.Query.{Query}
+use Rattle.scasp_law_first_event.specs.Positive.{is_positive}
+use Rattle.scasp_law_first_event.specs.Replaced.{replaces_inside}
 use Rattle.scasp_law_first_event.specs.Solved.{has_circle, is_solved}
 
 -- within some number of steps there is a first event
@@ -57,15 +59,31 @@ pub data Follows {S A : Type 0} (m : Machine S A) (s : S) : S → Type 0 where
 abbrev pub IsReachable : Problem → Query → State → Type 0
 IsReachable p q s = Follows (search_for p q) (start q p.checks) s
 
--- the search comes to a state in which a variable is bound to a term in which it stands
-abbrev pub ComesToCircle : Problem → Query → Type 0
-ComesToCircle p q = (s : State) × IsReachable p q s × IsCircular s
+-- The search comes to a state that ends a case, where the other side of the split replaces a variable by a term in which it stands; and so to a
+-- state with a circle.
+pub record ComesToReplacement (p : Problem) (q : Query) : Type 0 where
+  pub state : State
+  pub reached : IsReachable p q state
+  pub inside : replaces_inside state ≡ true
+  pub next : State
+  pub follows : Contains ((search_for p q).next state) next
+  pub circle : IsCircular next
 
--- From states that come of its start each search has a first event, or it comes to a circle.
-abbrev pub FindsOrCircles : Type 0
-FindsOrCircles =
+-- Where a state that comes of the start has a circle, such a replacement made one.
+abbrev pub CirclesAreReplaced : Type 0
+CirclesAreReplaced = (p : Problem) (q : Query) (s : State) → is_query_well_formed q ≡ true → IsReachable p q s → IsCircular s → ComesToReplacement p q
+
+-- From states that come of its start each search has a first event, or it comes to such a replacement.
+abbrev pub FindsOrReplaces : Type 0
+FindsOrReplaces =
     (p : Problem) (q : Query) (budget calls : ℕ) (states : List State) → is_query_well_formed q ≡ true → calls ≤ budget → Each (IsReachable p q) states
-    → HasEvent (search_for p q) budget states calls ⊎ ComesToCircle p q
+    → HasEvent (search_for p q) budget states calls ⊎ ComesToReplacement p q
+
+-- Where neither the query nor a clause has a negated literal, and no clause is checked, the search has a first event from any such states.
+abbrev pub PositiveFinds : Type 0
+PositiveFinds =
+    (p : Problem) (q : Query) (budget calls : ℕ) (states : List State) → is_query_well_formed q ≡ true → is_positive p q ≡ true → calls ≤ budget
+    → Each (IsReachable p q) states → HasEvent (search_for p q) budget states calls
 
 -- there is a first event, and it is an overflow or tells that a list was asked that overflows
 abbrev pub TellsOverflow : {S A : Type 0} → Machine S A → ℕ → List S → ℕ → Type 0
@@ -84,11 +102,11 @@ AllowedIsToldOrUnsolved =
     (p : Problem) (q : Query) (budget calls : ℕ) (states : List State) → calls ≤ budget → Allows (search_for p q) budget states calls
     → TellsOverflow (search_for p q) budget states calls ⊎ ComesTo IsUnsolved (search_for p q) budget states calls
 
--- where an overflow is allowed from states that come of the start, it is told, or the search comes to a circle
-abbrev pub AllowedIsToldOrCircles : Type 0
-AllowedIsToldOrCircles =
+-- where an overflow is allowed from states that come of the start, it is told, or the search comes to such a replacement
+abbrev pub AllowedIsToldOrReplaces : Type 0
+AllowedIsToldOrReplaces =
     (p : Problem) (q : Query) (budget calls : ℕ) (states : List State) → is_query_well_formed q ≡ true → calls ≤ budget → Each (IsReachable p q) states
-    → Allows (search_for p q) budget states calls → TellsOverflow (search_for p q) budget states calls ⊎ ComesToCircle p q
+    → Allows (search_for p q) budget states calls → TellsOverflow (search_for p q) budget states calls ⊎ ComesToReplacement p q
 
 -- and where it is told it is allowed
 abbrev pub ToldIsAllowed : (S A : Type 0) → Type 0

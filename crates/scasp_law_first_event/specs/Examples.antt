@@ -5,9 +5,9 @@ use Rattle.scasp_checker_rules.specs.ExampleWords.{program}
 use Rattle.scasp_cert.specs.Certificate.{Certificate}
 use Rattle.scasp_lines.specs.Samples.{atom, one, is_true, rule}
 use Rattle.scasp_rows.specs.PlainRows.{is_met}
-use Rattle.scasp_search_rules.specs.declared.states.state.Kind.TheVariants.{Existential}
+use Rattle.scasp_search_rules.specs.declared.states.state.Kind.TheVariants.{Existential, Universal}
 use Rattle.scasp_search_rules.specs.declared.states.state.State.{State}
-use Rattle.scasp_search_rules.specs.declared.states.tasks.Task.TheVariants.{Equate}
+use Rattle.scasp_search_rules.specs.declared.states.tasks.Task.TheVariants.{Close, Equate}
 use Rattle.scasp_search_rules.specs.Successors.ExampleWords.{problem}
 use Rattle.scasp_search_rules.specs.Successors.Machine.{Found, ended, first_event, spent}
 use Rattle.scasp_search_rules.specs.Successors.Problems.{Problem}
@@ -20,6 +20,8 @@ use Rattle.scasp_syntax.specs.declared.program.Program.{Program}
 use Rattle.scasp_syntax.specs.declared.term.Term.TheVariants.{Var, App}
 use Rattle.scasp_unify.specs.Unification.{unifier}
 use Rattle.scasp_law_first_event.specs.Events.{HasEvent, TellsOverflow}
+use Rattle.scasp_law_first_event.specs.Positive.{is_positive}
+use Rattle.scasp_law_first_event.specs.Replaced.{replaces_inside}
 use Rattle.scasp_law_first_event.specs.Solved.{is_solved}
 
 -- ---- p(X) :- p(f(X)). ?- p(X). It has no answer and no end.
@@ -65,6 +67,10 @@ is_quiet : found.may ≡ false
 unfolding first_event is_met unifier
 is_quiet = refl
 
+-- neither the query nor the clause has a negated literal, and no clause is checked
+has_no_negation : is_positive plain ask_p ≡ true
+has_no_negation = refl
+
 -- ---- the same, where each list that is asked overflows
 
 abbrev flagged : Problem
@@ -97,3 +103,31 @@ is_circular = refl
 goes_on : first_event (search_for trusting ask_p) 5 20 (circular ∷ []) 0 false ≡ None
 unfolding first_event is_met unifier
 goes_on = refl
+
+-- ---- a case that ends, where the other side of its split replaces a variable by a term in which it stands
+
+abbrev turning : State
+turning = record nothing {
+  made = record { kind = Universal; depth = 1 } ∷ [];
+  covers =
+      record {
+        clause = 1;
+        first = 0;
+        checks_head = false;
+        plain = false;
+        depth = 1;
+        case = 0;
+        universals = 0 ∷ [];
+        region = [];
+        waiting = record { region = []; universals = 0 ∷ []; replaced = []; equation = Some (record { x = 0; term = App 3 (one (var 0)) }) } ∷ [];
+        before = [];
+      } ∷ [];
+  work = Close ∷ [];
+}
+
+turns : replaces_inside turning ≡ true
+turns = refl
+
+-- not if another task is done first
+waits : replaces_inside (record turning { work = Equate (Var 0) (Var 0) ∷ Close ∷ [] }) ≡ false
+waits = refl
