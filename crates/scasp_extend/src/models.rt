@@ -1,8 +1,9 @@
 //! What a certificate says is true, with the levelled model of what it leaves.
-ghost use Rattle.std.specs.Prelude.{◌++◌, IsTrue, IfOk};
+ghost use Rattle.std.specs.Prelude.{◌++◌, List, IsTrue, IfOk};
 ghost use Rattle.std.specs.Option.{option_or};
 ghost use Rattle.scasp_cert.specs.Certificate.{certificate_of};
 ghost use Rattle.scasp_extend_instances.specs.Values.{valued};
+ghost use Rattle.scasp_extend_levels.specs.Sorted.{IsSorted};
 ghost use Rattle.scasp_extend_parts.specs.Causes.{Explains};
 ghost use Rattle.scasp_extend_parts.specs.Obstacles.{grounding_obstacle, lines_obstacle};
 ghost use Rattle.scasp_law_extension.specs.Above.{model_above};
@@ -11,30 +12,27 @@ ghost use Rattle.scasp_model.specs.Atoms.{SameAtoms, are_distinct};
 ghost use Rattle.scasp_model.specs.Grounding.{ground_program};
 ghost use Rattle.scasp_model.specs.Levelled.{levelled_model};
 ghost use Rattle.scasp_model.specs.Residual.{residual};
+ghost use Rattle.scasp_model.specs.declared.program.GroundClause.{GroundClause as ThisClause};
 ghost use Rattle.scasp_sound.specs.MapLevels.{level_of, plus_of};
 ghost use Rattle.scasp_syntax.specs.Tm.{items};
+ghost use Rattle.scasp_syntax.specs.declared.predicate_map.PredMap.{PredMap as ThisMap};
 
 use scasp_cert::Cert;
-use scasp_extend_levels::{add_all, levelled};
+use scasp_extend_levels::{Levels, add_all};
 use scasp_extend_parts::{ExtendErr, Told, left_over, said_over};
 use scasp_list::Memory;
-use scasp_model::{AtomList, GroundProgram};
+use scasp_model::AtomList;
 use scasp_syntax::{PredMaps, Program, Terms};
 use scasp_tables::{AtomTable, Domain};
 use std::alloc::Global;
 
 /// The atoms, and behind them those of the levelled model of the rules that are new.
-fn with_levelled(
-    alloc: Global,
-    map: &PredMaps,
-    rules: GroundProgram,
-    trues: AtomTable,
-) -> Result<AtomList, Memory>
-    ensures atoms { IfOk result (λ atoms. SameAtoms atoms (trues ++ levelled_model (level_of map.now) (plus_of map.now) rules)) }
+fn with_levelled(alloc: Global, rules: Levels, trues: AtomTable) -> Result<AtomList, Memory>
+    ensures atoms { IfOk result (λ atoms. (map : List ThisMap) (g : List ThisClause) → IsSorted map rules g → SameAtoms atoms (trues ++ levelled_model (level_of map) (plus_of map) g)) }
     ensures distinct { IfOk result (λ atoms. IsTrue (are_distinct atoms)) }
 {
     let mut model = trues;
-    let rest = levelled(alloc, map, rules)?;
+    let rest = rules.model(alloc)?;
     add_all(alloc, &mut model, rest.as_slice())?;
     Ok(model.into_atoms())
 }
@@ -51,12 +49,12 @@ fn model_of(
     ensures atoms { IfOk result (λ atoms. SameAtoms atoms (told.trues ++ levelled_model (level_of map.now) (plus_of map.now) (residual told.trues told.falses (ground_program (items domain.now) program.now)))) }
     ensures distinct { IfOk result (λ atoms. IsTrue (are_distinct atoms)) }
 {
-    let left = left_over(alloc, program, domain, &told)?;
+    let left = left_over(alloc, program, map, domain, &told)?;
     let Told {
         trues,
         falses: _falses,
     } = told;
-    Ok(with_levelled(alloc, map, left, trues)?)
+    Ok(with_levelled(alloc, left, trues)?)
 }
 
 /// The same of what the certificate says where its free variables have these values.

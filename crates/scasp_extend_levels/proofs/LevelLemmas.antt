@@ -5,8 +5,6 @@ use Rattle.std.specs.BTreeMap.{BTreeMap, btree_map_len, get, is_at}
 use Rattle.std.specs.Map.{lookup}
 use Rattle.std.specs.List.{filter, flat_map, list_any}
 use Rattle.std.specs.Ordering.{is_eq, is_gt, nat_cmp}
-use Rattle.std.specs.declared.alloc.Global.{Global}
-use Rattle.std.specs.declared.vec.Vec.{Vec}
 use Rattle.std.proofs.Math.Nat.{le-max_left, le-max_right}
 use Rattle.std.proofs.lemmas.Bool.{false≢true, cases_Bool, cond-true, cond-false, ltb-true, ltb-false, false_from_ne_true}
 use Rattle.std.proofs.lemmas.Bool.Decides.{Decides-eqb, nat_tests}
@@ -23,8 +21,10 @@ use Rattle.scasp_syntax.specs.declared.atom.Atom.{Atom}
 use Rattle.scasp_syntax.specs.declared.atom.Lit.{Lit}
 use Rattle.scasp_syntax.specs.declared.atom.Pred.{Pred}
 use Rattle.scasp_syntax.specs.declared.predicate_map.PredMap.{PredMap}
-use Rattle.scasp_extend_levels.specs.Buckets.{rules_in}
-use Rattle.scasp_extend_levels.proofs.BucketLemmas.{is_eq-nat}
+use Rattle.scasp_extend_levels.specs.Numbered.{StandAll}
+use Rattle.scasp_extend_levels.specs.Sorted.{StandIn}
+use Rattle.scasp_extend_levels.specs.declared.numbered.Level.{Level}
+use Rattle.scasp_extend_levels.proofs.BucketLemmas.{in-none, in-some, is_eq-nat}
 use Rattle.scasp_extend_levels.proofs.SetLemmas.{append-same}
 
 -- the literals that are read are those of lower levels, which ask only which atoms are there
@@ -91,48 +91,44 @@ module _ (level : Atom → ℕ) (plus : Atom → Bool) (g : List GroundClause) w
       ]
 
   -- the rules of a level, which are read in the atoms so far
-  added : (n : ℕ) (m new : List Atom) (rules : List GroundClause) → rules ≡ of_level n → SameAtoms m (below n)
-      → SameAtoms new (m ++ signed_model plus (flat_map (read_lower level n m) rules)) → SameAtoms new (below (suc n))
-  added n m new rules e here step a =
+  added : (n : ℕ) (m new : List Atom) → SameAtoms m (below n)
+      → SameAtoms new (m ++ signed_model plus (flat_map (read_lower level n m) (of_level n))) → SameAtoms new (below (suc n))
+  added n m new here step a =
       step a
-      ∙ ap (λ rs. among (m ++ signed_model plus (flat_map (read_lower level n m) rs)) a) e
       ∙ ap (λ rs. among (m ++ signed_model plus rs) a) (reads-same level n m (below n) here (of_level n))
       ∙ append-same m (signed_model plus (at_level level n (below n) g)) (below n) (signed_model plus (at_level level n (below n) g)) here (λ b. refl) a
 
-  abbrev Bucket : Type 0
-  Bucket = Vec GroundClause Global
-
   -- All levels below the next one are done, and the rules of the others wait.
-  pub record Reached (m : List Atom) (f : ℕ → Option Bucket) : Type 0 where
+  pub record Reached (m : List Atom) (f : ℕ → Option Level) : Type 0 where
     pub next : ℕ
     pub done : SameAtoms m (below next)
-    pub waits : (k : ℕ) → next ≤ k → rules_in (f k) ≡ of_level k
+    pub waits : (k : ℕ) → next ≤ k → StandIn (f k) (of_level k)
     pub past : (k : ℕ) → k < next → f k ≡ None
 
   not-greater : (p k : ℕ) → is_gt (nat_cmp p k) ≡ false → p ≤ k
   not-greater p k e = grind (arith, nat_tests)
 
-  none-lower : (f : ℕ → Option Bucket) (p : ℕ) → ((q : ℕ) → IsSome (f q) → is_gt (nat_cmp p q) ≡ false) → (k : ℕ) → k < p → f k ≡ None
+  none-lower : (f : ℕ → Option Level) (p : ℕ) → ((q : ℕ) → IsSome (f q) → is_gt (nat_cmp p q) ≡ false) → (k : ℕ) → k < p → f k ≡ None
   none-lower f p least k less = by (f k) refl
     where
-      by : (o : Option Bucket) → f k ≡ o → f k ≡ None
+      by : (o : Option Level) → f k ≡ o → f k ≡ None
       by None e = e
       by (Some b) e =
           let at : p ≤ k = not-greater p k (least k (subst IsSome (sym e) refl)) in
           absurd (omega (arith, less, at))
 
-  pub taken : (f f' : ℕ → Option Bucket) (p : ℕ) (bucket : Bucket) (m new : List Atom) → Reached m f → f p ≡ Some bucket
+  pub taken : (f f' : ℕ → Option Level) (p : ℕ) (bucket : Level) (m new : List Atom) → Reached m f → f p ≡ Some bucket
       → ((q : ℕ) → IsSome (f q) → is_gt (nat_cmp p q) ≡ false)
       → ((q : ℕ) → f' q ≡ cond (is_eq (nat_cmp p q)) None (f q))
-      → SameAtoms new (m ++ signed_model plus (flat_map (read_lower level p m) bucket.items)) → Reached new f'
+      → ((cs : List GroundClause) → StandAll bucket.table bucket.rules cs → SameAtoms new (m ++ signed_model plus (flat_map (read_lower level p m) cs))) → Reached new f'
   taken f f' p bucket m new r value least updates step =
       let low : r.next ≤ p = from (nat_lt p r.next) refl in
       let here : SameAtoms m (below p) =
       λ a. r.done a ∙ sym (ap (λ k. among (below k) a) (sym (all low)) ∙ skip r.next (p - r.next) (λ k from_next to. empty k from_next (omega (arith, to, low))) a) in
       record {
         next = p + 1;
-        done = λ a. added p m new bucket.items (sym (ap rules_in value) ∙ r.waits p low) here step a ∙ ap (λ k. among (below k) a) (sym (add-one p));
-        waits = λ k above. ap rules_in (other k (omega (arith, above))) ∙ r.waits k (omega (arith, above, low));
+        done = λ a. added p m new here (step (of_level p) (in-some (f p) bucket (of_level p) value (r.waits p low))) a ∙ ap (λ k. among (below k) a) (sym (add-one p));
+        waits = λ k above. subst (λ (z : Option Level). StandIn z (of_level k)) (sym (other k (omega (arith, above)))) (r.waits k (omega (arith, above, low)));
         past = λ k less. gone k less (nat_eq p k) refl;
       }
     where
@@ -144,7 +140,7 @@ module _ (level : Atom → ℕ) (plus : Atom → Bool) (g : List GroundClause) w
       from false e = ltb-false p r.next e
 
       empty : (k : ℕ) → r.next ≤ k → k < p → of_level k ≡ []
-      empty k at less = sym (r.waits k at) ∙ ap rules_in (none-lower f p least k less)
+      empty k at less = in-none (f k) (of_level k) (none-lower f p least k less) (r.waits k at)
 
       other : (k : ℕ) → p < k → f' k ≡ f k
       other k above =
@@ -161,46 +157,35 @@ module _ (level : Atom → ℕ) (plus : Atom → Bool) (g : List GroundClause) w
           lower : (j : ℕ) → j < p + 1 → nat_eq p j ≡ false → j < p
           lower j h d = grind (arith, nat_tests)
 
-  pub begins : (f : ℕ → Option Bucket) → ((k : ℕ) → rules_in (f k) ≡ of_level k) → Reached [] f
-  begins f e = record { next = 0; done = λ a. refl; waits = λ k above. e k; past = λ k less. absurd (omega (arith, less)) }
+  pub begins : (f : ℕ → Option Level) (m : List Atom) → m ≡ [] → ((k : ℕ) → StandIn (f k) (of_level k)) → Reached m f
+  begins f m none e = record { next = 0; done = λ a. ap (λ xs. among xs a) none; waits = λ k above. e k; past = λ k less. absurd (omega (arith, less)) }
 
-  pub ends : (f : ℕ → Option Bucket) (m : List Atom) → Reached m f → ((k : ℕ) → f k ≡ None) → SameAtoms m (levelled_model level plus g)
-  ends f m r none a = r.done a ∙ whole r.next (λ k above. sym (r.waits k above) ∙ ap rules_in (none k)) a
+  pub ends : (f : ℕ → Option Level) (m : List Atom) → Reached m f → ((k : ℕ) → f k ≡ None) → SameAtoms m (levelled_model level plus g)
+  ends f m r none a = r.done a ∙ whole r.next (λ k above. in-none (f k) (of_level k) (none k) (r.waits k above)) a
 
 -- an empty table has no rules of a level
-pub empty-get : (m : BTreeMap ℕ (Vec GroundClause Global)) (o : Option (ℕ × Vec GroundClause Global)) → (0 < btree_map_len m → IsSome o) → o ≡ None
+pub empty-get : (m : BTreeMap ℕ Level) (o : Option (ℕ × Level)) → (0 < btree_map_len m → IsSome o) → o ≡ None
     → (k : ℕ) → get nat_cmp m k ≡ None
 empty-get m o h none k = by m.entries refl
   where
-    no : (p : Option (ℕ × Vec GroundClause Global)) → p ≡ None → IsSome p → ⊥
+    no : (p : Option (ℕ × Level)) → p ≡ None → IsSome p → ⊥
     no None e i = false≢true i
     no (Some x) e i = cc
 
-    by : (es : List (ℕ × Vec GroundClause Global)) → m.entries ≡ es → get nat_cmp m k ≡ None
+    by : (es : List (ℕ × Level)) → m.entries ≡ es → get nat_cmp m k ≡ None
     by [] e = ap (lookup (is_at (nat_cmp k))) e
     by (x ∷ es) e =
         let long : length m.entries ≡ length (x ∷ es) = ap length e in
         let some : 0 < btree_map_len m = omega (arith, long) in
         absurd (no o none (h some))
 
--- the literals that were kept make the rule, where none is false
-pub read-kept : (level : Atom → ℕ) (n : ℕ) (m : List Atom) (c : GroundClause) (head : Option Atom) (kept rest : List Lit) → head ≡ c.head → rest ≡ []
-    → kept ++ filter (λ l. not (is_lower level n l)) rest ≡ filter (λ l. not (is_lower level n l)) c.body
-    → list_any (λ l. is_lower level n l && not (is_true_in m l)) rest ≡ list_any (λ l. is_lower level n l && not (is_true_in m l)) c.body
-    → record { head = head; body = kept } ∷ [] ≡ read_lower level n m c
-read-kept level n m c head kept rest h e k w =
-    let none : list_any (λ l. is_lower level n l && not (is_true_in m l)) c.body ≡ false =
-    sym w ∙ ap (list_any (λ l. is_lower level n l && not (is_true_in m l))) e in
-    let all : kept ≡ filter (λ l. not (is_lower level n l)) c.body =
-    sym (append-nil kept) ∙ ap (λ ls. kept ++ filter (λ l. not (is_lower level n l)) ls) (sym e) ∙ k in
-    ap (λ (o : Option Atom). record { head = o; body = kept } ∷ []) h
-    ∙ ap (λ (ls : List Lit). record { head = c.head; body = ls } ∷ []) all
-    ∙ sym (cond-false (list_any (λ l. is_lower level n l && not (is_true_in m l)) c.body) []
-    (record { head = c.head; body = filter (λ l. not (is_lower level n l)) c.body } ∷ []) none)
-
--- by a table that has the entries of a map
-pub by-map : (entry : Pred → PredMap) (map : List PredMap) → ((p : Pred) → entry p ≡ entry_of map p) → (g : List GroundClause) (m : List Atom)
-    → SameAtoms m (levelled_model (λ a. (entry (pred_of a)).level) (λ a. (entry (pred_of a)).plus) g) → SameAtoms m (levelled_model (level_of map) (plus_of map) g)
-by-map entry map e g m h =
-    let P : (Pred → PredMap) → Type 0 = λ f. SameAtoms m (levelled_model (λ a. (f (pred_of a)).level) (λ a. (f (pred_of a)).plus) g) in
+-- what is added at a level, by a table that has the entries of a map
+pub step-by-map : (entry : Pred → PredMap) (map : List PredMap) → ((p : Pred) → entry p ≡ entry_of map p) → (here : Level) (n : ℕ) (m new : List Atom)
+    → ((cs : List GroundClause) → StandAll here.table here.rules cs
+    → SameAtoms new (m ++ signed_model (λ a. (entry (pred_of a)).plus) (flat_map (read_lower (λ a. (entry (pred_of a)).level) n m) cs)))
+    → (cs : List GroundClause) → StandAll here.table here.rules cs → SameAtoms new (m ++ signed_model (plus_of map) (flat_map (read_lower (level_of map) n m) cs))
+step-by-map entry map e here n m new h =
+    let P : (Pred → PredMap) → Type 0 =
+    λ f. (cs : List GroundClause) → StandAll here.table here.rules cs
+    → SameAtoms new (m ++ signed_model (λ a. (f (pred_of a)).plus) (flat_map (read_lower (λ a. (f (pred_of a)).level) n m) cs)) in
     subst P (fun_ext e) h

@@ -1,4 +1,5 @@
 pub mod Sets
 pub mod Entries
-pub mod Buckets
-pub mod Inside
+pub mod Numbered
+pub mod Scenes
+pub mod Sorted

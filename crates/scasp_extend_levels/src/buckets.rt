@@ -1,65 +1,81 @@
-//! Rules by the levels of their heads.
-ghost use Rattle.std.specs.Prelude.{◌≡◌, ℕ, ◌∷◌, ◌++◌, [], false, nat_eq, IfOk, OnOk, if◌then◌else◌};
-ghost use Rattle.scasp_extend_levels.specs.Buckets.{rules_at};
-ghost use Rattle.scasp_extend_levels.specs.Entries.{level_in};
-ghost use Rattle.scasp_model.specs.Programs.{head_is, rules_for};
+//! Ground rules by the levels of their heads.
+ghost use Rattle.std.specs.Prelude.{◌≡◌, ℕ, List, ◌∷◌, ◌++◌, [], false, nat_eq, IfOk, OnOk, Some, if◌then◌else◌};
+ghost use Rattle.std.specs.BTreeMap.{get};
+ghost use Rattle.std.specs.Ordering.{nat_cmp};
+ghost use Rattle.scasp_extend_levels.specs.Numbered.{StandAll};
+ghost use Rattle.scasp_extend_levels.specs.Sorted.{IsSorted, StandIn};
+ghost use Rattle.scasp_model.specs.declared.program.GroundClause.{GroundClause as ThisClause};
+ghost use Rattle.scasp_syntax.specs.declared.predicate_map.PredMap.{PredMap as ThisMap};
 
-use crate::entries::{Entries, head_level};
-use scasp_model::{GroundClause, GroundProgram};
+use crate::entries::{Entries, entries_of, level_in};
+use crate::numbered::Level;
+use scasp_model::GroundClause;
 use scasp_name::Memory;
+use scasp_syntax::{Atom, Lits, PredMaps};
 use std::alloc::Global;
 use std::collections::BTreeMap;
 
-/// Rules by the levels of their heads, in order.
-pub(crate) type Buckets = BTreeMap<u64, Vec<GroundClause>>;
+/// Rules over numbers by the levels of their heads.
+pub(crate) type Buckets = BTreeMap<u64, Level>;
+
+/// Ground rules by the levels of their heads, as the map of a certificate has them. They are kept over numbers: each level has a
+/// table of its atoms.
+#[derive(Drop)]
+pub struct Levels {
+    pub(crate) entries: Entries,
+    pub(crate) levels: Buckets,
+}
 
 /// Takes the rules of the level out.
-fn take_at(alloc: Global, rules: &mut Buckets, level: u64) -> Vec<GroundClause>
-    ensures taken { result.items ≡ rules_at rules.old level }
-    ensures others { (k : ℕ) → nat_eq level k ≡ false → rules_at rules.new k ≡ rules_at rules.old k }
+fn take_at(alloc: Global, levels: &mut Buckets, level: u64) -> Level
+    ensures taken { (cs : List ThisClause) → StandIn (get nat_cmp levels.old level) cs → StandAll result.table result.rules cs }
+    ensures others { (k : ℕ) → nat_eq level k ≡ false → get nat_cmp levels.new k ≡ get nat_cmp levels.old k }
 {
-    match rules.remove(&level) {
-        Some(bucket) => bucket,
-        None => Vec::new(alloc),
+    match levels.remove(&level) {
+        Some(rules) => rules,
+        None => Level::new(alloc),
     }
 }
 
 /// Puts the rule behind those of the level.
-fn put_at(alloc: Global, rules: &mut Buckets, level: u64, rule: GroundClause) -> Result<(), Memory>
-    ensures { OnOk result ((k : ℕ) → rules_at rules.new k ≡ (if nat_eq level k then rules_at rules.old k ++ rule ∷ [] else rules_at rules.old k)) }
+fn put_at(
+    alloc: Global,
+    levels: &mut Buckets,
+    level: u64,
+    head: &Atom,
+    body: &Lits,
+) -> Result<(), Memory>
+    ensures { OnOk result ((k : ℕ) (cs : List ThisClause) → StandIn (get nat_cmp levels.old k) cs → StandIn (get nat_cmp levels.new k) (if nat_eq level k then cs ++ record { head = Some head.now; body = body.now } ∷ [] else cs)) }
 {
-    let mut bucket = take_at(alloc, rules, level);
-    bucket.push(rule)?;
-    rules.insert(level, bucket)?;
+    let mut rules = take_at(alloc, levels, level);
+    rules.push(alloc, head, body)?;
+    levels.insert(level, rules)?;
     Ok(())
 }
 
-/// Puts the rule behind those of its head's level. A denial is no rule.
-fn put_rule(
-    alloc: Global,
-    entries: &Entries,
-    rules: &mut Buckets,
-    rule: GroundClause,
-) -> Result<(), Memory>
-    ensures { OnOk result ((k : ℕ) → rules_at rules.new k ≡ rules_at rules.old k ++ rules_for (λ a. nat_eq (level_in entries.now a) k) (rule ∷ [])) }
-{
-    match head_level(entries, &rule) {
-        Some(level) => put_at(alloc, rules, level, rule),
-        None => Ok(()),
+impl Levels {
+    /// No rules.
+    pub fn new(alloc: Global, map: &PredMaps) -> Result<Levels, Memory>
+        ensures { IfOk result (λ made. IsSorted map.now made []) }
+    {
+        let entries = entries_of(alloc, map)?;
+        Ok(Levels {
+            entries,
+            levels: BTreeMap::new(alloc),
+        })
     }
-}
 
-/// The rules by the levels of their heads.
-pub(crate) fn by_level(
-    alloc: Global,
-    entries: &Entries,
-    rules: GroundProgram,
-) -> Result<Buckets, Memory>
-    ensures { IfOk result (λ made. (k : ℕ) → rules_at made k ≡ rules_for (λ a. nat_eq (level_in entries.now a) k) rules) }
-{
-    let mut made: Buckets = BTreeMap::new(alloc);
-    for rule in rules.into_vec() {
-        put_rule(alloc, entries, &mut made, rule)?;
+    /// Puts the clause behind the others. A denial is no rule, and is not kept.
+    pub fn push(&mut self, alloc: Global, clause: &GroundClause) -> Result<(), Memory>
+        ensures { OnOk result ((map : List ThisMap) (g : List ThisClause) → IsSorted map self.old g → IsSorted map self.new (g ++ clause.now ∷ [])) }
+    {
+        match &clause.head {
+            Some(head) => {
+                let level = level_in(&self.entries, head);
+                put_at(alloc, &mut self.levels, level, head, &clause.body)?;
+                Ok(())
+            }
+            None => Ok(()),
+        }
     }
-    Ok(made)
 }

@@ -1,11 +1,10 @@
 //! The map of a certificate, found by predicate.
-ghost use Rattle.std.specs.Prelude.{◌≡◌, ◌∷◌, IfOk, OnOk, if◌then◌else◌, option_map};
+ghost use Rattle.std.specs.Prelude.{◌≡◌, ◌∷◌, IfOk, OnOk, if◌then◌else◌};
 ghost use Rattle.scasp_graph.specs.Map.{entry_of};
 ghost use Rattle.scasp_extend_levels.specs.Entries.{entry_at, level_in, plus_in};
 ghost use Rattle.scasp_syntax.specs.Same.{same_pred};
 ghost use Rattle.scasp_syntax.specs.declared.atom.Pred.{Pred as ThisPred};
 
-use scasp_model::GroundClause;
 use scasp_name::Memory;
 use scasp_syntax::{Atom, Pred, PredMap, PredMaps};
 use std::alloc::Global;
@@ -40,16 +39,6 @@ pub(crate) fn plus_in(entries: &Entries, atom: &Atom) -> bool
     ensures { result ≡ plus_in entries.now atom.now }
 {
     entry_at(entries, atom.pred()).plus
-}
-
-/// The level of the rule's head; a denial has none.
-pub(crate) fn head_level(entries: &Entries, rule: &GroundClause) -> Option<u64>
-    ensures { result ≡ option_map (level_in entries.now) rule.now.head }
-{
-    match &rule.head {
-        Some(head) => Some(level_in(entries, head)),
-        None => None,
-    }
 }
 
 /// Puts the entry in the place of one for its predicate.

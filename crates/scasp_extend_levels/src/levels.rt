@@ -1,105 +1,44 @@
 //! The levelled model.
-ghost use Rattle.std.specs.Prelude.{◌≡◌, ◌∷◌, ◌++◌, [], ◌&&◌, not, filter, IfOk, OnOk};
+ghost use Rattle.std.specs.Prelude.{◌++◌, List, IfOk, OnOk};
 ghost use Rattle.std.specs.List.{flat_map};
 ghost use Rattle.scasp_extend_levels.specs.Entries.{level_in, plus_in};
-ghost use Rattle.scasp_extend_levels.specs.Inside.{listed};
+ghost use Rattle.scasp_extend_levels.specs.Numbered.{StandAll};
+ghost use Rattle.scasp_extend_levels.specs.Sets.{with_atoms};
+ghost use Rattle.scasp_extend_levels.specs.Sorted.{IsSorted};
+ghost use Rattle.scasp_closure.specs.Reading.{atoms_in};
 ghost use Rattle.scasp_model.specs.Atoms.{SameAtoms};
-ghost use Rattle.scasp_model.specs.Levelled.{is_lower, levelled_model, read_lower, signed_model};
-ghost use Rattle.scasp_model.specs.Stable.{is_true_in};
+ghost use Rattle.scasp_model.specs.Levelled.{levelled_model, read_lower, signed_model};
+ghost use Rattle.scasp_model.specs.declared.program.GroundClause.{GroundClause as ThisClause};
 ghost use Rattle.scasp_sound.specs.MapLevels.{level_of, plus_of};
+ghost use Rattle.scasp_syntax.specs.declared.predicate_map.PredMap.{PredMap as ThisMap};
+ghost use Rattle.scasp_worklist.specs.Numbered.{has};
+ghost use Rattle.std.specs.Prelude.{◌≡◌};
 
-use crate::buckets::by_level;
-use crate::entries::{Entries, entries_of, level_in};
+use crate::buckets::Levels;
+use crate::entries::Entries;
+use crate::numbered::Level;
 use crate::sets::add_all;
-use crate::signs::signed_model;
-use scasp_model::{GroundClause, GroundProgram};
+use crate::signs::{minus_by, plus_model};
+use crate::standings::standings_of;
+use scasp_closure::atoms_in;
 use scasp_name::Memory;
-use scasp_syntax::{Lit, Lits, PredMaps};
+use scasp_syntax::Atom;
 use scasp_tables::AtomTable;
+use scasp_worklist::NumberSet;
 use std::alloc::Global;
 
-/// Whether the literal is true where exactly the atoms of the set are.
-fn is_true_in(alloc: Global, set: &AtomTable, literal: &Lit) -> Result<bool, Memory>
-    ensures { IfOk result (λ answer. answer ≡ is_true_in set.now literal.now) }
-{
-    let is_there = set.contains(alloc, &literal.atom)?;
-    Ok(is_there == literal.positive)
-}
-
-/// Puts the literal at the end where it is of no lower level; else whether it is true.
-fn read_literal(
+/// Puts the atoms whose numbers are in the set into the model.
+fn add_set(
     alloc: Global,
-    entries: &Entries,
-    level: u64,
-    lower: &AtomTable,
-    literal: Lit,
-    kept: &mut Lits,
-) -> Result<bool, Memory>
-    ensures stands { IfOk result (λ stands. not stands ≡ (is_lower (level_in entries.now) level literal && not (is_true_in lower.now literal))) }
-    ensures kept { OnOk result (kept.new ≡ kept.old ++ filter (λ l. not (is_lower (level_in entries.now) level l)) (literal ∷ [])) }
-{
-    if level_in(entries, &literal.atom) < level {
-        return is_true_in(alloc, lower, &literal);
-    }
-    kept.push(literal)?;
-    Ok(true)
-}
-
-/// The rule without its literals of lower levels, unless one of them is false.
-fn read_lower(
-    alloc: Global,
-    entries: &Entries,
-    level: u64,
-    lower: &AtomTable,
-    rule: GroundClause,
-) -> Result<Option<GroundClause>, Memory>
-    ensures { IfOk result (λ made. listed made ≡ read_lower (level_in entries.now) level lower.now rule) }
-{
-    let GroundClause { head, body } = rule;
-    let mut kept = Lits::new(alloc);
-    for literal in body.into_vec() {
-        if !read_literal(alloc, entries, level, lower, literal, &mut kept)? {
-            return Ok(None);
-        }
-    }
-    Ok(Some(GroundClause { head, body: kept }))
-}
-
-/// Puts the rule, read so, at the end.
-fn push_read(
-    alloc: Global,
-    entries: &Entries,
-    level: u64,
-    lower: &AtomTable,
-    rule: GroundClause,
-    made: &mut Vec<GroundClause>,
+    set: &NumberSet,
+    atoms: &[Atom],
+    model: &mut AtomTable,
 ) -> Result<(), Memory>
-    ensures { OnOk result (made.new.items ≡ made.old.items ++ read_lower (level_in entries.now) level lower.now rule) }
+    ensures { OnOk result (model.new ≡ with_atoms model.old (atoms_in (has set.now) atoms.now)) }
 {
-    match read_lower(alloc, entries, level, lower, rule)? {
-        Some(read) => {
-            made.push(read)?;
-            Ok(())
-        }
-        None => Ok(()),
-    }
-}
-
-/// The rules, read so.
-fn read_all(
-    alloc: Global,
-    entries: &Entries,
-    level: u64,
-    lower: &AtomTable,
-    rules: Vec<GroundClause>,
-) -> Result<Vec<GroundClause>, Memory>
-    ensures { IfOk result (λ made. made.items ≡ flat_map (read_lower (level_in entries.now) level lower.now) rules.items) }
-{
-    let mut made = Vec::new(alloc);
-    for rule in rules {
-        push_read(alloc, entries, level, lower, rule, &mut made)?;
-    }
-    Ok(made)
+    let here = atoms_in(alloc, set, atoms)?;
+    add_all(alloc, model, here.as_slice())?;
+    Ok(())
 }
 
 /// Adds the model of the rules of a level to the atoms of lower levels.
@@ -107,28 +46,37 @@ fn add_level(
     alloc: Global,
     entries: &Entries,
     level: u64,
-    rules: Vec<GroundClause>,
+    here: &Level,
     model: &mut AtomTable,
 ) -> Result<(), Memory>
-    ensures { OnOk result (SameAtoms model.new (model.old ++ signed_model (plus_in entries.now) (flat_map (read_lower (level_in entries.now) level model.old) rules.items))) }
+    ensures { OnOk result ((cs : List ThisClause) → StandAll here.now.table here.now.rules cs → SameAtoms model.new (model.old ++ signed_model (plus_in entries.now) (flat_map (read_lower (level_in entries.now) level model.old) cs))) }
 {
-    let rules = read_all(alloc, entries, level, model, rules)?;
-    let here = signed_model(alloc, entries, rules.as_slice())?;
-    add_all(alloc, model, here.as_slice())?;
+    let atoms = here.table.as_slice();
+    let rules = here.rules.as_slice();
+    let standings = standings_of(alloc, entries, level, model, atoms)?;
+    let known = standings.as_slice();
+    let plus = plus_model(alloc, known, rules)?;
+    let minus = minus_by(alloc, known, rules, &plus)?;
+    add_set(alloc, &plus, atoms, model)?;
+    add_set(alloc, &minus, atoms, model)?;
     Ok(())
 }
 
-/// The levelled model of the rules, by the levels and signs of a map. It goes once through the rules of each level that a head
-/// has, and there as often as the atoms with `+` change.
-pub fn levelled(alloc: Global, map: &PredMaps, rules: GroundProgram) -> Result<AtomTable, Memory>
-    ensures { IfOk result (λ made. SameAtoms made (levelled_model (level_of map.now) (plus_of map.now) rules)) }
-{
-    let entries = entries_of(alloc, map)?;
-    let mut buckets = by_level(alloc, &entries, rules)?;
-    let mut model = AtomTable::new(alloc);
-    while let Some(lowest) = buckets.pop_first() {
-        let (level, rules) = lowest;
-        add_level(alloc, &entries, level, rules, &mut model)?;
+impl Levels {
+    /// The levelled model of the rules, by the levels and signs of the map. It goes once through the rules of each level that a head
+    /// has, and there as often as the atoms with `+` change.
+    pub fn model(self, alloc: Global) -> Result<AtomTable, Memory>
+        ensures { IfOk result (λ made. (map : List ThisMap) (g : List ThisClause) → IsSorted map self g → SameAtoms made (levelled_model (level_of map) (plus_of map) g)) }
+    {
+        let Levels {
+            entries,
+            mut levels,
+        } = self;
+        let mut model = AtomTable::new(alloc);
+        while let Some(lowest) = levels.pop_first() {
+            let (level, here) = lowest;
+            add_level(alloc, &entries, level, &here, &mut model)?;
+        }
+        Ok(model)
     }
-    Ok(model)
 }

@@ -4,8 +4,11 @@
 mod buckets;
 mod entries;
 mod levels;
+mod numbered;
+mod reducts;
 mod sets;
 mod signs;
+mod standings;
 
-pub use levels::levelled;
+pub use buckets::Levels;
 pub use sets::add_all;

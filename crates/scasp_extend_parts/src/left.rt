@@ -1,5 +1,6 @@
 //! What is left of the instances of a program by what a certificate says.
-ghost use Rattle.std.specs.Prelude.{◌≡◌, ◌^◌, ◌∷◌, ◌++◌, [], filter, length, nat_lt, not, IfOk, OnOk};
+ghost use Rattle.std.specs.Prelude.{◌≡◌, ◌^◌, ◌∷◌, ◌++◌, [], List, filter, length, nat_lt, not, IfOk, OnOk};
+ghost use Rattle.scasp_extend_levels.specs.Sorted.{IsSorted};
 ghost use Rattle.scasp_extend_parts.specs.Causes.{Explains};
 ghost use Rattle.scasp_extend_parts.specs.Inside.{body_left};
 ghost use Rattle.scasp_extend_parts.specs.Obstacles.{grounding_obstacle};
@@ -7,14 +8,17 @@ ghost use Rattle.scasp_ground.specs.Bounded.{clause_overflows, is_too_large, ove
 ghost use Rattle.scasp_ground.specs.Told.{Limits};
 ghost use Rattle.scasp_model.specs.Grounding.{ground_program, instances};
 ghost use Rattle.scasp_model.specs.Residual.{is_known_true, residual, residual_of};
+ghost use Rattle.scasp_model.specs.declared.program.GroundClause.{GroundClause as ThisClause};
 ghost use Rattle.scasp_syntax.specs.Tm.{items};
+ghost use Rattle.scasp_syntax.specs.declared.predicate_map.PredMap.{PredMap as ThisMap};
 
 use crate::errors::ExtendErr;
 use crate::told::Told;
+use scasp_extend_levels::Levels;
 use scasp_ground::{GroundErr, body_tests, choice, count_instances, instance_of, passes, power};
-use scasp_list::{Memory, Sequence};
-use scasp_model::{GroundClause, GroundProgram};
-use scasp_syntax::{Clause, Lit, Lits, Program};
+use scasp_list::Memory;
+use scasp_model::GroundClause;
+use scasp_syntax::{Clause, Lit, Lits, PredMaps, Program};
 use scasp_tables::Domain;
 use std::alloc::Global;
 
@@ -43,14 +47,14 @@ fn left_of_body(alloc: Global, told: &Told, body: Lits) -> Result<Option<Lits>, 
     Ok(Some(kept))
 }
 
-/// Puts what is left of the instance at the end.
+/// Puts what is left of the instance behind the others.
 fn push_left(
     alloc: Global,
     told: &Told,
     instance: GroundClause,
-    made: &mut GroundProgram,
+    made: &mut Levels,
 ) -> Result<(), Memory>
-    ensures { OnOk result (made.new ≡ made.old ++ residual_of told.now.trues told.now.falses instance) }
+    ensures { OnOk result ((map : List ThisMap) (g : List ThisClause) → IsSorted map made.old g → IsSorted map made.new (g ++ residual_of told.now.trues told.now.falses instance)) }
 {
     let GroundClause { head, body } = instance;
     if told.knows(alloc, &head)? {
@@ -58,22 +62,22 @@ fn push_left(
     }
     match left_of_body(alloc, told, body)? {
         Some(body) => {
-            made.push(GroundClause { head, body })?;
+            made.push(alloc, &GroundClause { head, body })?;
             Ok(())
         }
         None => Ok(()),
     }
 }
 
-/// Puts what is left of the instances of the clause at the end. TooLarge where there are more than 1,000,000 before any is dropped.
+/// Puts what is left of the instances of the clause behind the others. TooLarge where there are more than 1,000,000 before any is dropped.
 fn push_left_of(
     alloc: Global,
     domain: &Domain,
     told: &Told,
     clause: &Clause,
-    made: &mut GroundProgram,
+    made: &mut Levels,
 ) -> Result<(), GroundErr>
-    ensures ok { OnOk result (made.new ≡ made.old ++ residual told.now.trues told.now.falses (instances (items domain.now) clause.now)) }
+    ensures ok { OnOk result ((map : List ThisMap) (g : List ThisClause) → IsSorted map made.old g → IsSorted map made.new (g ++ residual told.now.trues told.now.falses (instances (items domain.now) clause.now))) }
     ensures limited { Limits result (nat_lt 1000000 (length (items domain.now) ^ clause.now.vars)) (clause_overflows (items domain.now) clause.now) }
 {
     let Some(count) = power(domain.len() as u64, clause.vars) else {
@@ -97,17 +101,18 @@ fn push_left_of(
 fn left_within(
     alloc: Global,
     program: &Program,
+    map: &PredMaps,
     domain: &Domain,
     told: &Told,
-) -> Result<GroundProgram, GroundErr>
-    ensures ok { IfOk result (λ g. g ≡ residual told.now.trues told.now.falses (ground_program (items domain.now) program.now)) }
+) -> Result<Levels, GroundErr>
+    ensures ok { IfOk result (λ made. IsSorted map.now made (residual told.now.trues told.now.falses (ground_program (items domain.now) program.now))) }
     ensures limited { Limits result (is_too_large (items domain.now) program.now) (overflows (items domain.now) program.now) }
 {
     let members = domain.len() as u64;
     if count_instances(program.clauses.as_slice(), members).is_none() {
         return Err(GroundErr::TooLarge);
     }
-    let mut made = Sequence::new(alloc);
+    let mut made = Levels::new(alloc, map)?;
     for clause in program.clauses.as_slice() {
         match push_left_of(alloc, domain, told, clause, &mut made) {
             Ok(()) => {}
@@ -118,7 +123,7 @@ fn left_within(
 }
 
 /// What is left of the instances of the program over the domain by what is told: those without a known head and a false literal,
-/// without their true literals. No other instance is kept at any time.
+/// without their true literals, by the levels that the map gives their heads. No other instance is kept at any time, and no denial.
 ///
 /// # Errors
 ///
@@ -127,13 +132,14 @@ fn left_within(
 pub fn left_over(
     alloc: Global,
     program: &Program,
+    map: &PredMaps,
     domain: &Domain,
     told: &Told,
-) -> Result<GroundProgram, ExtendErr>
+) -> Result<Levels, ExtendErr>
     ensures causes { Explains result (grounding_obstacle program.now (items domain.now)) }
-    ensures left { IfOk result (λ g. g ≡ residual told.now.trues told.now.falses (ground_program (items domain.now) program.now)) }
+    ensures left { IfOk result (λ made. IsSorted map.now made (residual told.now.trues told.now.falses (ground_program (items domain.now) program.now))) }
 {
-    match left_within(alloc, program, domain, told) {
+    match left_within(alloc, program, map, domain, told) {
         Ok(left) => Ok(left),
         Err(error) => Err(ExtendErr::from(error)),
     }

@@ -30,7 +30,7 @@ use Rattle.scasp_unify.specs.Solving.{sub_of}
 use Rattle.scasp_unify.specs.TermFailures.{is_compound}
 use Rattle.scasp_unify.specs.Unification.{Absorbs, single, then_by}
 use Rattle.scasp_unify.specs.declared.bindings.Binding.{Binding}
-use Rattle.scasp_fixed.specs.Fixed.{Telling, are_read, fixing, gives, is_fixing, is_read, telling, telling_by, value_of, values_from}
+use Rattle.scasp_fixed.specs.Fixed.{Telling, are_read, fixing, gives, gives_by, is_fixing, is_read, telling, telling_by, value_of, values_from}
 
 -- ---- what a list gives
 
@@ -52,9 +52,14 @@ fixing-normal cs n = by (nat_lt most_constraints (length cs)) refl
         (normal-each (filter is_fixing cs) (Each-filter IsNormalCon is_fixing cs (each-normal cs n)))
 
 gives-holds : (cs : List Con) (v : Valuation) (x : ℕ) (q : Number) → RowsNormal cs → list_all (holds v.of) cs ≡ true → gives (fixing cs) x q ≡ true → v.of x ≡ num q
-gives-holds cs v x q n m e =
-    let p = and_parts (list_any (is_row_of x) (fixing cs)) (follows (fixing cs) (con.Eq (term.Var x) (term.Num q))) e in
-    (tm_decided (v.of x) (num q)).0 (asked-meets (fixing cs) (con.Eq (term.Var x) (term.Num q)) v (fixing-normal cs n) tt tt p.1 (fixing-met cs v.of m))
+gives-holds cs v x q n m e = by (list_any (is_row_of x) (fixing cs)) refl
+  where
+    asked : follows (fixing cs) (con.Eq (term.Var x) (term.Num q)) ≡ true → v.of x ≡ num q
+    asked a = (tm_decided (v.of x) (num q)).0 (asked-meets (fixing cs) (con.Eq (term.Var x) (term.Num q)) v (fixing-normal cs n) tt tt a (fixing-met cs v.of m))
+
+    by : (b : Bool) → list_any (is_row_of x) (fixing cs) ≡ b → v.of x ≡ num q
+    by true p = asked (sym (ap (λ b. gives_by b (fixing cs) x q) p) ∙ e)
+    by false p = absurd (true≢false (sym e ∙ ap (λ b. gives_by b (fixing cs) x q) p))
 
 -- what all lists give holds where one of them is met
 one-gives : (lists : List (List Con)) (v : Valuation) (x : ℕ) (q : Number) → Each RowsNormal lists → list_any (list_all (holds v.of)) lists ≡ true → list_all (λ cs. gives cs x q) (map fixing lists) ≡ true → v.of x ≡ num q

@@ -28,9 +28,14 @@ is_fixing (con.NotNum t) = false
 abbrev pub fixing : List Con → List Con
 fixing cs = if nat_lt most_constraints (length cs) then [] else filter is_fixing cs
 
+-- number tests and equations give a variable this number, if one of the equations has it
+abbrev pub gives_by : Bool → List Con → ℕ → Number → Bool
+gives_by false cs x q = false
+gives_by true cs x q = follows cs (con.Eq (term.Var x) (term.Num q))
+
 -- number tests and equations give the variable this number
 abbrev pub gives : List Con → ℕ → Number → Bool
-gives cs x q = list_any (is_row_of x) cs && follows cs (con.Eq (term.Var x) (term.Num q))
+gives cs x q = gives_by (list_any (is_row_of x) cs) cs x q
 
 -- the number that a sample has for the variable x, if each of the lists gives it
 abbrev pub value_of : List (List Con) → ℕ → Tm → List Binding

@@ -8,7 +8,8 @@ use Rattle.scasp_extend.proofs.models.with_levelled.Goals as goal
 
 pub returns-clause-atoms : goal.returns-clause-atoms
 returns-clause-atoms c =
-    let rest : List Atom = levelled_model (level_of c.args.map.now) (plus_of c.args.map.now) c.args.rules in
-    λ a. ap (λ (xs : List Atom). among xs a) c.into_atoms.ensures.value
+    λ map g sorted a.
+    let rest : List Atom = levelled_model (level_of map) (plus_of map) g in
+    ap (λ (xs : List Atom). among xs a) c.into_atoms.ensures.value
     ∙ put-same c.add_all.new.set c.args.trues c.as_slice.result.now c.in_ok-rest.rest rest (c.args.trues ++ rest) c.in_ok-add_all.ensures
-    c.as_slice.ensures.value c.in_ok-rest.ensures (λ b. refl) a
+    c.as_slice.ensures.value (c.in_ok-rest.ensures map g sorted) (λ b. refl) a

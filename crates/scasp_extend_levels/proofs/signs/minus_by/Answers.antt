@@ -1,14 +1,13 @@
-use Rattle.std.proofs.Common.{◌∙◌, List, ap}
+use Rattle.std.proofs.Common.{subst}
 use Rattle.std.proofs.lemmas.Result.{IfOk-weaker}
-use Rattle.scasp_model.specs.Atoms.{SameAtoms, among}
-use Rattle.scasp_model.specs.Least.{least_model}
+use Rattle.scasp_extend_levels.specs.Scenes.{Means, Scene, inside, read}
+use Rattle.scasp_extend_levels.proofs.SignLemmas.{minus-read}
 use Rattle.scasp_model.specs.Levelled.{minus_by}
-use Rattle.scasp_model.specs.declared.program.DefiniteRule.{DefiniteRule}
-use Rattle.scasp_extend_levels.specs.Entries.{plus_in}
+use Rattle.scasp_worklist.specs.Numbered.{IsLeast, has}
 use Rattle.scasp_extend_levels.proofs.signs.minus_by.Goals as goal
 
 pub returns : goal.returns
 returns c =
-    IfOk-weaker c.closed.result (λ made. SameAtoms made (least_model c.in_ok-reduct.reduct))
-    (λ made. SameAtoms made (minus_by (plus_in c.args.entries.now) c.args.rules.now c.args.set.now))
-    (λ made h a. h a ∙ ap (λ (rs : List DefiniteRule). among (least_model rs) a) c.in_ok-reduct.ensures) c.closed.ensures
+    IfOk-weaker c.least_set.result (λ made. IsLeast c.in_ok-reduct.reduct (has made))
+    (λ made. (s : Scene c.args.standings.now c.args.rules.now) → Means s (has made) (minus_by s.plus (read s) (inside s (has c.args.set.now))))
+    (λ made l s. minus-read s (has c.args.set.now) (has made) (subst (λ rs. IsLeast rs (has made)) c.in_ok-reduct.ensures l)) c.least_set.ensures

@@ -1,14 +1,24 @@
-use Rattle.std.proofs.Common.{◌<◌, arith, length}
-use Rattle.scasp_extend_levels.specs.Entries.{plus_in}
-use Rattle.scasp_extend_levels.proofs.SignLemmas.{ended, goes-on}
+use Rattle.std.proofs.Common.{◌≤◌, arith, length, refl, subst}
+use Rattle.scasp_extend_levels.specs.Scenes.{inside, read}
+use Rattle.scasp_extend_levels.proofs.SignLemmas.{begins-empty, ended, enough, few-read, goes-on, same-inside}
+use Rattle.scasp_worklist.specs.Numbered.{IsLeast, has}
 use Rattle.scasp_extend_levels.proofs.signs.plus_model.Goals as goal
 
-pub returns-then-branch : goal.returns-then-branch
-returns-then-branch c =
-    let below : c.loop-step._step < length c.args.rules.now = omega arith in
-    ended (plus_in c.args.entries.now) c.args.rules.now c.loop-step._step c.loop-step.plus c.in_ok-next.next below c.loop-step.invariant
-    c.in_ok-next.ensures (c.in_ok-have_same_atoms.ensures.0 c.if-branch.true)
+pub loop-step-init : goal.loop-step-init
+loop-step-init c = λ s. begins-empty s (has c.in_ok-plus.plus) (subst (λ rs. IsLeast rs (has c.in_ok-plus.plus)) c.new-none.ensures c.in_ok-plus.ensures)
+
+pub returns-then-are_same_below : goal.returns-then-are_same_below
+returns-then-are_same_below c =
+    λ s. ended s.plus (read s) c.loop-step._step (inside s (has c.loop-step.plus)) (inside s (has c.in_ok-next.next)) (c.loop-step.invariant s)
+    (c.in_ok-next.ensures s) (same-inside s (has c.loop-step.plus) (has c.in_ok-next.next) (length c.args.standings.now) refl (c.are_same_below.ensures c.if-are_same_below.true))
 
 pub loop-step-preserved : goal.loop-step-preserved
 loop-step-preserved c =
-    goes-on (plus_in c.args.entries.now) c.args.rules.now c.loop-step._step c.loop-step.plus c.in_ok-next.next c.loop-step.invariant c.in_ok-next.ensures
+    λ s. goes-on s.plus (read s) c.loop-step._step (inside s (has c.loop-step.plus)) (inside s (has c.in_ok-next.next)) (c.loop-step.invariant s) (c.in_ok-next.ensures s)
+
+pub returns : goal.returns
+returns c =
+    λ s.
+    let few = few-read s in
+    let all : length (read s) ≤ c.loop-step._step = omega (arith, few, c.loop-step-test.false) in
+    enough s.plus (read s) c.loop-step._step (inside s (has c.loop-step.plus)) all (c.loop-step.invariant s)

@@ -1,9 +1,12 @@
-use Rattle.std.proofs.Common.{◌≡◌, ◌∙◌, ◌^◌, ◌++◌, ◌∷◌, [], nat_lt, length, Some, sym, ap}
+use Rattle.std.proofs.Common.{◌≡◌, ◌∙◌, ◌+◌, ◌^◌, ◌++◌, nat_lt, length, take, Some, sym, ap, subst}
 use Rattle.scasp_ground.specs.Bounded.{all_tested, body_tests, clause_overflows}
-use Rattle.scasp_ground.proofs.InstanceLemmas.{none-past, past-here, past-none}
+use Rattle.scasp_extend_levels.specs.Sorted.{IsSorted}
+use Rattle.scasp_extend_levels.specs.declared.buckets.Levels.{Levels}
+use Rattle.scasp_ground.proofs.InstanceLemmas.{kept_of, none-past, past-here, past-none}
 use Rattle.scasp_ground.proofs.LimitLemmas.{is-power, limits-tested, power-not-past}
 use Rattle.scasp_model.specs.Grounding.{choices}
-use Rattle.scasp_model.specs.Residual.{residual_of}
+use Rattle.scasp_model.specs.Residual.{residual, residual_of}
+use Rattle.scasp_model.specs.declared.program.GroundClause.{GroundClause}
 use Rattle.scasp_syntax.specs.Tm.{items}
 use Rattle.scasp_syntax.specs.Values.{giving}
 use Rattle.scasp_extend_parts.proofs.LeftLemmas.{left-all, left-false, left-true}
@@ -18,15 +21,18 @@ loop-number-preserved c =
     let ways = choices (items c.args.domain.now) clause.vars in
     let i = c.loop-number.number in
     let ts = items c.in_ok-values.values in
-    let old = c.args.made.now in
     let made = c.loop-number.made in
     let tested : all_tested (giving ts) (body_tests clause) ≡ Some c.in-Ok.kept = ap (all_tested (giving ts)) (sym c.in_ok-tests.ensures) ∙ c.in-Ok.ensures in
     record {
-      left = elim c.if-kept.branch [
+      left = λ map g sorted. elim c.if-kept.branch [
         | then-kept+in_ok-instance_of+in_ok-push_left w ↦
-            left-true t f clause ways i ts old made c.if-kept.made c.in_ok-values.ensures (tested ∙ ap Some w.if-kept.true)
-            (w.made-is ∙ w.in_ok-push_left.ensures ∙ ap (λ g. made ++ residual_of t f g) w.in_ok-instance_of.ensures) c.loop-number.invariant.left
-        | else-kept w ↦ w.made-is ∙ left-false t f clause ways i ts old made c.in_ok-values.ensures (tested ∙ ap Some w.if-kept.false) c.loop-number.invariant.left
+            subst (λ (m : Levels). IsSorted map m (g ++ residual t f (kept_of clause (take (i + 1) ways)))) (sym w.made-is)
+            (left-true t f clause ways i ts map made w.push_left.new.made g c.in_ok-values.ensures (tested ∙ ap Some w.if-kept.true)
+            (λ h s. subst (λ (x : GroundClause). IsSorted map w.push_left.new.made (h ++ residual_of t f x)) w.in_ok-instance_of.ensures (w.in_ok-push_left.ensures map h s))
+            (c.loop-number.invariant.left map g sorted))
+        | else-kept w ↦
+            subst (λ (m : Levels). IsSorted map m (g ++ residual t f (kept_of clause (take (i + 1) ways)))) (sym w.made-is)
+            (left-false t f clause ways i ts map made g c.in_ok-values.ensures (tested ∙ ap Some w.if-kept.false) (c.loop-number.invariant.left map g sorted))
       ];
       past = past-none clause ways i ts c.in-Ok.kept c.in_ok-values.ensures tested c.loop-number.invariant.past;
     }
@@ -36,8 +42,8 @@ returns-clause-ok c =
     let d = items c.args.domain.now in
     let clause = c.args.clause.now in
     let is = is-power c.len.result (length d) clause.vars c.in-Some.count c.len.ensures c.in-Some.ensures.some in
-    left-all c.args.told.now.trues c.args.told.now.falses clause d c.in-Some.count c.loop-number.number c.args.made.now c.loop-number.made is
-    c.loop-number-test.false c.loop-number.invariant.left
+    λ map g sorted. left-all c.args.told.now.trues c.args.told.now.falses clause d c.in-Some.count c.loop-number.number map c.loop-number.made g is
+    c.loop-number-test.false (c.loop-number.invariant.left map g sorted)
 
 pub returns-clause-limited : goal.returns-clause-limited
 returns-clause-limited c =
