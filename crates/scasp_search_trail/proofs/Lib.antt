@@ -1,3 +1,4 @@
+pub mod ClashLemmas
 pub mod ClosingLemmas
 pub mod CopyLemmas
 pub mod CoverLemmas

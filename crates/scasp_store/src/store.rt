@@ -7,6 +7,7 @@ ghost use Rattle.scasp_store.specs.Held.{list_with};
 ghost use Rattle.scasp_trail.specs.Past.{earlier, is_marked, latest};
 
 use crate::answering::answer;
+use crate::failing::fails;
 use crate::opening::{is_new, settle, standing, take_out};
 use scasp_bound::Bound;
 use scasp_given::Given;
@@ -147,6 +148,9 @@ impl Store {
             return Ok(None);
         }
         let given = self.given.as_slice();
+        if fails(alloc, &self.bound, given, self.places.as_slice(), more)? {
+            return Ok(Some(false));
+        }
         settle(alloc, &self.bound, given, &mut self.places)?;
         let list = standing(alloc, given, self.places.as_slice(), more)?;
         answer(alloc, &self.bound, list.as_slice())
