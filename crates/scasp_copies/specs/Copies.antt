@@ -38,9 +38,12 @@ pub record Move : Type 0 where
   pub count : ℕ
   pub to : ℕ
 
+abbrev pub is_inside : Move → ℕ → Bool
+is_inside m k = nat_le m.from k && nat_lt k (m.from + m.count)
+
 -- the number of a line inside moves with the subtree; a number outside stays
 abbrev pub moved_number : Move → ℕ → ℕ
-moved_number m k = if nat_le m.from k && nat_lt k (m.from + m.count) then m.to + (k - m.from) else k
+moved_number m k = if is_inside m k then m.to + (k - m.from) else k
 
 abbrev pub is_digit : ℕ → Bool
 is_digit b = nat_le 48 b && nat_le b 57
@@ -49,15 +52,21 @@ is_digit b = nat_le 48 b && nat_le b 57
 abbrev pub last_digits : List ℕ → List ℕ
 last_digits words = reverse (take_while is_digit (reverse words))
 
+abbrev pub last_number : List ℕ → ℕ
+last_number words = digits_value 0 (last_digits words)
+
+-- the words before the digits at the end
+abbrev pub before_digits : List ℕ → List ℕ
+before_digits words = take (length words - length (last_digits words)) words
+
 -- words with a line number at their end
 abbrev pub names_line : List ℕ → Bool
 names_line words = begins (codes "loop ") words || begins (codes "seen ") words
 
+-- words that name no line inside stay as they are
 abbrev pub moved_words : Move → List ℕ → List ℕ
 moved_words m words =
-    if names_line words then
-      take (length words - length (last_digits words)) words ++ decimal (moved_number m (digits_value 0 (last_digits words)))
-    else words
+    if names_line words && is_inside m (last_number words) then before_digits words ++ decimal (moved_number m (last_number words)) else words
 
 -- the line as deep as it stands below the copy's first line, which was at `top` and is at `depth`
 abbrev pub moved_piece : Move → ℕ → ℕ → Piece → Piece
@@ -69,8 +78,8 @@ abbrev pub copied : ℕ → ℕ → ℕ → List Piece → Option (List Piece)
 copied n depth to [] = None
 copied n depth to (p ∷ ps) =
     if is_call p && has_ended depth (p ∷ ps) then
-      (let sub = subtree (p ∷ ps) in
-       Some (map (moved_piece (record { from = n; count = length sub; to = to }) p.depth depth) sub))
+    (let sub = subtree (p ∷ ps) in
+    Some (map (moved_piece (record { from = n; count = length sub; to = to }) p.depth depth) sub))
     else None
 
 -- What `copy n` stands for as deep as `depth`, behind the numbered lines `told` of its block, the first of which has number 1:
