@@ -78,8 +78,8 @@ abbrev pub copied : ℕ → ℕ → ℕ → List Piece → Option (List Piece)
 copied n depth to [] = None
 copied n depth to (p ∷ ps) =
     if is_call p && has_ended depth (p ∷ ps) then
-      (let sub = subtree (p ∷ ps) in
-       Some (map (moved_piece (record { from = n; count = length sub; to = to }) p.depth depth) sub))
+    (let sub = subtree (p ∷ ps) in
+    Some (map (moved_piece (record { from = n; count = length sub; to = to }) p.depth depth) sub))
     else None
 
 -- What `copy n` stands for as deep as `depth`, behind the numbered lines `told` of its block, the first of which has number 1:
