@@ -10,3 +10,4 @@ mod words;
 pub use line::{BlockLine, Words};
 pub use subtree::Subtree;
 pub use told::Told;
+pub use words::is_copy;

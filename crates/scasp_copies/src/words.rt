@@ -18,6 +18,13 @@ pub fn is_call(words: &[u8]) -> bool
     begins(words, b"pos ") || begins(words, b"neg ")
 }
 
+/// Whether the words are those of a line `copy N`, whatever stands behind the blank.
+pub fn is_copy(words: &[u8]) -> bool
+    ensures { result ≡ spec.begins (codes "copy ") words.now }
+{
+    begins(words, b"copy ")
+}
+
 /// Whether the words have the number of a line at their end.
 pub fn names_line(words: &[u8]) -> bool
     ensures { result ≡ spec.names_line words.now }

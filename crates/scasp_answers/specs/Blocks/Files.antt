@@ -2,14 +2,13 @@
 use Rattle.std.specs.Prelude.{ℕ, ◌+◌, ◌-◌, ◌==◌, nat_lt, nat_le, Bool, true, false, if◌then◌else◌, List, [], ◌∷◌, ◌++◌, length, take, drop, flat_map, codes, bytes_eq, Option, None, Some, Result, Ok, Err}
 use Rattle.scasp_num.specs.Arithmetic.{◌>>=◌}
 use Rattle.scasp_reader_terms.specs.Names.{place_in}
-use Rattle.scasp_reader_tokens.specs.Bytes.{begins}
 use Rattle.scasp_answers_terms.specs.Tokens.Tokens.{Token, tokens_in}
 use Rattle.scasp_answers_terms.specs.Tokens.Readers.{number_at}
 use Rattle.scasp_answers_terms.specs.Tokens.Forms.{line_in}
 use Rattle.scasp_answers_terms.specs.Tokens.Bounds.{is_place, line_fits}
 use Rattle.scasp_copies.specs.Pieces.{Piece, piece_of, piece_text}
-use Rattle.scasp_copies.specs.Copies.{copy_of}
-pub use Rattle.scasp_copies.specs.Pieces.{indent}
+use Rattle.scasp_copies.specs.Copies.{begins, copy_of}
+pub use Rattle.scasp_copies.specs.Pieces.{Split, with_byte, split_lines, indent}
 use Rattle.scasp_answers.specs.Blocks.Blocks.{at}
 use Rattle.scasp_answers.specs.Blocks.States.{Entry, Phase, at_start, between, in_given, in_sample, in_tree, in_clashes, in_map, State, first_state, next_state}
 use Rattle.scasp_answers.specs.declared.blocks.fault.AnswerKind.{AnswerKind}
@@ -26,28 +25,6 @@ abbrev pub fault : ℕ → AnswerKind → Reading
 fault at kind = Err (record { at = at; kind = kind })
 
 -- ---- lines
-
--- lines without their line feeds, and the bytes behind the last line feed
-pub record Split : Type 0 where
-  pub lines : List (List ℕ)
-  pub rest : List ℕ
-
-abbrev pub with_byte : ℕ → Split → Split
-with_byte b s = record { lines = first_line s.lines; rest = if_no_line s.lines }
-  where
-    first_line : List (List ℕ) → List (List ℕ)
-    first_line [] = []
-    first_line (l ∷ ls) = (b ∷ l) ∷ ls
-
-    if_no_line : List (List ℕ) → List ℕ
-    if_no_line [] = b ∷ s.rest
-    if_no_line (l ∷ ls) = s.rest
-
-abbrev pub split_lines : List ℕ → Split
-split_lines [] = record { lines = []; rest = [] }
-split_lines (b ∷ bs) =
-    let s = split_lines bs in
-    if b == 10 then record { lines = [] ∷ s.lines; rest = s.rest } else with_byte b s
 
 -- a line that begins with `%`
 abbrev pub is_remark : List ℕ → Bool
@@ -97,8 +74,11 @@ first_versioned = record { state = first_state; version = version.One; told = []
 abbrev pub is_second : List ℕ → Bool
 is_second words = bytes_eq words (codes "scasp 2")
 
+abbrev pub first_words : List ℕ → List ℕ
+first_words words = if is_second words then codes "scasp 1" else words
+
 abbrev pub as_first : Piece → Piece
-as_first p = record p { words = if is_second p.words then codes "scasp 1" else p.words }
+as_first p = record { depth = p.depth; words = first_words p.words }
 
 abbrev pub version_behind : Version → Piece → Version
 version_behind v p = if is_second p.words then version.Two else v
@@ -149,9 +129,12 @@ abbrev pub alone : ℕ × List Token → Option ℕ
 alone (n, []) = Some n
 alone (n, t ∷ ts) = None
 
+abbrev pub number_alone : List ℕ → Option ℕ
+number_alone bytes = number_at (tokens_in bytes) >>= alone
+
 -- the number of a line `copy n`
 abbrev pub copy_in : List ℕ → Option ℕ
-copy_in words = if begins words (codes "copy ") then number_at (tokens_in (drop 5 words)) >>= alone else None
+copy_in words = if begins (codes "copy ") words then number_alone (drop 5 words) else None
 
 abbrev pub line_judged : List (List ℕ) → Versioned → Piece → Result Versioned AnswerKind
 line_judged names v p = elim (copy_in p.words) [ None ↦ plain_judged names v p | Some n ↦ copy_judged names v n p.depth ]
