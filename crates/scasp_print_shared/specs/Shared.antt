@@ -17,12 +17,17 @@ abbrev pub least : (ℕ → Bool) → ℕ → ℕ → Option ℕ
 least holds n zero = None
 least holds n (suc left) = if holds n then Some n else least holds (n + 1) left
 
--- the least line behind which `copy` stands for the subtree at the front, where this has at least three lines
+abbrev pub front_depth : List Piece → ℕ
+front_depth [] = 0
+front_depth (p ∷ ps) = p.depth
+
+-- whether `copy n`, behind `told`, stands for the subtree at the front
+abbrev pub is_copy : List Piece → List Piece → ℕ → Bool
+is_copy told ps n = are_lines (copy_of n (front_depth ps) told) (subtree ps)
+
+-- the least n such that `copy n` stands for the subtree at the front, where this has at least three lines
 abbrev pub least_copy : List Piece → List Piece → Option ℕ
-least_copy told [] = None
-least_copy told (p ∷ ps) =
-    let sub = subtree (p ∷ ps) in
-    if nat_le 3 (length sub) then least (λ n. are_lines (copy_of n p.depth told) sub) 1 (length told) else None
+least_copy told ps = if nat_le 3 (length (subtree ps)) then least (is_copy told ps) 1 (length told) else None
 
 -- ---- the numbered lines
 

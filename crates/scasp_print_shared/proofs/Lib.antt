@@ -1,0 +1,9 @@
+pub mod ClassLemmas
+pub mod CopyLemmas
+pub mod LineLemmas
+pub mod MoveLemmas
+pub mod PlaceLemmas
+pub mod RootLemmas
+pub mod WalkLemmas
+pub mod WordLemmas
+pub mod WrittenLemmas

@@ -1,0 +1,65 @@
+-- The lines of a text and of a block.
+use Rattle.std.proofs.Common.{◌≡◌, ◌∙◌, ℕ, zero, ◌+◌, ◌<◌, ◌≤◌, Bool, true, false, not, List, [], ◌∷◌, ◌++◌, length, get_or, map, take, drop, suc, refl, sym, ap, arith}
+use Rattle.std.specs.Prelude.{◌==◌}
+use Rattle.std.specs.List.{prefix_len}
+use Rattle.scasp_copies.specs.Pieces.{Piece, Split, split_lines, with_byte}
+use Rattle.scasp_print_shared.specs.Inside.Lines.{behind_tree, read, read_all, with_line}
+use Rattle.scasp_print_shared.specs.Shared.{is_tree, numbered, shared_block, shared_lines}
+use Rattle.scasp_print_shared.specs.declared.lines.Line.{Line}
+
+abbrev pub is_inside : ℕ → Bool
+is_inside b = not (b == 10)
+
+abbrev pub only_rest : List ℕ → Split
+only_rest bs = record { lines = []; rest = bs }
+
+pub split-rest : (bs : List ℕ) → length bs ≤ prefix_len is_inside bs → split_lines bs ≡ only_rest bs
+split-rest [] h = refl
+split-rest (b ∷ bs) h = by (b == 10) refl (split-rest bs)
+  where
+    by : (t : Bool) → (b == 10) ≡ t → (length bs ≤ prefix_len is_inside bs → split_lines bs ≡ only_rest bs) → split_lines (b ∷ bs) ≡ only_rest (b ∷ bs)
+    by true q ih = let k = rw q at h in absurd (omega (arith))
+    by false q ih = let k = rw q at h in rw q (ap (with_byte b) (ih (omega (arith))))
+
+-- one byte more before the first line feed
+byte-line : (b m : ℕ) (bs : List ℕ) → with_byte b (with_line (take m bs) (split_lines (drop (m + 1) bs))) ≡ with_line (take (1 + m) (b ∷ bs)) (split_lines (drop (1 + m + 1) (b ∷ bs)))
+byte-line b m bs =
+    let e : 1 + m ≡ suc m = omega arith in
+    let f : 1 + m + 1 ≡ suc (m + 1) = omega arith in
+    sym (λ i. with_line (take (e i) (b ∷ bs)) (split_lines (drop (f i) (b ∷ bs))))
+
+pub split-line : (bs : List ℕ) → prefix_len is_inside bs < length bs → split_lines bs ≡ with_line (take (prefix_len is_inside bs) bs) (split_lines (drop (prefix_len is_inside bs + 1) bs))
+split-line [] h = absurd (omega (arith))
+split-line (b ∷ bs) h = by (b == 10) refl (split-line bs)
+  where
+    by : (t : Bool) → (b == 10) ≡ t → (prefix_len is_inside bs < length bs → split_lines bs ≡ with_line (take (prefix_len is_inside bs) bs) (split_lines (drop (prefix_len is_inside bs + 1) bs)))
+        → split_lines (b ∷ bs) ≡ with_line (take (prefix_len is_inside (b ∷ bs)) (b ∷ bs)) (split_lines (drop (prefix_len is_inside (b ∷ bs) + 1) (b ∷ bs)))
+    by true q ih = rw q refl
+    by false q ih = let k = rw q at h in rw q (ap (with_byte b) (ih (omega (arith))) ∙ byte-line b (prefix_len is_inside bs) bs)
+
+-- ---- the parts of a block
+
+-- those behind the line `tree`
+abbrev pub shared_behind : List Piece → List Piece
+shared_behind ps = shared_lines [] (numbered ps) ++ drop (length (numbered ps)) ps
+
+pub shared-parts : (ps : List Piece) → shared_block ps ≡ take (behind_tree ps) ps ++ shared_behind (drop (behind_tree ps) ps)
+shared-parts [] = refl
+shared-parts (p ∷ ps) = by (is_tree p) refl (shared-parts ps)
+  where
+    by : (t : Bool) → is_tree p ≡ t → shared_block ps ≡ take (behind_tree ps) ps ++ shared_behind (drop (behind_tree ps) ps)
+        → shared_block (p ∷ ps) ≡ take (behind_tree (p ∷ ps)) (p ∷ ps) ++ shared_behind (drop (behind_tree (p ∷ ps)) (p ∷ ps))
+    by true q ih = rw q refl
+    by false q ih =
+        let e : 1 + behind_tree ps ≡ suc (behind_tree ps) = omega arith in
+        rw q (ap (λ z. p ∷ z) ih ∙ sym (λ j. take (e j) (p ∷ ps) ++ shared_behind (drop (e j) (p ∷ ps))))
+
+-- ---- lines as read
+
+pub read-at : (ls : List Line) (k : ℕ) (l : Line) → l ≡ get_or ls k l → read l ≡ get_or (read_all ls) k (read l)
+read-at ls k l e = ap read e ∙ sym (mapped ls k)
+  where
+    mapped : (xs : List Line) (i : ℕ) → get_or (read_all xs) i (read l) ≡ read (get_or xs i l)
+    mapped [] i = refl
+    mapped (x ∷ xs) zero = refl
+    mapped (x ∷ xs) (suc i) = mapped xs i
