@@ -1,4 +1,4 @@
--- Lists say the same with the numbers put in that their equations fix.
+-- Lists say the same with the numbers put in that their equations and bounds fix.
 use Rattle.std.proofs.Common.{◌≡◌, ◌↔◌, ◌⊎◌, inl, inr, ℕ, ◌+◌, ◌==◌, nat_eq, Bool, true, false, not, ◌&&◌, ◌||◌, List, [], ◌∷◌, ◌++◌, length, map, Option, None, Some, refl, sym, ap, subst, ◌∙◌}
 use Rattle.std.specs.Prelude.{if◌then◌else◌, filter, is_some, nat_lt}
 use Rattle.std.specs.List.{list_all, list_any}
@@ -13,7 +13,7 @@ use Rattle.scasp_law_parts.specs.Questions.{IsReadable}
 use Rattle.scasp_law_parts.proofs.ReadLemmas.{con-read}
 use Rattle.scasp_project.specs.Meaning.{MeetsOne}
 use Rattle.scasp_search_rules.specs.Successors.Reading.{con_under}
-use Rattle.scasp_shorten.specs.Shortest.{follows, is_row_of, most_constraints}
+use Rattle.scasp_shorten.specs.Following.{follows, is_row_of}
 use Rattle.scasp_shorten.proofs.FollowingLemmas.{asked-meets}
 use Rattle.scasp_shorten.proofs.RowsLemmas.{IsNormalCon, each-normal, normal-each}
 use Rattle.scasp_shorten.proofs.ShorteningLemmas.{all-filter}
@@ -30,7 +30,7 @@ use Rattle.scasp_unify.specs.Solving.{sub_of}
 use Rattle.scasp_unify.specs.TermFailures.{is_compound}
 use Rattle.scasp_unify.specs.Unification.{Absorbs, single, then_by}
 use Rattle.scasp_unify.specs.declared.bindings.Binding.{Binding}
-use Rattle.scasp_fixed.specs.Fixed.{Telling, are_read, fixing, gives, gives_by, is_fixing, is_read, telling, telling_by, value_of, values_from}
+use Rattle.scasp_fixed.specs.Fixed.{Telling, are_read, fixing, gives, gives_by, is_fixing, is_read, most_constraints, telling, telling_by, value_of, values_from}
 
 -- ---- what a list gives
 
@@ -39,17 +39,17 @@ fixing-met : (cs : List Con) (v : Sub) → list_all (holds v) cs ≡ true → li
 fixing-met cs v m = by (nat_lt most_constraints (length cs)) refl
   where
     by : (b : Bool) → nat_lt most_constraints (length cs) ≡ b → list_all (holds v) (fixing cs) ≡ true
-    by true p = ap (λ b. list_all (holds v) (if b then [] else filter is_fixing cs)) p
-    by false p = ap (λ b. list_all (holds v) (if b then [] else filter is_fixing cs)) p ∙ all-filter (holds v) is_fixing cs m
+    by true p = ap (λ b. list_all (holds v) (if b then [] else filter (is_fixing cs) cs)) p
+    by false p = ap (λ b. list_all (holds v) (if b then [] else filter (is_fixing cs) cs)) p ∙ all-filter (holds v) (is_fixing cs) cs m
 
 fixing-normal : (cs : List Con) → RowsNormal cs → RowsNormal (fixing cs)
 fixing-normal cs n = by (nat_lt most_constraints (length cs)) refl
   where
     by : (b : Bool) → nat_lt most_constraints (length cs) ≡ b → RowsNormal (fixing cs)
-    by true p = subst (λ (b : Bool). RowsNormal (if b then [] else filter is_fixing cs)) (sym p) tt
+    by true p = subst (λ (b : Bool). RowsNormal (if b then [] else filter (is_fixing cs) cs)) (sym p) tt
     by false p =
-        subst (λ (b : Bool). RowsNormal (if b then [] else filter is_fixing cs)) (sym p)
-        (normal-each (filter is_fixing cs) (Each-filter IsNormalCon is_fixing cs (each-normal cs n)))
+        subst (λ (b : Bool). RowsNormal (if b then [] else filter (is_fixing cs) cs)) (sym p)
+        (normal-each (filter (is_fixing cs) cs) (Each-filter IsNormalCon (is_fixing cs) cs (each-normal cs n)))
 
 gives-holds : (cs : List Con) (v : Valuation) (x : ℕ) (q : Number) → RowsNormal cs → list_all (holds v.of) cs ≡ true → gives (fixing cs) x q ≡ true → v.of x ≡ num q
 gives-holds cs v x q n m e = by (list_any (is_row_of x) (fixing cs)) refl

@@ -1,4 +1,4 @@
-//! Lists of constraints with the values put in that their equations fix.
+//! Lists of constraints with the values put in that their equations and bounds fix.
 ghost use Rattle.std.specs.Prelude.{◌≡◌, IfOk, is_some, map};
 ghost use Rattle.std.specs.List.{list_all};
 ghost use Rattle.scasp_fixed.specs.Fixed.{are_read, is_read, telling, telling_by};
@@ -18,7 +18,7 @@ use std::alloc::Global;
 /// What is told of lists of which one holds.
 #[derive(Drop)]
 pub struct Told {
-    /// The numbers that their equations fix.
+    /// The numbers that their equations and bounds fix.
     pub values: Vec<Binding>,
     /// What the lists say of the other variables.
     pub lists: ConLists,
@@ -107,8 +107,9 @@ fn told_by(alloc: Global, values: Vec<Binding>, lists: ConLists) -> Result<Told,
 }
 
 /// What is told of lists of which one holds, and of which this sample meets one: each number of the sample that the
-/// equations of every list fix, and the lists with these numbers put in. A list of more than 32 constraints fixes none.
-/// Where a number is put into a row and that overflows, no value is told and the lists are as they were.
+/// equations and the bounds that meet of every list fix, and the lists with these numbers put in. A list of more than 32
+/// constraints fixes none. Where a number is put into a row and that overflows, no value is told and the lists are as
+/// they were.
 pub fn tell(lists: ConLists, sample: &Terms) -> Result<Told, Memory>
     ensures told_values { IfOk result (λ t. t.values.items ≡ (telling lists (items sample.now)).values) }
     ensures told_lists { IfOk result (λ t. t.lists ≡ (telling lists (items sample.now)).lists) }

@@ -1,28 +1,76 @@
-//! The variables of a sample that the equations of lists fix.
+//! The variables of a sample that the equations and bounds of lists fix.
 ghost use Rattle.std.specs.Prelude.{◌≡◌, ◌++◌, IfOk, OnOk, map};
-ghost use Rattle.std.specs.List.{filter, list_all};
-ghost use Rattle.scasp_fixed.specs.Fixed.{fixing, gives, is_fixing, value_of, values_from};
+ghost use Rattle.std.specs.List.{filter, list_all, list_any};
+ghost use Rattle.scasp_fixed.specs.Fixed.{fixing, gives, is_bound, is_fixing, is_fixing_row, is_met_by, meets, value_of, values_from};
 ghost use Rattle.scasp_syntax.specs.View.{tm_of};
 
 use scasp_list::Memory;
-use scasp_num::Rat;
-use scasp_shorten::{MOST_CONSTRAINTS, follows, has_row_of};
+use scasp_num::{Op, Rat, Row};
+use scasp_shorten::{follows, has_row_of};
 use scasp_syntax::{Con, ConLists, Cons, DeepCopy, Term};
 use scasp_unify::Binding;
 use std::alloc::Global;
 
-/// Whether the constraint is a number test or an equation of numbers.
-fn is_fixing(constraint: &Con) -> bool
-    ensures { result ≡ is_fixing constraint.now }
+/// A list of more constraints fixes no variable.
+const MOST_CONSTRAINTS: usize = 32;
+
+/// Whether the row is `=<` with one variable.
+fn is_bound(row: &Row) -> bool
+    ensures { result ≡ is_bound row.now }
+{
+    row.op() == Op::Le && row.coeffs().as_slice().len() == 1
+}
+
+/// Whether the two bound the same variable by the same number, one from below and one from above.
+fn meets(p: &Row, q: &Row) -> Result<bool, Memory>
+    ensures { IfOk result (λ is. is ≡ meets p.now q.now) }
+{
+    Ok(is_bound(p) && is_bound(q) && p.negate()?.is_same(&q.compared(Op::Lt)?))
+}
+
+/// Whether the constraint is a bound that meets the row.
+fn is_met_by(row: &Row, constraint: &Con) -> Result<bool, Memory>
+    ensures { IfOk result (λ is. is ≡ is_met_by row.now constraint.now) }
 {
     match constraint {
-        Con::Num(_) => true,
-        Con::Row(row) => row.op().is_equation(),
-        Con::Eq(_, _) | Con::Neq(_, _) | Con::NotShape(_, _, _) | Con::NotNum(_) => false,
+        Con::Row(other) => meets(row, other),
+        Con::Eq(_, _) | Con::Neq(_, _) | Con::NotShape(_, _, _) | Con::Num(_) | Con::NotNum(_) => {
+            Ok(false)
+        }
     }
 }
 
-/// The number tests and equations of the list; none of a list that is too long.
+/// Whether one of the list is a bound that meets the row.
+fn is_met_by_one(list: &[Con], row: &Row) -> Result<bool, Memory>
+    ensures { IfOk result (λ is. is ≡ list_any (is_met_by row.now) list.now) }
+{
+    for constraint in list {
+        if is_met_by(row, constraint)? {
+            return Ok(true);
+        }
+    }
+    Ok(false)
+}
+
+/// Whether the row is an equation, or a bound that one of the list meets.
+fn is_fixing_row(list: &[Con], row: &Row) -> Result<bool, Memory>
+    ensures { IfOk result (λ is. is ≡ is_fixing_row list.now row.now) }
+{
+    Ok(row.op().is_equation() || is_met_by_one(list, row)?)
+}
+
+/// Whether the constraint is a number test, an equation of numbers, or a bound that one of the list meets.
+fn is_fixing(list: &[Con], constraint: &Con) -> Result<bool, Memory>
+    ensures { IfOk result (λ is. is ≡ is_fixing list.now constraint.now) }
+{
+    match constraint {
+        Con::Num(_) => Ok(true),
+        Con::Row(row) => is_fixing_row(list, row),
+        Con::Eq(_, _) | Con::Neq(_, _) | Con::NotShape(_, _, _) | Con::NotNum(_) => Ok(false),
+    }
+}
+
+/// The number tests, equations and bounds that meet of the list; none of a list that is too long.
 fn fixing(alloc: Global, list: &[Con]) -> Result<Cons, Memory>
     ensures { IfOk result (λ made. made ≡ fixing list.now) }
 {
@@ -31,14 +79,14 @@ fn fixing(alloc: Global, list: &[Con]) -> Result<Cons, Memory>
         return Ok(made);
     }
     for constraint in list {
-        if is_fixing(constraint) {
+        if is_fixing(list, constraint)? {
             made.push(constraint.copy(alloc)?)?;
         }
     }
     Ok(made)
 }
 
-/// The number tests and equations of each of the lists.
+/// What fixes variables of each of the lists.
 pub(crate) fn fixing_of_each(alloc: Global, lists: &[Cons]) -> Result<ConLists, Memory>
     ensures { IfOk result (λ made. made ≡ map fixing lists.now) }
 {
@@ -49,7 +97,7 @@ pub(crate) fn fixing_of_each(alloc: Global, lists: &[Cons]) -> Result<ConLists, 
     Ok(made)
 }
 
-/// Whether the number tests and equations give the variable this number.
+/// Whether these number tests and rows give the variable this number.
 fn gives(alloc: Global, list: &[Con], x: u64, value: &Rat) -> Result<bool, Memory>
     ensures { IfOk result (λ is. is ≡ gives list.now x value.now) }
 {
@@ -95,7 +143,7 @@ fn push_value(
     }
 }
 
-/// The values of the sample that each of the lists of number tests and equations gives.
+/// The values of the sample that each of these lists of number tests and rows gives.
 pub(crate) fn values_of(
     alloc: Global,
     lists: &[Cons],
