@@ -3,7 +3,7 @@ use Rattle.std.proofs.Common.{◌≡◌, ℕ, nat_eq, Bool, true, false, not, �
 use Rattle.std.specs.Prelude.{if◌then◌else◌, ℤ, Result, Ok, Err}
 use Rattle.std.specs.List.{list_all, list_any}
 use Rattle.std.proofs.lemmas.Bool.{and_from, and_parts, true≢false}
-use Rattle.scasp_checker_rules.specs.LineFaults.{fact}
+use Rattle.scasp_lines.specs.Dues.{fact}
 use Rattle.scasp_checker_rules.specs.SameConstraint.{same_con}
 use Rattle.scasp_checker_rules.proofs.TestLemmas.{fact_decided}
 use Rattle.scasp_hint.specs.AskedRows.{RowsNormal}
