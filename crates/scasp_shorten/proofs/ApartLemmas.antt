@@ -11,7 +11,7 @@ use Rattle.scasp_syntax.specs.declared.con.Con.{Con}
 use Rattle.scasp_hint.specs.AskedRows.{RowsNormal}
 use Rattle.scasp_shorten.specs.Evident.{is_evident}
 use Rattle.scasp_shorten.specs.Following.{follows, questions}
-use Rattle.scasp_shorten.specs.Shortest.{in_order, is_closed, is_empty, is_within_one, left_open, most_questions, shortened, shortest, shortest_list, single, tells_early, thinned, uncontained, without_evident, without_tests}
+use Rattle.scasp_shorten.specs.Shortest.{in_order, is_closed, is_empty, is_within_one, left_open, most_questions, shortened, shortest, shortest_list, single, tells_early, thinned, thinned_behind, uncontained, without_evident, without_tests}
 use Rattle.scasp_shorten.specs.Told.{tells, tells_all, tells_one}
 use Rattle.scasp_shorten.specs.declared.shortening.Means.TheVariants as means
 use Rattle.scasp_shorten.proofs.EvidentLemmas.{evident-told}
@@ -22,19 +22,29 @@ use Rattle.scasp_shorten.proofs.ShorteningLemmas.{shortened-each, shortened-told
 
 -- ---- one list
 
-thinned-each : (P : Con → Type 0) (cs : List Con) → Each P cs → Each P (thinned cs)
-thinned-each P cs a = by (nat_lt most_questions (questions cs)) refl
+behind-each : (P : Con → Type 0) (before cs : List Con) → Each P before → Each P cs → Each P (thinned_behind before cs)
+behind-each P before [] a h = a
+behind-each P before (c ∷ cs) a h = by (nat_lt most_questions (questions (c ∷ cs))) refl (behind-each P (before ++ c ∷ []) cs (Each-append P before (c ∷ []) a (h.0, tt)) h.1)
   where
-    by : (b : Bool) → nat_lt most_questions (questions cs) ≡ b → Each P (thinned cs)
-    by true p = subst (λ (b : Bool). Each P (if b then cs else shortened means.Question [] cs)) (sym p) a
-    by false p = subst (λ (b : Bool). Each P (if b then cs else shortened means.Question [] cs)) (sym p) (shortened-each P means.Question [] cs tt a)
+    by : (b : Bool) → nat_lt most_questions (questions (c ∷ cs)) ≡ b → Each P (thinned_behind (before ++ c ∷ []) cs) → Each P (thinned_behind before (c ∷ cs))
+    by true p more = subst (λ (b : Bool). Each P (if b then thinned_behind (before ++ c ∷ []) cs else shortened means.Question before (c ∷ cs))) (sym p) more
+    by false p more = subst (λ (b : Bool). Each P (if b then thinned_behind (before ++ c ∷ []) cs else shortened means.Question before (c ∷ cs))) (sym p) (shortened-each P means.Question before (c ∷ cs) a h)
 
-thinned-told : (cs : List Con) (v : Valuation) → RowsNormal cs → tells_all v.of (thinned cs) ≡ tells_all v.of cs
-thinned-told cs v n = by (nat_lt most_questions (questions cs)) refl
+behind-told : (before cs : List Con) (v : Valuation) → RowsNormal (before ++ cs) → tells_all v.of (thinned_behind before cs) ≡ tells_all v.of (before ++ cs)
+behind-told before [] v n = ap (tells_all v.of) (sym (append-nil before))
+behind-told before (c ∷ cs) v n = by (nat_lt most_questions (questions (c ∷ cs))) refl (behind-told (before ++ c ∷ []) cs v)
   where
-    by : (b : Bool) → nat_lt most_questions (questions cs) ≡ b → tells_all v.of (thinned cs) ≡ tells_all v.of cs
-    by true p = ap (λ b. tells_all v.of (if b then cs else shortened means.Question [] cs)) p
-    by false p = ap (λ b. tells_all v.of (if b then cs else shortened means.Question [] cs)) p ∙ shortened-told means.Question [] cs v n
+    step : Bool → Bool
+    step b = tells_all v.of (if b then thinned_behind (before ++ c ∷ []) cs else shortened means.Question before (c ∷ cs))
+
+    by : (b : Bool) → nat_lt most_questions (questions (c ∷ cs)) ≡ b
+        → (RowsNormal ((before ++ c ∷ []) ++ cs) → tells_all v.of (thinned_behind (before ++ c ∷ []) cs) ≡ tells_all v.of ((before ++ c ∷ []) ++ cs))
+        → tells_all v.of (thinned_behind before (c ∷ cs)) ≡ tells_all v.of (before ++ c ∷ cs)
+    by true p more =
+        ap step p
+        ∙ more (subst (λ (ds : List Con). RowsNormal ds) (sym (append_assoc before (c ∷ []) cs)) n)
+        ∙ ap (tells_all v.of) (append_assoc before (c ∷ []) cs)
+    by false p more = ap step p ∙ shortened-told means.Question before (c ∷ cs) v n
 
 evident-each : (P : Con → Type 0) (cs : List Con) → Each P cs → Each P (without_evident cs)
 evident-each P cs a = shortened-each P means.Evidence [] cs tt a
@@ -43,14 +53,14 @@ pub list-told : (cs : List Con) (v : Valuation) → RowsNormal cs → tells_all 
 list-told cs v n =
     order-told v.of (without_tests (thinned (without_evident cs)))
     ∙ without-told v.of (thinned (without_evident cs))
-    ∙ thinned-told (without_evident cs) v (normal-each (without_evident cs) (evident-each IsNormalCon cs (each-normal cs n)))
+    ∙ behind-told [] (without_evident cs) v (normal-each (without_evident cs) (evident-each IsNormalCon cs (each-normal cs n)))
     ∙ shortened-told means.Evidence [] cs v n
 
 list-normal : (cs : List Con) → RowsNormal cs → RowsNormal (shortest_list cs)
 list-normal cs n =
     normal-each (shortest_list cs)
     (order-each IsNormalCon (without_tests (thinned (without_evident cs)))
-    (without-each IsNormalCon (thinned (without_evident cs)) (thinned-each IsNormalCon (without_evident cs) (evident-each IsNormalCon cs (each-normal cs n)))))
+    (without-each IsNormalCon (thinned (without_evident cs)) (behind-each IsNormalCon [] (without_evident cs) tt (evident-each IsNormalCon cs (each-normal cs n)))))
 
 -- ---- a list within another one
 

@@ -30,7 +30,7 @@ use Rattle.scasp_unify.proofs.PointLemmas.{negation-is}
 use Rattle.scasp_unify.proofs.SortedLemmas.{negation-added, one-more}
 use Rattle.scasp_shorten.specs.Following.{follows, has_negation, is_asked, is_row_of, is_shown, is_test_of, is_variable, questions, tells_number}
 use Rattle.scasp_shorten.specs.Needed.{EachNeeded, IsNeeded, OverflowsAt, Says}
-use Rattle.scasp_shorten.specs.Shortest.{is_test, is_told, most_questions, shortened, thinned, without_evident}
+use Rattle.scasp_shorten.specs.Shortest.{is_test, is_told, most_questions, shortened, thinned, thinned_behind, without_evident}
 use Rattle.scasp_shorten.specs.declared.shortening.Means.{Means}
 use Rattle.scasp_shorten.specs.declared.shortening.Means.TheVariants as means
 use Rattle.scasp_shorten.specs.Told.{are_rows_tested, is_tested, tells, tells_all}
@@ -301,9 +301,10 @@ shortened-plain m before (c ∷ rest) k = by (not (is_test c) && is_told m (befo
         (stays (subst IsPlainList (sym (append_assoc before (c ∷ []) rest)) k))
 
 all-needed : (cs : List Con) → IsPlainList cs → nat_lt most_questions (questions cs) ≡ false → EachNeeded [] (thinned cs)
-all-needed cs k e =
-    subst (λ (b : Bool). EachNeeded [] (if b then cs else shortened means.Question [] cs)) (sym e)
-    (subst (EachNeeded []) (sym (shortened-kept [] cs)) (each-needed [] cs k))
+all-needed [] k e = tt
+all-needed (c ∷ cs) k e =
+    subst (λ (b : Bool). EachNeeded [] (if b then thinned_behind (c ∷ []) cs else shortened means.Question [] (c ∷ cs))) (sym e)
+    (subst (EachNeeded []) (sym (shortened-kept [] (c ∷ cs))) (each-needed [] (c ∷ cs) k))
 
 pub stays-needed : (cs : List Con) → RowsNormal cs → Each IsNoEquation cs → are_rows_tested cs ≡ true → nat_lt most_questions (questions (without_evident cs)) ≡ false → EachNeeded [] (thinned (without_evident cs))
 stays-needed cs n p t e = all-needed (without_evident cs) (shortened-plain means.Evidence [] cs (record { normal = n; plain = p; tested = t })) e

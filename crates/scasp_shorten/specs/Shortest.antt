@@ -43,9 +43,14 @@ without_evident cs = shortened means.Evidence [] cs
 abbrev pub most_questions : ℕ
 most_questions = 8
 
--- without what questions show that the rest tells; none is asked of a list that is worth too many
+-- what stays of the list behind these: of the last that so many questions serve for, no constraint that the rest tells, as
+-- is asked; all that stand before them
+abbrev pub thinned_behind : List Con → List Con → List Con
+thinned_behind before [] = before
+thinned_behind before (c ∷ rest) = if nat_lt most_questions (questions (c ∷ rest)) then thinned_behind (before ++ c ∷ []) rest else shortened means.Question before (c ∷ rest)
+
 abbrev pub thinned : List Con → List Con
-thinned cs = if nat_lt most_questions (questions cs) then cs else shortened means.Question [] cs
+thinned cs = thinned_behind [] cs
 
 -- it is a number test of a number, or of a variable that some row of the list has
 abbrev pub is_told_by_rows : List Con → Con → Bool

@@ -20,7 +20,7 @@ fn shortest_list(alloc: Global, list: &[Con]) -> Result<Cons, Memory>
     ensures { IfOk result (λ made. made ≡ shortest_list list.now) }
 {
     let open = without_evident(alloc, list)?;
-    let short = thinned(alloc, open)?;
+    let short = thinned(alloc, open.as_slice())?;
     let told = without_tests(alloc, short.as_slice())?;
     in_order(alloc, told.as_slice())
 }

@@ -62,12 +62,12 @@ fn is_needless(
     is_told(alloc, means, others.as_slice(), constraint)
 }
 
-/// What stays of the list: no constraint, but for number tests, that those which stay before it and all behind it
-/// tell, as is seen by these means.
-fn shortened(alloc: Global, means: Means, list: &[Con]) -> Result<Cons, Memory>
-    ensures { IfOk result (λ made. made ≡ shortened means [] list.now) }
+/// What stays of the list behind the first ones: no constraint, but for number tests, that those which stay before it and
+/// all behind it tell, as is seen by these means.
+fn shortened(alloc: Global, means: Means, first: Cons, list: &[Con]) -> Result<Cons, Memory>
+    ensures { IfOk result (λ made. made ≡ shortened means first list.now) }
 {
-    let mut before = Cons::new(alloc);
+    let mut before = first;
     let mut left = list;
     while let Some((constraint, behind)) = left.split_first() {
         if !is_needless(alloc, means, before.as_slice(), behind, constraint)? {
@@ -82,17 +82,24 @@ fn shortened(alloc: Global, means: Means, list: &[Con]) -> Result<Cons, Memory>
 pub(crate) fn without_evident(alloc: Global, list: &[Con]) -> Result<Cons, Memory>
     ensures { IfOk result (λ made. made ≡ without_evident list.now) }
 {
-    shortened(alloc, Means::Evidence, list)
+    shortened(alloc, Means::Evidence, Cons::new(alloc), list)
 }
 
-/// The list without what questions show that the rest tells. None is asked of a list that is worth too many.
-pub(crate) fn thinned(alloc: Global, list: Cons) -> Result<Cons, Memory>
-    ensures { IfOk result (λ made. made ≡ thinned list) }
+/// The list without what questions show that the rest tells. Of a list that is worth too many they are asked about the
+/// last constraints.
+pub(crate) fn thinned(alloc: Global, list: &[Con]) -> Result<Cons, Memory>
+    ensures { IfOk result (λ made. made ≡ thinned list.now) }
 {
-    if questions(list.as_slice()) > MOST_QUESTIONS {
-        return Ok(list);
+    let mut before = Cons::new(alloc);
+    let mut left = list;
+    while let Some((constraint, behind)) = left.split_first() {
+        if questions(left) <= MOST_QUESTIONS {
+            return shortened(alloc, Means::Question, before, left);
+        }
+        before.push(constraint.copy(alloc)?)?;
+        left = behind;
     }
-    shortened(alloc, Means::Question, list.as_slice())
+    Ok(before)
 }
 
 /// Whether the constraint is the number test of a number, or of a variable that some row of the list has.
