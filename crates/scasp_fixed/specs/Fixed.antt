@@ -1,10 +1,11 @@
--- The variables that the equations and bounds of lists fix to a number, and the lists with these numbers put in.
-use Rattle.std.specs.Prelude.{ℕ, ◌+◌, ◌==◌, nat_lt, Bool, true, false, ◌&&◌, ◌||◌, not, if◌then◌else◌, is_some, List, [], ◌∷◌, ◌++◌, filter, map, length}
+-- The variables that the rows of lists fix to a number, and the lists with these numbers put in.
+use Rattle.std.specs.Prelude.{ℕ, ◌+◌, ◌==◌, nat_lt, Bool, true, false, ◌&&◌, ◌||◌, not, if◌then◌else◌, is_some, Option, None, Some, List, [], ◌∷◌, ◌++◌, filter, map, length}
 use Rattle.std.specs.List.{list_all, list_any}
-use Rattle.scasp_num.specs.Linear.{Linear, is_equation, negation}
+use Rattle.scasp_num.specs.Linear.{Linear, is_equation, is_zero}
 use Rattle.scasp_num.specs.Number.{Number}
-use Rattle.scasp_num.specs.SameRow.{same_op, same_row}
+use Rattle.scasp_num.specs.SameRow.{same_op}
 use Rattle.scasp_num.specs.declared.linear.Op.TheVariants as op
+use Rattle.scasp_rows.specs.Points.{is_constant}
 use Rattle.scasp_search_rules.specs.Successors.Reading.{con_under}
 use Rattle.scasp_shorten.specs.Following.{follows, is_row_of}
 use Rattle.scasp_syntax.specs.Tm.{Tm, var, num, app}
@@ -18,45 +19,42 @@ use Rattle.scasp_unify.specs.declared.bindings.Binding.{Binding}
 
 -- ---- what fixes a variable
 
--- it is a row `=<` with one variable
-abbrev pub is_bound : Linear → Bool
-is_bound r = same_op r.op op.Le && length r.coeffs == 1
+-- the number of a sample's term, as that of the variable x
+abbrev pub number_at : ℕ → Tm → List Binding
+number_at x (num q) = record { x = x; term = term.Num q } ∷ []
+number_at x (var y) = []
+number_at x (app f ts) = []
 
--- the row says `<` in place of `=<`
-abbrev pub strict : Linear → Linear
-strict r = record { coeffs = r.coeffs; constant = r.constant; op = op.Lt }
+-- the numbers of a sample, whose first term is that of x
+abbrev pub numbers_from : ℕ → List Tm → List Binding
+numbers_from x [] = []
+numbers_from x (t ∷ ts) = number_at x t ++ numbers_from (x + 1) ts
 
--- the two bound the same variable by the same number, one from below and one from above
-abbrev pub meets : Linear → Linear → Bool
-meets p q = is_bound p && (is_bound q && same_row (negation p) (strict q))
+-- the row without variables compares 0 with 0
+abbrev pub is_zero_row : Option Linear → Bool
+is_zero_row None = false
+is_zero_row (Some r) = is_constant r && is_zero r.constant
 
-abbrev pub is_met_by : Linear → Con → Bool
-is_met_by r (con.Row q) = meets r q
-is_met_by r (con.Eq t u) = false
-is_met_by r (con.Neq t u) = false
-is_met_by r (con.NotShape x f n) = false
-is_met_by r (con.Num t) = false
-is_met_by r (con.NotNum t) = false
+-- the row is `=<`, and with these numbers both sides are equal
+abbrev pub is_tight : List Binding → Linear → Bool
+is_tight ns r = same_op r.op op.Le && is_zero_row (resolved_row (sub_of ns) r)
 
--- a row fixes, if it is an equation or a bound that one of the list meets
-abbrev pub is_fixing_row : List Con → Linear → Bool
-is_fixing_row cs r = is_equation r.op || list_any (is_met_by r) cs
-
-abbrev pub is_fixing : List Con → Con → Bool
-is_fixing cs (con.Num t) = true
-is_fixing cs (con.Row r) = is_fixing_row cs r
-is_fixing cs (con.Eq t u) = false
-is_fixing cs (con.Neq t u) = false
-is_fixing cs (con.NotShape x f n) = false
-is_fixing cs (con.NotNum t) = false
+-- a number test, an equation, or a row that is tight with these numbers
+abbrev pub is_fixing : List Binding → Con → Bool
+is_fixing ns (con.Num t) = true
+is_fixing ns (con.Row r) = is_equation r.op || is_tight ns r
+is_fixing ns (con.Eq t u) = false
+is_fixing ns (con.Neq t u) = false
+is_fixing ns (con.NotShape x f n) = false
+is_fixing ns (con.NotNum t) = false
 
 -- a list of more constraints fixes no variable
 abbrev pub most_constraints : ℕ
 most_constraints = 32
 
--- the number tests, equations and bounds that meet of a list; none of a list that is too long
-abbrev pub fixing : List Con → List Con
-fixing cs = if nat_lt most_constraints (length cs) then [] else filter (is_fixing cs) cs
+-- the number tests, equations and tight rows of a list; none of a list that is too long
+abbrev pub fixing : List Binding → List Con → List Con
+fixing ns cs = if nat_lt most_constraints (length cs) then [] else filter (is_fixing ns) cs
 
 -- they give a variable this number, if one of their rows has it
 abbrev pub gives_by : Bool → List Con → ℕ → Number → Bool
@@ -77,6 +75,10 @@ value_of lists x (app f ts) = []
 abbrev pub values_from : List (List Con) → ℕ → List Tm → List Binding
 values_from lists x [] = []
 values_from lists x (t ∷ ts) = value_of lists x t ++ values_from lists (x + 1) ts
+
+-- the numbers of a sample that what fixes in each of the lists gives
+abbrev pub values_found : List (List Con) → List Tm → List Binding
+values_found lists sample = values_from (map (fixing (numbers_from 0 sample)) lists) 0 sample
 
 -- ---- what is told
 
@@ -105,4 +107,4 @@ telling_by vs lists =
 
 -- what is told of lists of which one holds, and of which a sample meets one
 abbrev pub telling : List (List Con) → List Tm → Telling
-telling lists sample = telling_by (values_from (map fixing lists) 0 sample) lists
+telling lists sample = telling_by (values_found lists sample) lists

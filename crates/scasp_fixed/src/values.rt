@@ -1,85 +1,96 @@
-//! The variables of a sample that the equations and bounds of lists fix.
-ghost use Rattle.std.specs.Prelude.{◌≡◌, ◌++◌, IfOk, OnOk, map};
-ghost use Rattle.std.specs.List.{filter, list_all, list_any};
-ghost use Rattle.scasp_fixed.specs.Fixed.{fixing, gives, is_bound, is_fixing, is_fixing_row, is_met_by, meets, value_of, values_from};
+//! The variables of a sample that the rows of lists fix.
+ghost use Rattle.std.specs.Prelude.{◌≡◌, ◌++◌, IfOk, OnOk, Some, map};
+ghost use Rattle.std.specs.List.{filter, list_all};
+ghost use Rattle.scasp_fixed.specs.Fixed.{fixing, gives, is_fixing, is_tight, is_zero_row, number_at, numbers_from, value_of, values_found, values_from};
 ghost use Rattle.scasp_syntax.specs.View.{tm_of};
+ghost use Rattle.scasp_unify.specs.ResolvedRows.{resolved_row};
+ghost use Rattle.scasp_unify.specs.Solving.{sub_of};
 
 use scasp_list::Memory;
-use scasp_num::{Op, Rat, Row};
+use scasp_num::{Op, Rat, Row, RowErr};
 use scasp_shorten::{follows, has_row_of};
 use scasp_syntax::{Con, ConLists, Cons, DeepCopy, Term};
-use scasp_unify::Binding;
+use scasp_unify::{Binding, resolved_row};
 use std::alloc::Global;
 
 /// A list of more constraints fixes no variable.
 const MOST_CONSTRAINTS: usize = 32;
 
-/// Whether the row is `=<` with one variable.
-fn is_bound(row: &Row) -> bool
-    ensures { result ≡ is_bound row.now }
+/// Puts the number of a sample's term, as that of the variable, behind the others.
+fn push_number(x: u64, term: &Term, numbers: &mut Vec<Binding>) -> Result<(), Memory>
+    ensures { OnOk result (numbers.new.items ≡ numbers.old.items ++ number_at x (tm_of term.now)) }
 {
-    row.op() == Op::Le && row.coeffs().as_slice().len() == 1
-}
-
-/// Whether the two bound the same variable by the same number, one from below and one from above.
-fn meets(p: &Row, q: &Row) -> Result<bool, Memory>
-    ensures { IfOk result (λ is. is ≡ meets p.now q.now) }
-{
-    Ok(is_bound(p) && is_bound(q) && p.negate()?.is_same(&q.compared(Op::Lt)?))
-}
-
-/// Whether the constraint is a bound that meets the row.
-fn is_met_by(row: &Row, constraint: &Con) -> Result<bool, Memory>
-    ensures { IfOk result (λ is. is ≡ is_met_by row.now constraint.now) }
-{
-    match constraint {
-        Con::Row(other) => meets(row, other),
-        Con::Eq(_, _) | Con::Neq(_, _) | Con::NotShape(_, _, _) | Con::Num(_) | Con::NotNum(_) => {
-            Ok(false)
+    match term {
+        Term::Num(value) => {
+            numbers.push(Binding {
+                x,
+                term: Term::Num(*value),
+            })?;
+            Ok(())
         }
+        Term::Var(_) | Term::App(_, _) => Ok(()),
     }
 }
 
-/// Whether one of the list is a bound that meets the row.
-fn is_met_by_one(list: &[Con], row: &Row) -> Result<bool, Memory>
-    ensures { IfOk result (λ is. is ≡ list_any (is_met_by row.now) list.now) }
+/// The numbers of the sample.
+fn numbers_of(alloc: Global, sample: &[Term]) -> Result<Vec<Binding>, Memory>
+    ensures { IfOk result (λ numbers. numbers.items ≡ numbers_from 0 (map tm_of sample.now)) }
 {
-    for constraint in list {
-        if is_met_by(row, constraint)? {
-            return Ok(true);
-        }
+    let mut numbers = Vec::new(alloc);
+    let mut x = 0u64;
+    for term in sample {
+        push_number(x, term, &mut numbers)?;
+        x = x.checked_add(1).ok_or(Memory)?;
     }
-    Ok(false)
+    Ok(numbers)
 }
 
-/// Whether the row is an equation, or a bound that one of the list meets.
-fn is_fixing_row(list: &[Con], row: &Row) -> Result<bool, Memory>
-    ensures { IfOk result (λ is. is ≡ is_fixing_row list.now row.now) }
+/// Whether the row without variables compares 0 with 0.
+fn is_zero_row(row: &Row) -> bool
+    ensures { result ≡ is_zero_row (Some row.now) }
 {
-    Ok(row.op().is_equation() || is_met_by_one(list, row)?)
+    row.coeffs().as_slice().is_empty() && row.constant() == 0
 }
 
-/// Whether the constraint is a number test, an equation of numbers, or a bound that one of the list meets.
-fn is_fixing(list: &[Con], constraint: &Con) -> Result<bool, Memory>
-    ensures { IfOk result (λ is. is ≡ is_fixing list.now constraint.now) }
+/// Whether both sides of the row are equal with these numbers. They are not told to be where that overflows.
+fn is_equal(alloc: Global, numbers: &[Binding], row: &Row) -> Result<bool, Memory>
+    ensures { IfOk result (λ is. is ≡ is_zero_row (resolved_row (sub_of numbers.now) row.now)) }
+{
+    match resolved_row(alloc, row, numbers) {
+        Ok(resolved) => Ok(is_zero_row(&resolved)),
+        Err(RowErr::Overflow) => Ok(false),
+        Err(RowErr::Memory) => Err(Memory),
+    }
+}
+
+/// Whether the row is `=<`, and both sides are equal with these numbers.
+fn is_tight(alloc: Global, numbers: &[Binding], row: &Row) -> Result<bool, Memory>
+    ensures { IfOk result (λ is. is ≡ is_tight numbers.now row.now) }
+{
+    Ok(row.op() == Op::Le && is_equal(alloc, numbers, row)?)
+}
+
+/// Whether the constraint is a number test, an equation of numbers, or a row that is tight with these numbers.
+fn is_fixing(alloc: Global, numbers: &[Binding], constraint: &Con) -> Result<bool, Memory>
+    ensures { IfOk result (λ is. is ≡ is_fixing numbers.now constraint.now) }
 {
     match constraint {
         Con::Num(_) => Ok(true),
-        Con::Row(row) => is_fixing_row(list, row),
+        Con::Row(row) => Ok(row.op().is_equation() || is_tight(alloc, numbers, row)?),
         Con::Eq(_, _) | Con::Neq(_, _) | Con::NotShape(_, _, _) | Con::NotNum(_) => Ok(false),
     }
 }
 
-/// The number tests, equations and bounds that meet of the list; none of a list that is too long.
-fn fixing(alloc: Global, list: &[Con]) -> Result<Cons, Memory>
-    ensures { IfOk result (λ made. made ≡ fixing list.now) }
+/// The number tests, equations and tight rows of the list; none of a list that is too long.
+fn fixing(alloc: Global, numbers: &[Binding], list: &[Con]) -> Result<Cons, Memory>
+    ensures { IfOk result (λ made. made ≡ fixing numbers.now list.now) }
 {
     let mut made = Cons::new(alloc);
     if list.len() > MOST_CONSTRAINTS {
         return Ok(made);
     }
     for constraint in list {
-        if is_fixing(list, constraint)? {
+        if is_fixing(alloc, numbers, constraint)? {
             made.push(constraint.copy(alloc)?)?;
         }
     }
@@ -87,12 +98,12 @@ fn fixing(alloc: Global, list: &[Con]) -> Result<Cons, Memory>
 }
 
 /// What fixes variables of each of the lists.
-pub(crate) fn fixing_of_each(alloc: Global, lists: &[Cons]) -> Result<ConLists, Memory>
-    ensures { IfOk result (λ made. made ≡ map fixing lists.now) }
+fn fixing_of_each(alloc: Global, numbers: &[Binding], lists: &[Cons]) -> Result<ConLists, Memory>
+    ensures { IfOk result (λ made. made ≡ map (fixing numbers.now) lists.now) }
 {
     let mut made = ConLists::new(alloc);
     for list in lists {
-        made.push(fixing(alloc, list.as_slice())?)?;
+        made.push(fixing(alloc, numbers, list.as_slice())?)?;
     }
     Ok(made)
 }
@@ -144,11 +155,7 @@ fn push_value(
 }
 
 /// The values of the sample that each of these lists of number tests and rows gives.
-pub(crate) fn values_of(
-    alloc: Global,
-    lists: &[Cons],
-    sample: &[Term],
-) -> Result<Vec<Binding>, Memory>
+fn values_of(alloc: Global, lists: &[Cons], sample: &[Term]) -> Result<Vec<Binding>, Memory>
     ensures { IfOk result (λ values. values.items ≡ values_from lists.now 0 (map tm_of sample.now)) }
 {
     let mut values = Vec::new(alloc);
@@ -158,4 +165,17 @@ pub(crate) fn values_of(
         x = x.checked_add(1).ok_or(Memory)?;
     }
     Ok(values)
+}
+
+/// The numbers of the sample that what fixes in each of the lists gives.
+pub(crate) fn values_found(
+    alloc: Global,
+    lists: &[Cons],
+    sample: &[Term],
+) -> Result<Vec<Binding>, Memory>
+    ensures { IfOk result (λ values. values.items ≡ values_found lists.now (map tm_of sample.now)) }
+{
+    let numbers = numbers_of(alloc, sample)?;
+    let fixing = fixing_of_each(alloc, numbers.as_slice(), lists)?;
+    values_of(alloc, fixing.as_slice(), sample)
 }
