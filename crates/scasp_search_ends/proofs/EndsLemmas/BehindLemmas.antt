@@ -1,6 +1,7 @@
 -- Literals that are found under keys.
-use Rattle.std.proofs.Common.{◌≡◌, ◌∙◌, ⊥, ℕ, Err, Bool, true, false, ◌&&◌, ◌||◌, not, nat_eq, cond, if◌then◌else◌, List, [], ◌∷◌, ◌++◌, map, Option, None, Some, refl, ap, sym, subst, append_assoc}
+use Rattle.std.proofs.Common.{◌≡◌, ◌∙◌, ℕ, Result, Ok, Err, Bool, true, false, ◌&&◌, ◌||◌, not, nat_eq, cond, if◌then◌else◌, List, [], ◌∷◌, ◌++◌, map, Option, None, Some, refl, ap, sym, subst, append_assoc}
 use Rattle.std.specs.Prelude.{filter}
+use Rattle.std.specs.Bool.{beq}
 use Rattle.std.specs.Borrow.{Bor}
 use Rattle.std.specs.List.{list_all, list_any}
 use Rattle.std.proofs.lemmas.Bool.{and_parts, cond-true, cond-false, or_cases}
@@ -24,6 +25,8 @@ use Rattle.scasp_search_ends.proofs.EndsLemmas.ClashLemmas.{marks-clash, pair-fa
 use Rattle.scasp_search_ends.proofs.EndsLemmas.PairLemmas.{pairs-first}
 use Rattle.scasp_search_ends.specs.Ends.Inside.Apart.{all_fail, lists_behind, pairs_of}
 use Rattle.scasp_search_ends.specs.Ends.Inside.Behind.{all_key, is_under, key_of, mark, own_key, same_key, same_sought, sought_of, told_in, told_or_none}
+use Rattle.scasp_search_ends.specs.contracts.ends.behind.KeyPartialEq.TheImpl.{eq-value as key-eq}
+use Rattle.scasp_search_ends.specs.contracts.ends.behind.SoughtPartialEq.TheImpl.{eq-value as sought-eq}
 use Rattle.scasp_search_ends.specs.declared.ends.behind.Key.{Key}
 use Rattle.scasp_search_ends.specs.declared.ends.behind.Sought.{Sought}
 use Rattle.scasp_search_ends.specs.declared.ends.behind.Sought.TheVariants as sought
@@ -33,6 +36,34 @@ use Rattle.scasp_syntax.specs.declared.con.Con.{Con}
 use Rattle.scasp_unify.proofs.Members.{or-left, or-right}
 
 -- ---- keys
+
+bool-same : (a b : Bool) → beq a b ≡ same_bool a b
+bool-same true true = refl
+bool-same true false = refl
+bool-same false true = refl
+bool-same false false = refl
+
+sought-same : (s t : Sought) → sought-eq.it s t ≡ same_sought s t
+sought-same sought.All sought.All = refl
+sought-same sought.All sought.Open = refl
+sought-same sought.All (sought.Marked n) = refl
+sought-same sought.Open sought.All = refl
+sought-same sought.Open sought.Open = refl
+sought-same sought.Open (sought.Marked n) = refl
+sought-same (sought.Marked m) sought.All = refl
+sought-same (sought.Marked m) sought.Open = refl
+sought-same (sought.Marked m) (sought.Marked n) = refl
+
+-- the derived test of equality
+key-same : (k j : Key) → key-eq.it k j ≡ same_key k j
+key-same k j =
+    let p = eq-is k.pred j.pred in
+    let s = bool-same k.positive j.positive in
+    let c = sought-same k.sought j.sought in
+    λ i. p i && (s i && c i)
+
+pub same-keys : key-eq.it ≡ same_key
+same-keys = λ i. λ k j. key-same k j i
 
 sought-is : (s t : Sought) → same_sought s t ≡ true → s ≡ t
 sought-is sought.All sought.All e = refl
@@ -109,10 +140,10 @@ found-more t ts f g h first second found k = by (same_key (all_key t) k) (same_k
 -- ---- the literals that make a pair with one, and are found
 
 module _ (free : ℕ) (given : List Con) (a : Told) where
-  list_of : Told → List Con
+  abbrev pub list_of : Told → List Con
   list_of = pair_list free given a
 
-  behind : List Told → List (List Con)
+  abbrev pub behind : List Told → List (List Con)
   behind = lists_behind free given a
 
   paired : (b : Told) (ts : List Told) → is_pair a b ≡ true → behind (b ∷ ts) ≡ list_of b ∷ behind ts
@@ -192,10 +223,10 @@ module _ (free : ℕ) (given : List Con) (a : Told) where
 
   -- those with another mark are apart
   module _ (m : ℕ) (marked : Some m ≡ mark a.atom.args) where
-    mine : Told → Bool
+    abbrev pub mine : Told → Bool
     mine = is_under (key_of a (not a.positive) (sought.Marked m))
 
-    unmarked : Told → Bool
+    abbrev pub unmarked : Told → Bool
     unmarked = is_under (key_of a (not a.positive) sought.Open)
 
     pub marked-found : (ts : List Told) → (all_fail (behind (filter mine ts)) && all_fail (behind (filter unmarked ts))) ≡ all_fail (behind ts)
@@ -240,6 +271,27 @@ module _ (free : ℕ) (given : List Con) (a : Told) where
         by true p rest = pair p (mark b.atom.args) refl rest
         by false p rest =
             (λ i. all_fail (other mine b ts p i) && all_fail (other unmarked b ts p i)) ∙ rest ∙ sym (ap all_fail (unpaired b ts p))
+
+    -- how it is told whether the marked ones and the unmarked ones are apart
+    pub marked-met : (xs ts : List Told) → xs ≡ filter mine ts → false ≡ all_fail (behind xs) → false ≡ all_fail (behind ts)
+    marked-met xs ts h e =
+        sym (ap (λ w. w && all_fail (behind (filter unmarked ts))) (sym (e ∙ ap (λ ys. all_fail (behind ys)) h))) ∙ marked-found ts
+
+    pub marked-rest : (r : Result Bool SearchErr) (xs ys ts : List Told) → xs ≡ filter mine ts → ys ≡ filter unmarked ts → true ≡ all_fail (behind xs)
+        → Gives r (all_fail (behind ys)) (behind ys) → Gives r (all_fail (behind ts)) (behind ts)
+    marked-rest (Ok v) xs ys ts h k e g =
+        g ∙ ap (λ zs. all_fail (behind zs)) k ∙ ap (λ w. w && all_fail (behind (filter unmarked ts))) (e ∙ ap (λ zs. all_fail (behind zs)) h) ∙ marked-found ts
+    marked-rest (Err errors.Overflow) xs ys ts h k e g = overflow-found unmarked ts (sym (ap (λ zs. list_any overflows_in (behind zs)) k) ∙ g)
+    marked-rest (Err errors.Memory) xs ys ts h k e g = tt
+
+  pub found-fault : (t : Told → Bool) (e : SearchErr) (x y : Bool) (xs ts : List Told) → xs ≡ filter t ts → Gives (Err e) x (behind xs) → Gives (Err e) y (behind ts)
+  found-fault t errors.Overflow x y xs ts h g = overflow-found t ts (sym (ap (λ zs. list_any overflows_in (behind zs)) h) ∙ g)
+  found-fault t errors.Memory x y xs ts h g = tt
+
+  pub all-given : (r : Result Bool SearchErr) (xs ts : List Told) → xs ≡ filter (is_under (key_of a (not a.positive) sought.All)) ts
+      → Gives r (all_fail (behind xs)) (behind xs) → Gives r (all_fail (behind ts)) (behind ts)
+  all-given r xs ts h g =
+      subst (λ ls. Gives r (all_fail ls) ls) (all-found ts) (subst (λ ys. Gives r (all_fail (behind ys)) (behind ys)) h g)
 
 -- ---- all pairs, from the last literal back
 

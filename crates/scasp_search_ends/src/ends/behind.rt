@@ -96,7 +96,8 @@ fn put_under<'a>(
 ) -> Result<(), Memory>
     ensures { OnOk result ((k : ThisKey) → told_under behind.new k ≡ (if same_key key k then told_of saying.now ∷ told_under behind.old k else told_under behind.old k)) }
 {
-    let longer = found_under(behind, key)?.with(alloc, saying)?;
+    let chain = found_under(behind, key)?;
+    let longer = chain.with(alloc, saying)?;
     behind.insert(key, longer)?;
     Ok(())
 }
@@ -111,5 +112,6 @@ pub(crate) fn put_before<'a>(
 {
     let all = key_of(saying, saying.positive, Sought::All);
     put_under(alloc, behind, all, saying)?;
-    put_under(alloc, behind, own_key(saying), saying)
+    put_under(alloc, behind, own_key(saying), saying)?;
+    Ok(())
 }
