@@ -273,7 +273,7 @@ without-rows bs cs ps more e =
       short = all-typed read read (Each-map (λ c. is_row c ≡ false) (λ c. is_typed_con read c ≡ true) (no-row-typed read) read (each-read (sub_of bs) list none));
     }
 
-is-false : (b : Bool) → not b ≡ true → b ≡ false
+pub is-false : (b : Bool) → not b ≡ true → b ≡ false
 is-false true e = absurd (true≢false (sym e))
 is-false false e = refl
 

@@ -1,7 +1,8 @@
 -- Lists that fail by one or two of their constraints fail, whatever the others say.
-use Rattle.std.proofs.Common.{◌≡◌, ◌==◌, ℕ, Bool, true, false, ◌&&◌, ◌||◌, not, List, [], ◌∷◌, ◌++◌, MatchOption, Option, None, Some, length, slice_get, zero, suc, ⊤, ◌+ℤ◌, ◌*ℤ◌, pos, refl, sym, ap, subst, arith, ◌∙◌}
+use Rattle.std.proofs.Common.{◌≡◌, ◌==◌, ℕ, Bool, true, false, ◌&&◌, ◌||◌, not, List, [], ◌∷◌, ◌++◌, MatchOption, Option, None, Some, length, slice_get, zero, suc, ◌+ℤ◌, ◌*ℤ◌, pos, refl, sym, ap, subst, arith, ◌∙◌}
 use Rattle.std.specs.List.{list_all, list_any}
-use Rattle.std.proofs.lemmas.Bool.{and_parts, true≢false}
+use Rattle.std.specs.Prelude.{⊤}
+use Rattle.std.proofs.lemmas.Bool.{and_parts, eqb-true, true≢false}
 use Rattle.std.proofs.lemmas.Int.{ints}
 use Rattle.scasp_bound.specs.Bounds.{as_variable}
 use Rattle.scasp_hint.specs.AskedRows.{RowsNormal, given_rows}
@@ -54,6 +55,9 @@ only-variable (app f ts) x e = absurd (cc e)
 pub denies_at : (s : Sub) (cs : List Con) (i : ℕ) (t : Term) (o : Option ℕ) → o ≡ as_variable (under s (tm_of t)) → Some (con.NotNum t) ≡ slice_get cs i → MatchOption o ⊤ (λ x. Denies s x cs)
 denies_at s cs i t None e g = tt
 denies_at s cs i t (Some x) e g = record { at = i; term = t; there = g; reads = only-variable (under s (tm_of t)) x e }
+
+pub contrary : (s : Sub) (cs more : List Con) (x : ℕ) → Denies s x more → Tells s x cs → AreContrary s cs more
+contrary s cs more x d t = record { x = x; tells = t; denies = d }
 
 pub tells_at : (s : Sub) (cs : List Con) (i : ℕ) (t : Term) (x : ℕ) → Some x ≡ as_variable (under s (tm_of t)) → Some (con.Num t) ≡ slice_get cs i → Tells s x cs
 tells_at s cs i t x e g = record { at = i; term = t; there = g; reads = only-variable (under s (tm_of t)) x e }
@@ -119,7 +123,7 @@ row-never r [] h k e v =
     let sum : numerator_under (point v) r ≡ pos 0 +ℤ r.constant *ℤ pos 1 = ap (λ (ks : List Coeff). (row_sum (point v) ks).0 +ℤ r.constant *ℤ (row_sum (point v) ks).1) h in
     let plain : pos 0 +ℤ r.constant *ℤ pos 1 ≡ r.constant = omega (arith, ints) in
     ap (compares r.op) (sum ∙ plain) ∙ e
-row-never r (k ∷ ks) h n e v = absurd (true≢false (sym n))
+row-never r (k ∷ ks) h n e v = let z : suc (length ks) ≡ zero = eqb-true (suc (length ks)) zero n in absurd (omega (arith, z))
 
 never : (c : Con) → is_constant c ≡ true → holds_always c ≡ false → (v : Sub) → holds v c ≡ false
 never (con.Row r) n e v = row-never r r.coeffs refl n e v

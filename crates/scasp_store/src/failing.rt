@@ -80,6 +80,7 @@ fn tells(bound: &Bound, given: &[Con], places: &[usize], x: u64) -> bool
 }
 
 /// Whether a constraint at the places says of a variable that it is a number, and one that is asked that it is none.
+#[tactic(auto, using(crate::proofs::FailLemmas::contrary))]
 fn are_contrary(bound: &Bound, given: &[Con], places: &[usize], more: &[Con]) -> bool
     ensures { result ≡ true → AreContrary (sub_of bound.now.now) given.now more.now }
 {
@@ -116,7 +117,6 @@ fn is_constant(constraint: &Con) -> bool
 }
 
 /// Whether it is a row that is false of the numbers that its variables stand for.
-#[tactic(auto, using(crate::proofs::FailLemmas::false_read))]
 fn is_false(alloc: Global, bound: &Bound, constraint: &Con) -> Result<bool, Memory>
     ensures { Triangular bound.now.now → IfOk result (λ answer. answer ≡ true → IsFalse (sub_of bound.now.now) constraint.now) }
 {
@@ -140,7 +140,10 @@ fn is_false_at(alloc: Global, bound: &Bound, given: &[Con], place: usize) -> Res
     ensures { Triangular bound.now.now → IfOk result (λ answer. answer ≡ true → HasFalse (sub_of bound.now.now) given.now) }
 {
     match given.get(place) {
-        Some(constraint) => is_false(alloc, bound, constraint),
+        Some(constraint) => {
+            let answer = is_false(alloc, bound, constraint)?;
+            Ok(answer)
+        }
         None => Ok(false),
     }
 }
@@ -174,5 +177,6 @@ pub(crate) fn fails(
     if are_contrary(bound, given, places, more) {
         return Ok(true);
     }
-    has_false(alloc, bound, given, places)
+    let is_false = has_false(alloc, bound, given, places)?;
+    Ok(is_false)
 }
