@@ -1,4 +1,3 @@
-pub mod ClashLemmas
 pub mod ClosingLemmas
 pub mod CopyLemmas
 pub mod CoverLemmas

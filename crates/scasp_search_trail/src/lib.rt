@@ -1,7 +1,6 @@
 //! A state of the search that is one of containers whose changes can be undone.
 #![tactic(auto)]
 
-mod clashing;
 mod closing;
 mod copying;
 mod covers;

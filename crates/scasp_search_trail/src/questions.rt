@@ -9,7 +9,6 @@ ghost use Rattle.scasp_search_rules.specs.Successors.Splits.{is_number_by};
 ghost use Rattle.scasp_search_rules.specs.Successors.Variables.{is_empty, is_kind_universal, made_or, universals_of};
 ghost use Rattle.scasp_search_trail.specs.States.{state_of};
 
-use crate::clashing::arguments_clash;
 use crate::parts::Parts;
 use scasp_list::Memory;
 use scasp_readings::{con_vars, has_number_test, read_simple, stands_in};
@@ -201,26 +200,10 @@ fn judged(alloc: Global, parts: &mut Parts, constraint: &Con) -> Result<Status, 
     judged_along(alloc, parts, constraint, is_general)
 }
 
-/// Whether it is a disequation whose sides clash in their first parts, as they read.
-#[tactic(auto, using(crate::proofs::ClashLemmas::apart_always))]
-fn clashes(alloc: Global, parts: &Parts, constraint: &Con) -> Result<bool, Memory>
-    ensures { IfOk result (λ clash. clash ≡ true → holds_always (as_read (state_of parts.now) constraint.now) ≡ true) }
-{
-    match constraint {
-        Con::Neq(left, right) => arguments_clash(alloc, parts.store.bound(), left, right),
-        Con::Eq(_, _) | Con::Row(_) | Con::NotShape(_, _, _) | Con::Num(_) | Con::NotNum(_) => {
-            Ok(false)
-        }
-    }
-}
-
 /// Whether the constraint holds, as it reads, whatever its variables stand for.
 fn reads_as_true(alloc: Global, parts: &Parts, constraint: &Con) -> Result<bool, Memory>
     ensures { IfOk result (λ holds. holds ≡ holds_always (as_read (state_of parts.now) constraint.now)) }
 {
-    if clashes(alloc, parts, constraint)? {
-        return Ok(true);
-    }
     let read = read_simple(alloc, parts.store.bound(), constraint)?;
     holds_always(alloc, &read)
 }
