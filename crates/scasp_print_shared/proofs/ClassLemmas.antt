@@ -1,6 +1,6 @@
 -- Keys in a table that grows, and the marks by it.
 use Rattle.std.proofs.Common.{◌≡◌, ℕ, zero, suc, ◌+◌, ◌-◌, ◌^◌, ◌<◌, ◌≤◌, ◌∙◌, Bool, true, false, not, ◌||◌, List, [], ◌∷◌, ◌++◌, length, get_or, map, take, drop, reverse, refl, sym, ap, arith}
-use Rattle.std.specs.Prelude.{nat_lt}
+use Rattle.std.specs.Prelude.{nat_lt, if◌then◌else◌}
 use Rattle.std.specs.List.{list_any, position_or_len}
 use Rattle.std.specs.Str.{bytes_eq}
 use Rattle.std.proofs.Math.Seq.{drop-cons}
@@ -15,7 +15,7 @@ use Rattle.scasp_print_shared.specs.Shared.{is_copy}
 use Rattle.scasp_print_shared.specs.Inside.Classes.{below, beside, key_of, place_in, root_of, roots, marks, AreFound, AreMarks}
 use Rattle.scasp_print_shared.specs.declared.classes.Root.{Root}
 use Rattle.scasp_print_shared.proofs.CopyLemmas.{copy-class}
-use Rattle.scasp_print_shared.proofs.RootLemmas.{count-root, length-marks, mark-at, subtree-within}
+use Rattle.scasp_print_shared.proofs.RootLemmas.{count-root, length-marks, mark-at, root, subtree-within}
 
 -- ---- places of keys
 
@@ -36,7 +36,7 @@ place-kept (t ∷ table) new key h = by (bytes_eq key t) refl
     by false e = simp e (ap (λ n. 1 + n) (place-kept table new key (sym (ap (λ b. b || has_text table key) e) ∙ h)))
 
 place-new : (table : List (List ℕ)) (key : List ℕ) → has_text table key ≡ false → place_in (table ++ key ∷ []) key ≡ place_in table key
-place-new [] key h = rw (bytes_eq-Decides key key).1 refl refl
+place-new [] key h = rw ((bytes_eq-Decides key key).1 refl) refl
 place-new (t ∷ table) key h =
     let p = or_parts (bytes_eq key t) (has_text table key) h in
     simp p.0 (ap (λ n. 1 + n) (place-new table key p.1))
@@ -84,14 +84,14 @@ module _ (table : List (List ℕ)) (new : List ℕ) where
   roots-with (p ∷ ps) h =
       let key = key_of p.words (below p.depth (roots table ps)) in
       ap (λ rs. root_of (with_text table new) p rs ∷ beside p.depth rs) (roots-with ps h.1)
-      ∙ ap (λ n. record { depth = p.depth; count = (root_of table p (roots table ps)).count; class = n } ∷ beside p.depth (roots table ps)) (place-with table new key h.0)
+      ∙ ap (λ n. root p.depth (root_of table p (roots table ps)).count n ∷ beside p.depth (roots table ps)) (place-with table new key h.0)
 
   marks-with : (ps : List Piece) → AreFound table ps → marks (with_text table new) ps ≡ marks table ps
   marks-with [] h = refl
   marks-with (p ∷ ps) h =
       let key = key_of p.words (below p.depth (roots table ps)) in
       (λ j. root_of (with_text table new) p (roots-with ps h.1 j) ∷ marks-with ps h.1 j)
-      ∙ ap (λ n. record { depth = p.depth; count = (root_of table p (roots table ps)).count; class = n } ∷ marks table ps) (place-with table new key h.0)
+      ∙ ap (λ n. root p.depth (root_of table p (roots table ps)).count n ∷ marks table ps) (place-with table new key h.0)
 
   found-with : (ps : List Piece) → AreFound table ps → AreFound (with_text table new) ps
   found-with [] h = tt
@@ -109,7 +109,7 @@ module _ (table : List (List ℕ)) (p : Piece) (ps : List Piece) (found : AreFou
   root-put : root_of (with_text table key) p (roots (with_text table key) ps) ≡ root_of table p (roots table ps)
   root-put =
       ap (root_of (with_text table key) p) (roots-with table key ps found)
-      ∙ ap (λ n. record { depth = p.depth; count = (root_of table p (roots table ps)).count; class = n }) (place-put table key)
+      ∙ ap (λ n. root p.depth (root_of table p (roots table ps)).count n) (place-put table key)
 
   pub roots-put : roots (with_text table key) (p ∷ ps) ≡ root_of table p (roots table ps) ∷ beside p.depth (roots table ps)
   roots-put = λ j. root-put j ∷ beside p.depth (roots-with table key ps found j)

@@ -165,7 +165,7 @@ pub copy-length : (told : List Piece) (j : ℕ) (q : Piece) (qs : List Piece) (p
 copy-length told j q qs p ps e h =
     let t = and_parts (is_call q && has_ended p.depth (q ∷ qs)) (same_pieces (moved_subtree (suc j) (length told + 1) p.depth q qs) (subtree (p ∷ ps))) (sym (copy-test told j q qs p ps e) ∙ h) in
     let c = and_parts (is_call q) (has_ended p.depth (q ∷ qs)) t.0 in
-    let m = record { from = suc j; count = length (subtree (q ∷ qs)); to = length told + 1 } in (
+    let m : Move = record { from = suc j; count = length (subtree (q ∷ qs)); to = length told + 1 } in (
       ap (λ z. suc (length z)) (ended-kept q qs p ps c.1),
       sym (length-map (subtree (q ∷ qs)) (moved_piece m q.depth p.depth)) ∙ ap length (same-are (moved_subtree (suc j) (length told + 1) p.depth q qs) (subtree (p ∷ ps)) t.1),
     )

@@ -1,7 +1,8 @@
 -- The lines of a text and of a block.
 use Rattle.std.proofs.Common.{◌≡◌, ◌∙◌, ℕ, zero, ◌+◌, ◌<◌, ◌≤◌, Bool, true, false, not, List, [], ◌∷◌, ◌++◌, length, get_or, map, take, drop, suc, refl, sym, ap, arith}
-use Rattle.std.specs.Prelude.{◌==◌}
+use Rattle.std.specs.Prelude.{◌==◌, if◌then◌else◌}
 use Rattle.std.specs.List.{prefix_len}
+use Rattle.std.proofs.lemmas.List.{drop_more}
 use Rattle.scasp_copies.specs.Pieces.{Piece, Split, split_lines, with_byte}
 use Rattle.scasp_print_shared.specs.Inside.Lines.{behind_tree, read, read_all, with_line}
 use Rattle.scasp_print_shared.specs.Shared.{is_tree, numbered, shared_block, shared_lines}
@@ -63,3 +64,18 @@ read-at ls k l e = ap read e ∙ sym (mapped ls k)
     mapped [] i = refl
     mapped (x ∷ xs) zero = refl
     mapped (x ∷ xs) (suc i) = mapped xs i
+
+pub lines-from : (ls : List Line) (k : ℕ) (l : Line) → k < length ls → l ≡ get_or ls k l → read_all (drop k ls) ≡ read l ∷ read_all (drop (k + 1) ls)
+lines-from ls k l h e = ap read_all (drop_more ls k l h) ∙ ap (λ x. read x ∷ read_all (drop (k + 1) ls)) (sym e)
+
+pub drop-read : (ls : List Line) (k : ℕ) → drop k (read_all ls) ≡ read_all (drop k ls)
+drop-read ls zero = refl
+drop-read [] (suc k) = refl
+drop-read (l ∷ ls) (suc k) = drop-read ls k
+
+pub tree-here : (ls : List Line) (k : ℕ) (l : Line) → k < length ls → l ≡ get_or ls k l → is_tree (read l) ≡ true → behind_tree (read_all (drop k ls)) ≡ 1
+tree-here ls k l h e t = ap behind_tree (lines-from ls k l h e) ∙ ap (λ b. 1 + (if b then 0 else behind_tree (read_all (drop (k + 1) ls)))) t
+
+pub no-tree-here : (ls : List Line) (k : ℕ) (l : Line) → k < length ls → l ≡ get_or ls k l → is_tree (read l) ≡ false
+    → behind_tree (read_all (drop k ls)) ≡ 1 + behind_tree (read_all (drop (k + 1) ls))
+no-tree-here ls k l h e t = ap behind_tree (lines-from ls k l h e) ∙ ap (λ b. 1 + (if b then 0 else behind_tree (read_all (drop (k + 1) ls)))) t

@@ -1,12 +1,12 @@
 -- A subtree that moves keeps its class.
-use Rattle.std.proofs.Common.{◌≡◌, ℕ, ◌+◌, ◌-◌, ◌^◌, ◌<◌, ◌≤◌, ◌∙◌, Bool, true, false, List, [], ◌∷◌, ◌++◌, map, refl, sym, ap, arith}
-use Rattle.std.specs.Prelude.{nat_lt}
+use Rattle.std.proofs.Common.{◌≡◌, ℕ, ◌+◌, ◌-◌, ◌^◌, ◌<◌, ◌≤◌, ◌∙◌, Bool, true, false, List, [], ◌∷◌, ◌++◌, map, refl, sym, ap, subst, arith}
+use Rattle.std.specs.Prelude.{nat_lt, codes, decimal}
 use Rattle.std.proofs.lemmas.Bool.{ltb-true, ltb-false, lt-ltb, le-ltb}
 use Rattle.scasp_copies.specs.Copies.{Move, deeper_than, moved_piece, moved_words}
 use Rattle.scasp_copies.specs.Pieces.{Piece}
 use Rattle.scasp_print_shared.specs.Inside.Classes.{below, beside, classes_text, count_of, place_in, root_of, roots, stem}
 use Rattle.scasp_print_shared.specs.declared.classes.Root.{Root}
-use Rattle.scasp_print_shared.proofs.RootLemmas.{deeper-true, deeper-false}
+use Rattle.scasp_print_shared.proofs.RootLemmas.{deeper-true, deeper-false, root}
 use Rattle.scasp_print_shared.proofs.WordLemmas.{stem-moved}
 
 -- ---- lines that are at least as deep as the top
@@ -20,8 +20,11 @@ deeper-are top [] = tt
 deeper-are top (p ∷ ps) = by (nat_lt top p.depth) refl (deeper-are top ps)
   where
     by : (a : Bool) → nat_lt top p.depth ≡ a → AreBelow top (deeper_than top ps) → AreBelow top (deeper_than top (p ∷ ps))
-    by true q ih = let l = ltb-true top p.depth q in rw (deeper-true top p ps q) (omega arith, ih)
-    by false q ih = rw (deeper-false top p ps q) tt
+    by true q ih =
+        let l = ltb-true top p.depth q in
+        let h : top ≤ p.depth = omega arith in
+        subst (AreBelow top) (sym (deeper-true top p ps q)) (h, ih)
+    by false q ih = subst (AreBelow top) (sym (deeper-false top p ps q)) tt
 
 abbrev RootsBelow : ℕ → List Root → Type 0
 RootsBelow top [] = Unit {0}
@@ -72,7 +75,7 @@ module _ (top depth : ℕ) where
 
   pub classes-moved : (rs : List Root) → classes_text (map moved_root rs) ≡ classes_text rs
   classes-moved [] = refl
-  classes-moved (r ∷ rs) = ap (λ t. classes_text (r ∷ []) ++ t) (classes-moved rs)
+  classes-moved (r ∷ rs) = ap (λ t. codes "\n" ++ decimal r.class ++ t) (classes-moved rs)
 
   count-moved : (rs : List Root) → count_of (map moved_root rs) ≡ count_of rs
   count-moved [] = refl
@@ -90,4 +93,4 @@ module _ (top depth : ℕ) where
       let words = stem-moved m p.words h in
       ap (λ x. root_of table (moved_piece m top depth p) x ∷ beside d x) (roots-moved m table ps h g.1)
       ∙ (λ j.
-      record { depth = d; count = 1 + counts j; class = place_in table (words j ++ texts j) } ∷ beside-moved p.depth rs g.0 (roots-are table top ps g.1) j)
+      root d (1 + counts j) (place_in table (words j ++ texts j)) ∷ beside-moved p.depth rs g.0 (roots-are table top ps g.1) j)

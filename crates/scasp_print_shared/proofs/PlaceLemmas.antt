@@ -14,8 +14,11 @@ pub first-of : (holds : ℕ → Bool) (class n : ℕ) (ms : List Root) (d : Root
 first-of holds class n [] d h = refl
 first-of holds class n (m ∷ ms) d h =
     by (m.class == class) refl (holds (n + 1)) refl
-    (first-of holds class (n + 1) ms d (λ j l t. h (suc j) (omega (arith, l)) (ap holds (omega arith) ∙ t)))
+    (first-of holds class (n + 1) ms d (λ j l t. h (suc j) (omega (arith, l)) (ap holds (later j) ∙ t)))
   where
+    later : (j : ℕ) → n + suc j + 1 ≡ n + 1 + j + 1
+    later j = omega arith
+
     by : (a : Bool) → (m.class == class) ≡ a → (b : Bool) → holds (n + 1) ≡ b → least holds (n + 1 + 1) (length ms) ≡ first_among holds (places_of class (n + 1) ms)
         → least holds (n + 1) (length (m ∷ ms)) ≡ first_among holds (places_of class n (m ∷ ms))
     by true p true q ih = simp (p, q) refl

@@ -1,6 +1,6 @@
 -- Subtrees that stand side by side.
-use Rattle.std.proofs.Common.{◌≡◌, ℕ, zero, suc, ◌+◌, ◌<◌, ◌≤◌, ◌∙◌, Bool, true, false, List, [], ◌∷◌, ◌++◌, length, get_or, drop, reverse, refl, sym, ap, arith}
-use Rattle.std.specs.Prelude.{nat_lt}
+use Rattle.std.proofs.Common.{◌≡◌, ℕ, zero, suc, ◌+◌, ◌<◌, ◌≤◌, ◌∙◌, Bool, true, false, List, [], ◌∷◌, ◌++◌, length, get_or, drop, reverse, refl, sym, ap, arith, append_assoc, append-nil}
+use Rattle.std.specs.Prelude.{nat_lt, codes, decimal}
 use Rattle.std.specs.List.{take_while}
 use Rattle.std.proofs.Math.Seq.{drop-cons}
 use Rattle.std.proofs.lemmas.Bool.{cond-true, cond-false, ltb-true, ltb-false, lt-ltb, le-ltb}
@@ -9,7 +9,7 @@ use Rattle.std.proofs.lemmas.List.Folds.{length-prefix_len}
 use Rattle.std.proofs.lemmas.List.Sums.{prefix_len-le-length, take_while-cons}
 use Rattle.scasp_copies.specs.Copies.{deeper_than, subtree}
 use Rattle.scasp_copies.specs.Pieces.{Piece}
-use Rattle.scasp_print_shared.specs.Inside.Classes.{below, beside, count_of, key_of, place_in, root_of, roots, marks}
+use Rattle.scasp_print_shared.specs.Inside.Classes.{below, beside, classes_text, count_of, key_of, place_in, root_of, roots, marks}
 use Rattle.scasp_print_shared.specs.declared.classes.Root.{Root}
 
 -- ---- the first of them
@@ -61,6 +61,9 @@ count-parts d (r ∷ rs) = by (nat_lt d r.depth) refl (count-parts d rs)
 
 -- ---- of the lines
 
+abbrev pub root : ℕ → ℕ → ℕ → Root
+root depth count class = record { depth = depth; count = count; class = class }
+
 pub deeper-true : (d : ℕ) (p : Piece) (ps : List Piece) → nat_lt d p.depth ≡ true → deeper_than d (p ∷ ps) ≡ p ∷ deeper_than d ps
 deeper-true d p ps e =
     take_while-cons (λ (x : Piece). nat_lt d x.depth) p ps ∙ cond-true (nat_lt d p.depth) (p ∷ deeper_than d ps) [] e
@@ -78,7 +81,7 @@ subtree-within (p ∷ ps) =
 module _ (table : List (List ℕ)) where
   -- the subtree of a line before these, by those below it
   abbrev pub root_by : Piece → List Root → Root
-  root_by p inner = record { depth = p.depth; count = 1 + count_of inner; class = place_in table (key_of p.words inner) }
+  root_by p inner = root p.depth (1 + count_of inner) (place_in table (key_of p.words inner))
 
   -- the subtrees of the deeper lines are the deeper subtrees
   pub below-roots : (d : ℕ) (ps : List Piece) → below d (roots table ps) ≡ roots table (deeper_than d ps)
@@ -122,3 +125,35 @@ module _ (table : List (List ℕ)) where
   mark-at [] qs q (suc k) d e = cc
   mark-at (p ∷ ps) qs q zero d e = let a : p ≡ q = cc in let b : ps ≡ qs = cc in λ j. root_of table (a j) (roots table (b j))
   mark-at (p ∷ ps) qs q (suc k) d e = mark-at ps qs q k d e
+
+-- ---- taking those below a line
+
+module _ (depth : ℕ) (items others : List Root) (r : Root) (pop : items ≡ others ++ r ∷ []) where
+  pub taken-roots : depth < r.depth → beside depth (reverse others) ≡ beside depth (reverse items)
+  taken-roots h = sym (ap (beside depth) (popped items others r pop) ∙ beside-deeper depth r (reverse others) h)
+
+  taken-below : depth < r.depth → below depth (reverse items) ≡ r ∷ below depth (reverse others)
+  taken-below h = ap (below depth) (popped items others r pop) ∙ below-deeper depth r (reverse others) h
+
+  pub taken-count : (count : ℕ) → depth < r.depth → count + r.count + count_of (below depth (reverse others)) ≡ count + count_of (below depth (reverse items))
+  taken-count count h = let e = ap count_of (taken-below h) in omega (arith, e)
+
+  pub taken-key : (before key : List ℕ) → depth < r.depth → key ≡ (before ++ codes "\n") ++ decimal r.class
+      → key ++ classes_text (below depth (reverse others)) ≡ before ++ classes_text (below depth (reverse items))
+  taken-key before key h e =
+      let rest = classes_text (below depth (reverse others)) in
+      ap (λ z. z ++ rest) (e ∙ append_assoc before (codes "\n") (decimal r.class))
+      ∙ append_assoc before (codes "\n" ++ decimal r.class) rest
+      ∙ ap (λ z. before ++ classes_text z) (sym (taken-below h))
+
+  left-below : r.depth ≤ depth → below depth (reverse items) ≡ []
+  left-below h = ap (below depth) (popped items others r pop) ∙ below-others depth r (reverse others) h
+
+  pub left-roots : r.depth ≤ depth → reverse items ≡ beside depth (reverse items)
+  left-roots h = sym (ap (beside depth) (popped items others r pop) ∙ beside-others depth r (reverse others) h ∙ sym (popped items others r pop))
+
+  pub left-key : (key : List ℕ) → r.depth ≤ depth → key ≡ key ++ classes_text (below depth (reverse items))
+  left-key key h = sym (ap (λ z. key ++ classes_text z) (left-below h) ∙ append-nil key)
+
+  pub left-count : (count : ℕ) → r.depth ≤ depth → count ≡ count + count_of (below depth (reverse items))
+  left-count count h = let e = ap count_of (left-below h) in omega (arith, e)

@@ -5,7 +5,7 @@ use Rattle.std.proofs.lemmas.List.{drop_more, take_more}
 use Rattle.scasp_copies.specs.Copies.{deeper_than, subtree}
 use Rattle.scasp_copies.specs.Pieces.{Piece, piece_text}
 use Rattle.scasp_copies.specs.Writing.{copy_line}
-use Rattle.scasp_print_shared.specs.Shared.{least_copy, shared_below}
+use Rattle.scasp_print_shared.specs.Shared.{count_below, least_copy, printed_line, shared_below}
 
 abbrev pub text_of : List Piece → List ℕ
 text_of ps = flat_map piece_text ps
@@ -27,29 +27,31 @@ module _ (ps : List Piece) (k : ℕ) (p : Piece) (h : k < length ps) (at : p ≡
       ap (λ z. text_of (shared_below (suc left) (take k ps) z)) rest-is
       ∙ ap (λ z. text_of (shared_below left z (drop (k + 1) ps))) (sym told-is)
 
-  -- a line without a copy
-  pub no-copy : least_copy (take k ps) (drop k ps) ≡ None → text_from 0 k ps ≡ piece_text p ++ text_from 0 (k + 1) ps
-  no-copy e =
-      let e2 : least_copy (take k ps) (p ∷ drop (k + 1) ps) ≡ None = ap (least_copy (take k ps)) (sym rest-is) ∙ e in
+  -- a line with its copy, or without one
+  pub next-line : (o : Option ℕ) → least_copy (take k ps) (drop k ps) ≡ o
+      → text_from 0 k ps ≡ piece_text (printed_line p o) ++ text_from (count_below p (drop (k + 1) ps) o) (k + 1) ps
+  next-line o e =
+      let e2 : least_copy (take k ps) (p ∷ drop (k + 1) ps) ≡ o = ap (least_copy (take k ps)) (sym rest-is) ∙ e in
       ap (λ z. text_of (shared_below 0 (take k ps) z)) rest-is
-      ∙ ap (λ o. text_of (chosen o)) e2
-      ∙ ap (λ z. piece_text p ++ text_of (shared_below 0 z (drop (k + 1) ps))) (sym told-is)
-    where
-      chosen : Option ℕ → List Piece
-      chosen None = p ∷ shared_below 0 (take k ps ++ p ∷ []) (drop (k + 1) ps)
-      chosen (Some n) = copy_line p.depth n ∷ shared_below (length (deeper_than p.depth (drop (k + 1) ps))) (take k ps ++ p ∷ []) (drop (k + 1) ps)
+      ∙ ap (λ c. piece_text (printed_line p c) ++ text_of (shared_below (count_below p (drop (k + 1) ps) c) (take k ps ++ p ∷ []) (drop (k + 1) ps))) e2
+      ∙ ap (λ z. piece_text (printed_line p o) ++ text_of (shared_below (count_below p (drop (k + 1) ps) o) z (drop (k + 1) ps))) (sym told-is)
 
-  -- a line whose subtree a copy stands for
-  pub a-copy : (n count : ℕ) → least_copy (take k ps) (drop k ps) ≡ Some n → count ≡ length (subtree (drop k ps))
-      → text_from 0 k ps ≡ piece_text (copy_line p.depth n) ++ text_from (count - 1) (k + 1) ps
-  a-copy n count e c =
-      let e2 : least_copy (take k ps) (p ∷ drop (k + 1) ps) ≡ Some n = ap (least_copy (take k ps)) (sym rest-is) ∙ e in
-      let c2 = ap (λ z. length (subtree z)) rest-is in
-      let c3 : length (deeper_than p.depth (drop (k + 1) ps)) ≡ count - 1 = omega (arith, c, c2) in
-      ap (λ z. text_of (shared_below 0 (take k ps) z)) rest-is
-      ∙ ap (λ o. text_of (chosen o)) e2
-      ∙ (λ j. piece_text (copy_line p.depth n) ++ text_of (shared_below (c3 j) (sym told-is j) (drop (k + 1) ps)))
-    where
-      chosen : Option ℕ → List Piece
-      chosen None = p ∷ shared_below 0 (take k ps ++ p ∷ []) (drop (k + 1) ps)
-      chosen (Some n) = copy_line p.depth n ∷ shared_below (length (deeper_than p.depth (drop (k + 1) ps))) (take k ps ++ p ∷ []) (drop (k + 1) ps)
+  pub below-count : (count : ℕ) → count ≡ length (subtree (drop k ps)) → length (deeper_than p.depth (drop (k + 1) ps)) ≡ count - 1
+  below-count count c = let c2 = ap (λ z. length (subtree z)) rest-is in omega (arith, c, c2)
+
+-- a line is written without a copy
+pub no-copy : (out new : List ℕ) (ps : List Piece) (k : ℕ) (p : Piece) → k < length ps → p ≡ get_or ps k p → least_copy (take k ps) (drop k ps) ≡ None
+    → new ≡ out ++ piece_text p → new ++ text_from 0 (k + 1) ps ≡ out ++ text_from 0 k ps
+no-copy out new ps k p h at e n =
+    ap (λ z. z ++ text_from 0 (k + 1) ps) n ∙ append_assoc out (piece_text p) (text_from 0 (k + 1) ps)
+    ∙ ap (λ z. out ++ z) (sym (next-line ps k p h at None e))
+
+-- a copy is written for the subtree of a line
+pub a-copy : (out new : List ℕ) (ps : List Piece) (k : ℕ) (p : Piece) (n count : ℕ) → k < length ps → p ≡ get_or ps k p
+    → least_copy (take k ps) (drop k ps) ≡ Some n → count ≡ length (subtree (drop k ps)) → new ≡ out ++ piece_text (copy_line p.depth n)
+    → new ++ text_from (count - 1) (k + 1) ps ≡ out ++ text_from 0 k ps
+a-copy out new ps k p n count h at e c w =
+    ap (λ z. z ++ text_from (count - 1) (k + 1) ps) w
+    ∙ append_assoc out (piece_text (copy_line p.depth n)) (text_from (count - 1) (k + 1) ps)
+    ∙ ap (λ i. out ++ (piece_text (copy_line p.depth n) ++ text_from i (k + 1) ps)) (sym (below-count ps k p h at count c))
+    ∙ ap (λ z. out ++ z) (sym (next-line ps k p h at (Some n) e))

@@ -1,9 +1,9 @@
 -- The words of a line, and what moving a line makes of them.
-use Rattle.std.proofs.Common.{inl, inr, ◌≡◌, ℕ, zero, suc, ◌+◌, ◌-◌, ◌*◌, ◌/◌, ◌%◌, ◌^◌, ◌<◌, ◌≤◌, ◌∙◌, Bool, true, false, ◌&&◌, ◌||◌, List, [], ◌∷◌, ◌++◌, length, take, drop, reverse, refl, sym, ap, arith, decimal}
+use Rattle.std.proofs.Common.{inl, inr, ◌≡◌, ℕ, zero, suc, ◌+◌, ◌-◌, ◌*◌, ◌/◌, ◌%◌, ◌^◌, ◌<◌, ◌≤◌, ◌∙◌, Bool, true, false, ◌&&◌, ◌||◌, List, [], ◌∷◌, ◌++◌, length, take, drop, reverse, refl, sym, ap, subst, arith, decimal}
 use Rattle.std.specs.Prelude.{◌==◌, ◌⊎◌, nat_le, nat_lt, codes}
 use Rattle.std.specs.List.{list_all, prefix_len, take_while}
 use Rattle.std.specs.Str.{bytes_eq}
-use Rattle.std.proofs.lemmas.Bool.{true≢false, and_parts, and_from, or_cases, or_left, or_right, cond-true, cond-false, leb-true, ltb-true}
+use Rattle.std.proofs.lemmas.Bool.{true≢false, and_parts, and_from, or_cases, or_left, or_right, cond-true, cond-false, eqb-true, leb-true, ltb-true}
 use Rattle.std.proofs.lemmas.Bool.Decides.{nat_tests}
 use Rattle.std.proofs.lemmas.Fmt.{decimal_by_steps}
 use Rattle.std.proofs.lemmas.List.{reverse-append, reverse-reverse, length-reverse, length-append, length-drop, take-append-drop, take_at, drop_at}
@@ -38,7 +38,7 @@ begins-split [] text e = refl
 begins-split (f ∷ fs) [] e = absurd (true≢false (sym e))
 begins-split (f ∷ fs) (b ∷ bs) e =
     let p = and_parts (f == b) (begins fs bs) e in
-    let same : f ≡ b = grind (arith, nat_tests) in
+    let same = eqb-true f b p.0 in
     λ j. sym same j ∷ begins-split fs bs p.1 j
 
 -- ---- the elements at the front that pass
@@ -181,7 +181,8 @@ inside-bound m k h e =
     let low = leb-true m.from k p.0 in
     let high = ltb-true k (m.from + m.count) p.1 in
     let b : m.to + (k - m.from) < 2 ^ 64 = omega arith in
-    rw cond-true (is_inside m k) (m.to + (k - m.from)) k e b
+    let small : ℕ → Type 0 = λ n. n < 2 ^ 64 in
+    subst small (sym (cond-true (is_inside m k) (m.to + (k - m.from)) k e)) b
 
 -- a line keeps its words but for a line number at their end
 pub stem-moved : (m : Move) (words : List ℕ) → m.to + m.count < 2 ^ 64 → stem (moved_words m words) ≡ stem words

@@ -11,7 +11,7 @@ use Rattle.std.proofs.lemmas.List.Sums.{prefix_len-le-length}
 use Rattle.scasp_copies.specs.Copies.{copy_of, deeper_than, last_number, subtree}
 use Rattle.scasp_copies.specs.Pieces.{Piece}
 use Rattle.scasp_copies.specs.Writing.{copy_line, is_copy_line, stands_for, written_behind, written_out}
-use Rattle.scasp_print_shared.specs.Shared.{are_lines, is_copy, least, least_copy, shared_below}
+use Rattle.scasp_print_shared.specs.Shared.{are_lines, count_below, is_copy, least, least_copy, printed_line, shared_below}
 use Rattle.scasp_reader_tokens.specs.Numbers.{digits_value}
 use Rattle.scasp_reader_tokens.proofs.NumberLemmas.{digits_value-append}
 use Rattle.scasp_print_shared.proofs.CopyLemmas.{same-are}
@@ -99,8 +99,7 @@ copy-stands told depth n sub small e =
     ap (λ k. copy_of k depth told) (copy-number depth n small) ∙ e
 
 abbrev printed : List Piece → Piece → List Piece → Option ℕ → List Piece
-printed told p ps None = p ∷ shared_below 0 (told ++ p ∷ []) ps
-printed told p ps (Some n) = copy_line p.depth n ∷ shared_below (length (deeper_than p.depth ps)) (told ++ p ∷ []) ps
+printed told p ps o = printed_line p o ∷ shared_below (count_below p ps o) (told ++ p ∷ []) ps
 
 written-upto : (size : ℕ) (told ps : List Piece) → length ps ≤ size → length told + length ps < 2 ^ 64 → HasNoCopy ps → written_out told (shared_below 0 told ps) ≡ Some ps
 written-upto size told [] h small plain = refl

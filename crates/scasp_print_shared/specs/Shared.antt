@@ -31,15 +31,23 @@ least_copy told ps = if nat_le 3 (length (subtree ps)) then least (is_copy told 
 
 -- ---- the numbered lines
 
--- The lines as they are printed behind `told`. So many lines at the front stand below a copy: these are left out.
+-- a line as it is printed: itself, or the copy that stands for its subtree
+abbrev pub printed_line : Piece → Option ℕ → Piece
+printed_line p None = p
+printed_line p (Some n) = copy_line p.depth n
+
+-- how many of the lines behind it a copy stands for
+abbrev pub count_below : Piece → List Piece → Option ℕ → ℕ
+count_below p ps None = 0
+count_below p ps (Some n) = length (deeper_than p.depth ps)
+
+-- The lines as they are printed behind `told`. So many at the front stand below a copy: these are left out.
 abbrev pub shared_below : ℕ → List Piece → List Piece → List Piece
 shared_below left_out told [] = []
 shared_below (suc left_out) told (p ∷ ps) = shared_below left_out (told ++ p ∷ []) ps
 shared_below zero told (p ∷ ps) =
-    elim (least_copy told (p ∷ ps)) [
-      | None ↦ p ∷ shared_below 0 (told ++ p ∷ []) ps
-      | Some n ↦ copy_line p.depth n ∷ shared_below (length (deeper_than p.depth ps)) (told ++ p ∷ []) ps
-    ]
+    let copy = least_copy told (p ∷ ps) in
+    printed_line p copy ∷ shared_below (count_below p ps copy) (told ++ p ∷ []) ps
 
 abbrev pub shared_lines : List Piece → List Piece → List Piece
 shared_lines told ps = shared_below 0 told ps
