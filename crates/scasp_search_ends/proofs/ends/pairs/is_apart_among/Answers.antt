@@ -1,4 +1,4 @@
-use Rattle.std.proofs.Common.{◌≡◌, ◌∙◌, List, ap, map, subst, sym}
+use Rattle.std.proofs.Common.{◌∙◌, List, ap, map, subst, sym}
 use Rattle.std.specs.Borrow.{Bor}
 use Rattle.std.proofs.lemmas.Simd.{map-map}
 use Rattle.scasp_checker_rules.specs.Told.{Told}
