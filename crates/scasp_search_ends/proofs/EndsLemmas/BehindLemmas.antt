@@ -1,10 +1,10 @@
 -- Literals that are found under keys.
 use Rattle.std.proofs.Common.{◌≡◌, ◌∙◌, ℕ, Result, Ok, Err, Bool, true, false, ◌&&◌, ◌||◌, not, nat_eq, cond, if◌then◌else◌, List, [], ◌∷◌, ◌++◌, map, Option, None, Some, refl, ap, sym, subst, append_assoc}
-use Rattle.std.specs.Prelude.{filter}
+use Rattle.std.specs.Prelude.{IfOk, filter}
 use Rattle.std.specs.Bool.{beq}
 use Rattle.std.specs.Borrow.{Bor}
-use Rattle.std.specs.List.{list_all, list_any}
-use Rattle.std.proofs.lemmas.Bool.{and_parts, cond-true, cond-false, or_cases}
+use Rattle.std.specs.List.{list_any}
+use Rattle.std.proofs.lemmas.Bool.{and_parts, cond-true, cond-false}
 use Rattle.std.proofs.lemmas.Bool.Decides.{Decides-eqb}
 use Rattle.std.proofs.lemmas.List.{map-append}
 use Rattle.std.proofs.lemmas.List.Folds.{list_all-append, list_any-append}
@@ -15,6 +15,7 @@ use Rattle.scasp_graph.proofs.PlaceLemmas.{eq-is}
 use Rattle.scasp_graph.proofs.PredLemmas.{bool_is, pred_is, same_pred-sym}
 use Rattle.scasp_hint.specs.Finding.{overflows_in}
 use Rattle.scasp_hint.specs.Satisfying.{sat}
+use Rattle.scasp_lines_places.specs.Places.Chains.{chained}
 use Rattle.scasp_lines_places.specs.declared.places.chain.Chain.{Chain}
 use Rattle.scasp_lines_walk.specs.Shown.TableView.{told_from}
 use Rattle.scasp_lines_walk.specs.declared.shown.table.Saying.{Saying}
@@ -84,6 +85,12 @@ key-is k j e =
     let s = bool_is k.positive j.positive g.0 in
     let c = sought-is k.sought j.sought g.1 in
     λ i. record { pred = p i; positive = s i; sought = c i }
+
+-- a list that is shared
+pub shared-told : {E : Type 0} (r : Result (Chain (Bor Saying)) E) (c : Chain (Bor Saying)) (ts : List Told) → told_in c ≡ ts
+    → IfOk r (λ made. chained made ≡ chained c) → IfOk r (λ made. told_in made ≡ ts)
+shared-told (Ok made) c ts h e = ap (map told_from) e ∙ h
+shared-told (Err x) c ts h e = tt
 
 -- a literal that is put before those under its key
 pub put-first : (f g : Key → Option (Chain (Bor Saying))) (a : Told) (key : Key) (longer : Chain (Bor Saying))

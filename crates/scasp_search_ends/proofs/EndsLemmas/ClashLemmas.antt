@@ -1,5 +1,5 @@
 -- Literals that differ by a name or a number are apart.
-use Rattle.std.proofs.Common.{◌≡◌, ◌∙◌, ℕ, Bool, true, false, if◌then◌else◌, ◌||◌, ◌&&◌, not, nat_eq, List, [], ◌∷◌, ◌++◌, length, max, map, Option, None, Some, refl, ap, sym, arith}
+use Rattle.std.proofs.Common.{◌≡◌, ◌∙◌, ℕ, Bool, true, false, if◌then◌else◌, ◌||◌, ◌&&◌, not, nat_eq, List, [], ◌∷◌, ◌++◌, length, max, map, Some, refl, ap, sym, arith}
 use Rattle.std.specs.List.{list_all, list_any}
 use Rattle.std.specs.Ordering.{int_eq}
 use Rattle.std.specs.Prelude.{ℤ, unsigned_abs}
@@ -23,12 +23,10 @@ use Rattle.scasp_syntax.specs.Programs.{pred_of}
 use Rattle.scasp_syntax.specs.Same.{same_bool, same_number, same_pred}
 use Rattle.scasp_syntax.specs.Tm.{Tm, Tms, var, num, app, nil, cons, items}
 use Rattle.scasp_syntax.specs.Values.{Sub, under, all_under}
-use Rattle.scasp_syntax.specs.View.{tm_of}
 use Rattle.scasp_syntax.specs.declared.con.Con.{Con}
 use Rattle.scasp_unify.proofs.ResolverLemmas.{resolver-equal}
 use Rattle.scasp_unify.proofs.SimpleLemmas.{viewed}
 use Rattle.scasp_unify.specs.Resolver.{Equal, resolver, unifies}
-use Rattle.scasp_unify.specs.SimpleForm.{term_with}
 use Rattle.scasp_unify.specs.TermFailures.{is_refuted}
 
 -- ---- terms that a substitution makes one do not differ

@@ -1,6 +1,7 @@
 //! Literals behind a place, found by their predicate, their sign and their first argument.
-ghost use Rattle.std.specs.Prelude.{◌≡◌, ◌∷◌, Bool, IfOk, OnOk, List, if◌then◌else◌};
+ghost use Rattle.std.specs.Prelude.{◌≡◌, ◌∷◌, Bool, IfOk, OnOk, List, if◌then◌else◌, map};
 ghost use Rattle.scasp_checker_rules.specs.Told.{Told};
+ghost use Rattle.scasp_lines_places.specs.Places.Chains.{chained};
 ghost use Rattle.scasp_lines_walk.specs.Shown.TableView.{told_of};
 ghost use Rattle.scasp_search_ends.specs.Ends.Inside.Behind.{Finds, key_of, mark, own_key, same_key, term_mark, told_in, told_under};
 ghost use Rattle.scasp_search_ends.specs.declared.ends.behind.Key.{Key as ThisKey};
@@ -78,10 +79,10 @@ fn own_key(saying: &Saying) -> Key
 }
 
 /// Those that are found under the key.
-pub(crate) fn found_under<'a>(behind: &Behind<'a>, key: Key) -> Result<Chain<&'a Saying>, Memory>
-    ensures { IfOk result (λ made. told_in made ≡ told_under behind.now key) }
+pub(crate) fn found_under<'a>(behind: &Behind<'a>, key: &Key) -> Result<Chain<&'a Saying>, Memory>
+    ensures { IfOk result (λ made. told_in made ≡ told_under behind.now key.now) }
 {
-    match behind.get(&key) {
+    match behind.get(key) {
         Some(chain) => chain.share(),
         None => Ok(Chain::new()),
     }
@@ -91,14 +92,14 @@ pub(crate) fn found_under<'a>(behind: &Behind<'a>, key: Key) -> Result<Chain<&'a
 fn put_under<'a>(
     alloc: Global,
     behind: &mut Behind<'a>,
-    key: Key,
+    key: &Key,
     saying: &'a Saying,
 ) -> Result<(), Memory>
-    ensures { OnOk result ((k : ThisKey) → told_under behind.new k ≡ (if same_key key k then told_of saying.now ∷ told_under behind.old k else told_under behind.old k)) }
+    ensures { OnOk result ((k : ThisKey) → told_under behind.new k ≡ (if same_key key.now k then told_of saying.now ∷ told_under behind.old k else told_under behind.old k)) }
 {
     let chain = found_under(behind, key)?;
     let longer = chain.with(alloc, saying)?;
-    behind.insert(key, longer)?;
+    behind.insert(*key, longer)?;
     Ok(())
 }
 
@@ -111,7 +112,21 @@ pub(crate) fn put_before<'a>(
     ensures { (ts : List Told) → Finds behind.old ts → OnOk result (Finds behind.new (told_of saying.now ∷ ts)) }
 {
     let all = key_of(saying, saying.positive, Sought::All);
-    put_under(alloc, behind, all, saying)?;
-    put_under(alloc, behind, own_key(saying), saying)?;
+    put_under(alloc, behind, &all, saying)?;
+    let own = own_key(saying);
+    put_under(alloc, behind, &own, saying)?;
     Ok(())
+}
+
+/// The items of a chain, in order.
+pub(crate) fn items_in<T: Drop>(alloc: Global, chain: &Chain<T>) -> Result<Vec<&T>, Memory>
+    ensures { IfOk result (λ made. map (λ b. b.now) made.items ≡ chained chain.now) }
+{
+    let mut all = Vec::new(alloc);
+    let mut rest = chain;
+    while let Some((item, outer)) = rest.first() {
+        all.push(item)?;
+        rest = outer;
+    }
+    Ok(all)
 }

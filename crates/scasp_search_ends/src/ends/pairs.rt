@@ -4,15 +4,14 @@ ghost use Rattle.scasp_search_constraints.specs.Assuming.Taken.{Gives};
 ghost use Rattle.scasp_cert.specs.Certificate.{certificate_of};
 ghost use Rattle.scasp_checker_rules.specs.Told.{Told};
 ghost use Rattle.scasp_search_ends.specs.Ends.Inside.Apart.{all_fail, lists_behind, pairs_of};
-ghost use Rattle.scasp_search_ends.specs.Ends.Inside.Behind.{Finds, key_of, mark, told_in, told_under};
+ghost use Rattle.scasp_search_ends.specs.Ends.Inside.Behind.{Finds, key_of, mark, told_under};
 ghost use Rattle.scasp_lines_walk.specs.Shown.TableView.{told_from, told_of};
 ghost use Rattle.scasp_search_rules.specs.Successors.Answers.{pair_lists};
 
-use crate::ends::behind::{Behind, Sought, found_under, key_of, mark, put_before};
+use crate::ends::behind::{Behind, Sought, found_under, items_in, key_of, mark, put_before};
 use scasp_cert::Cert;
 use scasp_checker_answer::clash_among;
 use scasp_disjoint::{is_pair, pair_list};
-use scasp_lines_places::Chain;
 use scasp_lines_walk::{Saying, table_of};
 use scasp_search_constraints::{SearchErr, passes};
 use scasp_syntax::{Con, Program};
@@ -39,22 +38,20 @@ fn is_apart(
     Ok(!passes(alloc, list.as_slice())?)
 }
 
-/// Whether the literal and those of the chain that make a pair with it are apart.
+/// Whether the literal and these that make a pair with it are apart.
 fn is_apart_from(
     alloc: Global,
     free: u64,
     given: &[Con],
     first: &Saying,
-    chain: &Chain<&Saying>,
+    seconds: &[&&Saying],
 ) -> Result<bool, SearchErr>
-    ensures { Gives result (all_fail (lists_behind free given.now (told_of first.now) (told_in chain.now))) (lists_behind free given.now (told_of first.now) (told_in chain.now)) }
+    ensures { Gives result (all_fail (lists_behind free given.now (told_of first.now) (map (λ s. told_from s.now) seconds.now))) (lists_behind free given.now (told_of first.now) (map (λ s. told_from s.now) seconds.now)) }
 {
-    let mut rest = chain;
-    while let Some((second, outer)) = rest.first() {
+    for second in seconds {
         if !is_apart(alloc, free, given, first, second)? {
             return Ok(false);
         }
-        rest = outer;
     }
     Ok(true)
 }
@@ -70,8 +67,10 @@ fn is_apart_among(
 ) -> Result<bool, SearchErr>
     ensures { Gives result (all_fail (lists_behind free given.now (told_of first.now) (told_under behind.now (key_of (told_of first.now) (not first.now.positive) sought)))) (lists_behind free given.now (told_of first.now) (told_under behind.now (key_of (told_of first.now) (not first.now.positive) sought))) }
 {
-    let chain = found_under(behind, key_of(first, !first.positive, sought))?;
-    is_apart_from(alloc, free, given, first, &chain)
+    let key = key_of(first, !first.positive, sought);
+    let chain = found_under(behind, &key)?;
+    let seconds = items_in(alloc, &chain)?;
+    is_apart_from(alloc, free, given, first, seconds.as_slice())
 }
 
 /// Whether the literal, whose first argument has this mark, and those behind it that make a pair with it are apart. Those with

@@ -9,6 +9,6 @@ pub returns : goal.returns
 returns c = λ ts h.
     let t = told_from c.args.saying in
     found-more t ts (told_under c.args.behind.now) (told_under c.put_under.new.behind) (told_under c.put_under-2.new.behind)
-    (subst (λ (j : Key). (k : Key) → told_under c.put_under.new.behind k ≡ (if same_key j k then t ∷ told_under c.args.behind.now k else told_under c.args.behind.now k)) c.key_of.ensures c.in_ok-put_under.ensures)
-    (subst (λ (j : Key). (k : Key) → told_under c.put_under-2.new.behind k ≡ (if same_key j k then t ∷ told_under c.put_under.new.behind k else told_under c.put_under.new.behind k)) c.own_key.ensures c.in_ok-put_under-2.ensures)
+    (subst (λ (j : Key). (k : Key) → told_under c.put_under.new.behind k ≡ (if same_key j k then t ∷ told_under c.args.behind.now k else told_under c.args.behind.now k)) c.key_of-all.ensures c.in_ok-put_under.ensures)
+    (subst (λ (j : Key). (k : Key) → told_under c.put_under-2.new.behind k ≡ (if same_key j k then t ∷ told_under c.put_under.new.behind k else told_under c.put_under.new.behind k)) c.own_key-own.ensures c.in_ok-put_under-2.ensures)
     h

@@ -8,6 +8,6 @@ use Rattle.scasp_search_ends.proofs.ends.behind.put_under.Goals as goal
 
 pub returns : goal.returns
 returns c =
-    put-first (get same_key c.args.behind.now) (get same_key c.insert.new.self) (told_from c.args.saying) c.args.key c.in_ok-longer.longer
-    (λ k. subst (λ (e : Key → Key → Bool). get e c.insert.new.self k ≡ cond (e c.args.key k) (Some c.in_ok-longer.longer) (get e c.args.behind.now k)) same-keys (c.in_ok-insert.ensures.updates.0 k))
+    put-first (get same_key c.args.behind.now) (get same_key c.insert.new.self) (told_from c.args.saying) c.args.key.now c.in_ok-longer.longer
+    (λ k. subst (λ (e : Key → Key → Bool). get e c.insert.new.self k ≡ cond (e c.args.key.now k) (Some c.in_ok-longer.longer) (get e c.args.behind.now k)) same-keys (c.in_ok-insert.ensures.updates.0 k))
     (ap (map told_from) c.in_ok-longer.ensures ∙ (λ i. told_from c.args.saying ∷ c.in_ok-chain.ensures i))

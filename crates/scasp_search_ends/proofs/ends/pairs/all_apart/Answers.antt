@@ -1,4 +1,4 @@
-use Rattle.std.proofs.Common.{◌≡◌, List, ℕ, ap, subst, ◌∙◌}
+use Rattle.std.proofs.Common.{List, ℕ, ap, subst, ◌∙◌}
 use Rattle.std.specs.List.{flat_map}
 use Rattle.scasp_checker_rules.specs.Told.{Told, all_told}
 use Rattle.scasp_search_constraints.specs.Assuming.Taken.{Gives}

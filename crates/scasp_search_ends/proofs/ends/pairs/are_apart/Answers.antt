@@ -1,7 +1,7 @@
-use Rattle.std.proofs.Common.{◌≡◌, ◌∷◌, [], ◌∙◌, map, sym, refl}
+use Rattle.std.proofs.Common.{◌∷◌, ◌∙◌, map, sym}
 use Rattle.std.proofs.lemmas.Result.{err_from_is_err_and}
 use Rattle.scasp_lines_walk.specs.Shown.TableView.{told_from}
-use Rattle.scasp_search_ends.proofs.EndsLemmas.BehindLemmas.{Walked, walked-all, walked-fault, walked-met, walked-more}
+use Rattle.scasp_search_ends.proofs.EndsLemmas.BehindLemmas.{walked-fault, walked-met, walked-more}
 use Rattle.scasp_search_ends.specs.Ends.Inside.Behind.{told_under}
 use Rattle.scasp_search_ends.proofs.ends.pairs.are_apart.Goals as goal
 

@@ -1,4 +1,4 @@
-use Rattle.std.proofs.Common.{◌≡◌, ◌∙◌, not, sym}
+use Rattle.std.proofs.Common.{not}
 use Rattle.scasp_lines_walk.specs.Shown.TableView.{told_of}
 use Rattle.scasp_search_ends.proofs.EndsLemmas.BehindLemmas.{all-given}
 use Rattle.scasp_search_ends.specs.Ends.Inside.Behind.{key_of, told_under}

@@ -1,4 +1,4 @@
-use Rattle.std.proofs.Common.{◌≡◌, ◌∙◌, not, sym}
+use Rattle.std.proofs.Common.{◌∙◌, not, sym}
 use Rattle.std.proofs.lemmas.Result.{err_from_is_err_and}
 use Rattle.scasp_lines_walk.specs.Shown.TableView.{told_of}
 use Rattle.scasp_search_ends.proofs.EndsLemmas.BehindLemmas.{found-fault, marked-met, marked-rest}
