@@ -140,7 +140,7 @@ module _ (p : Program) (s : State) (h : Sound p s.made s.covers s.bound) (solved
           let g = read-good n x y m e in
           let o = open-of n y g.0 g.1 (some-universal x y e u) in
           let same : owner s (con.NotShape y f k) ≡ depth_of s y =
-              ap (λ (t : Tm). greatest (map (depth_of s) (filter (is_universal s) (term_vars t)))) (unbound-self s.bound y g.1) ∙ one-owner s y (some-universal x y e u) in
+          ap (λ (t : Tm). greatest (map (depth_of s) (filter (is_universal s) (term_vars t)))) (unbound-self s.bound y g.1) ∙ one-owner s y (some-universal x y e u) in
           subst (λ (d : ℕ). Assumes p s (split_at s d (con.NotShape y f k))) (sym same) (split-assumes (depth_of s y) (con.NotShape y f k) refl (shape-split p s h solved y f k o))
       by (num q) e = blunt-assumes (con.Eq (Num q) (Num q)) tt
       by (app g us) e = shaped (has_shape f k (app g us))
@@ -163,7 +163,7 @@ module _ (p : Program) (s : State) (h : Sound p s.made s.covers s.bound) (solved
           let some = some-universal x y e (sym (ap is_empty alone) ∙ u) in
           let o = open-of n y g.0 g.1 some in
           let same : owner s (con.Neq (Var y) (Num q)) ≡ depth_of s y =
-              ap (λ (t : Tm). greatest (map (depth_of s) (filter (is_universal s) (term_vars t ++ [])))) (unbound-self s.bound y g.1) ∙ one-owner s y some in
+          ap (λ (t : Tm). greatest (map (depth_of s) (filter (is_universal s) (term_vars t ++ [])))) (unbound-self s.bound y g.1) ∙ one-owner s y some in
           subst (λ (d : ℕ). Assumes p s (split_at s d (con.Neq (Var y) (Num q)))) (sym same) (split-assumes (depth_of s y) (con.Neq (Var y) (Num q)) refl (value-split p s h solved y q o))
       by (num r) e = valued (same_number r q)
         where
@@ -202,11 +202,10 @@ module _ (p : Program) (s : State) (h : Sound p s.made s.covers s.bound) (solved
           subst (λ (k : ℕ). Assumes p s (split_at s k (con.Neq (Var x) (Var y)))) (sym same)
           (split-assumes (depth_of s x) (con.Neq (Var x) (Var y)) refl (variable-split p s h solved x y (open-of n x gx a.1 e) (other (kind-of s n y gy b.1) f)))
 
-      chosen : (i j : Bool) → List ℕ
-      chosen i j = if i then x ∷ (if j then y ∷ [] else []) else (if j then y ∷ [] else [])
-
       listed : (i j : Bool) → is_universal s x ≡ i → is_universal s y ≡ j → filter (is_universal s) (x ∷ y ∷ []) ≡ (if i then x ∷ (if j then y ∷ [] else []) else (if j then y ∷ [] else []))
-      listed i j e f = rw e (rw f refl)
+      listed i j e f =
+          ap (λ (b : Bool). if b then x ∷ (if is_universal s y then y ∷ [] else []) else (if is_universal s y then y ∷ [] else [])) e
+          ∙ ap (λ (b : Bool). if i then x ∷ (if b then y ∷ [] else []) else (if b then y ∷ [] else [])) f
 
       owned : (i j : Bool) → is_universal s x ≡ i → is_universal s y ≡ j → owner s (con.Neq (Var x) (Var y)) ≡ greatest (map (depth_of s) (if i then x ∷ (if j then y ∷ [] else []) else (if j then y ∷ [] else [])))
       owned i j e f = ap (λ (xs : List ℕ). greatest (map (depth_of s) (filter (is_universal s) xs))) vars ∙ ap (λ (xs : List ℕ). greatest (map (depth_of s) xs)) (listed i j e f)
@@ -219,8 +218,11 @@ module _ (p : Program) (s : State) (h : Sound p s.made s.covers s.bound) (solved
       by true true e f =
           let k = stands first f in
           let less : depth_of s y ≤ depth_of s x = k.1 in
-          done e (owned true true e f ∙ omega (arith, less)) (λ g. k.1)
-      by true false e f = done e (owned true false e f ∙ omega arith) (λ g. absurd (true≢false (sym (ap is_kind_universal g) ∙ f)))
+          let deep : max (depth_of s x) (max (depth_of s y) 0) ≡ depth_of s x = omega (arith, less) in
+          done e (owned true true e f ∙ deep) (λ g. k.1)
+      by true false e f =
+          let deep : max (depth_of s x) 0 ≡ depth_of s x = omega arith in
+          done e (owned true false e f ∙ deep) (λ g. absurd (true≢false (sym (ap is_kind_universal g) ∙ f)))
       by false true e f = absurd (true≢false (sym (stands first f).0 ∙ e))
       by false false e f = absurd (true≢false (sym (ap is_empty (ap (filter (is_universal s)) vars ∙ listed false false e f)) ∙ u))
 

@@ -99,7 +99,7 @@ module _ (p : Program) (sat : List Con → Bool) (s : State) (h : Sound p s.made
 -- ---- a cover begins
 
 module _ (p : Program) (sat : List Con → Bool) (s : State) (h : Sound p s.made s.covers s.bound) (w : First s.made s.covers s.bound (length s.covers) s.work) (k first : ℕ) (checks_head : Bool)
-  (heads : Heads p s.made s.covers s.bound (length s.covers) k first) where
+    (heads : Heads p s.made s.covers s.bound (length s.covers) k first) where
   abbrev cover : Cover
   cover = cover_for p s k first checks_head (unbound_of s first (vars_of_clause p k))
 

@@ -66,9 +66,6 @@ nested-all us (r ∷ rs) h =
     (h.0, Each-map (λ (o : Remainder). (u : ℕ) → among u o.replaced ≡ true → among u r.replaced ≡ true) (λ o. (u : ℕ) → among u o.replaced ≡ true → among u us ≡ true) (λ o k u i. h.0 u (k u i)) rs (nested-all r.replaced rs h.1))
 
 module _ (p : Program) (made : List Made) (c : Cover) (cs : List Cover) (bs : List Binding) (h : Sound p made (c ∷ cs) bs) (but : List ℕ) where
-  test : Binding → Bool
-  test b = not (among b.x c.universals) || among b.x but
-
   depth : c.depth ≡ suc (length cs)
   depth = h.placed.0
 
@@ -140,8 +137,8 @@ ended-sound p made c cs bs h = record {
 -- ---- another side is taken up
 
 module _ (p : Program) (made : List Made) (c : Cover) (cs : List Cover) (bs : List Binding) (h : Sound p made (c ∷ cs) bs) (solved : Solved (length made) bs) (r : Remainder) (rs : List Remainder)
-  (waits : Each (Waits p made (c ∷ cs) bs c.depth c.clause c.first c.universals) (r ∷ rs)) (nested : Nested c.universals (r ∷ rs)) (a : Cover)
-  (is_depth : a.depth ≡ c.depth) (is_clause : a.clause ≡ c.clause) (is_first : a.first ≡ c.first) (is_universals : a.universals ≡ r.universals) (is_waiting : a.waiting ≡ rs) where
+    (waits : Each (Waits p made (c ∷ cs) bs c.depth c.clause c.first c.universals) (r ∷ rs)) (nested : Nested c.universals (r ∷ rs)) (a : Cover)
+    (is_depth : a.depth ≡ c.depth) (is_clause : a.clause ≡ c.clause) (is_first : a.first ≡ c.first) (is_universals : a.universals ≡ r.universals) (is_waiting : a.waiting ≡ rs) where
   abbrev es : List Binding
   es = unbound c.universals r.replaced bs
 
@@ -175,7 +172,7 @@ module _ (p : Program) (made : List Made) (c : Cover) (cs : List Cover) (bs : Li
       or_left (nat_eq a.depth c.depth && among z a.universals) (owns cs c.depth z)
       (and_from (nat_eq a.depth c.depth) (among z a.universals) (eq-eqb a.depth c.depth is_depth) (ap (among z) is_universals ∙ i))
 
-  Closed : ℕ → Type 0
+  abbrev Closed : ℕ → Type 0
   Closed z = (among z r.universals ≡ true) ⊎ Scoped made (a ∷ cs) es (c.depth - 1) z
 
   scoped-now : (z : ℕ) → among z r.universals ≡ true → Scoped made (a ∷ cs) (unbound c.universals r.replaced bs) c.depth z
@@ -293,13 +290,13 @@ module _ (p : Program) (made : List Made) (c : Cover) (cs : List Cover) (bs : Li
   -- ---- the equation of the other side
 
   module _ (b : Binding) (e : Equates made (c ∷ cs) bs c.depth r (Some b)) where
-    v : Tm
+    abbrev v : Tm
     v = under (sub_of es) (tm_of b.term)
 
     own : Owned made c.depth b.x
     own = mine.owned b.x e.0
 
-    Reads : ℕ → Type 0
+    abbrev Reads : ℕ → Type 0
     Reads z = (Good made (a ∷ cs) es (c.depth - 1) z ⊎ (among z r.universals ≡ true)) × (z ≢ b.x)
 
     other : (z : ℕ) → Good made (a ∷ cs) (unbound c.universals r.replaced bs) (c.depth - 1) z → z ≢ b.x
@@ -337,9 +334,10 @@ module _ (p : Program) (made : List Made) (c : Cover) (cs : List Cover) (bs : Li
 
         below : (z : ℕ) → Good made (a ∷ cs) (unbound c.universals r.replaced bs) (c.depth - 1) z ⊎ (among z r.universals ≡ true) → is_bound_in (unbound c.universals r.replaced bs) z ≡ false
             → Under made b.x z × ((entry made z).kind ≡ Universal → owns (a ∷ cs) (entry made z).depth z ≡ true)
-        below z (inl (existential l k d)) f =
-            (record { place = l; kinded = ap is_kind_matched k; depth = omega (arith, d, deep); strict = (λ i j. omega (arith, d, deep, place)) },
-              λ i. absurd (true≢false (sym (ap is_kind_universal i) ∙ ap is_kind_universal k)))
+        below z (inl (existential l k d)) f = (
+          record { place = l; kinded = ap is_kind_matched k; depth = omega (arith, d, deep); strict = (λ i j. omega (arith, d, deep, place)) },
+          λ i. absurd (true≢false (sym (ap is_kind_universal i) ∙ ap is_kind_universal k)),
+        )
         below z (inl (universal l k d o)) f =
             (record { place = l; kinded = ap is_kind_matched k; depth = omega (arith, d, deep); strict = (λ i j. omega (arith, d, deep, place)) }, λ i. o)
         below z (inl (matched l k i)) f = absurd (true≢false (sym i ∙ f))

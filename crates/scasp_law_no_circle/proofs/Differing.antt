@@ -96,8 +96,10 @@ module _ (p : Program) (sat : List Con → Bool) (s : State) (h : Sound p s.made
   both-scoped : (ps : List Pair) → Each (Both (Frees-at s) (RightFree s)) ps → Pairs-at s ps
   both-scoped ps k =
       Each-map (Both (Frees-at s) (RightFree s)) (PairScoped s.made s.covers s.bound (length s.covers))
-      (λ o l. (each-weaker (Frees-at s) (Scoped s.made s.covers s.bound (length s.covers)) (λ z f. f.0) (tm_of o.left) l.0,
-          each-weaker (RightFree s) (Either s.made s.covers s.bound (length s.covers)) (right-either s) (tm_of o.right) l.1)) ps k
+      (λ o l. (
+        each-weaker (Frees-at s) (Scoped s.made s.covers s.bound (length s.covers)) (λ z f. f.0) (tm_of o.left) l.0,
+        each-weaker (RightFree s) (Either s.made s.covers s.bound (length s.covers)) (right-either s) (tm_of o.right) l.1,
+      )) ps k
 
   front-reads : (qs ps later : List Pair) → Each (Both (Frees-at s) (RightFree s)) qs → Reads s later → Reads s (in_front qs ps later)
   front-reads [] ps later k l = l
@@ -260,12 +262,14 @@ module _ (p : Program) (sat : List Con → Bool) (s : State) (h : Sound p s.made
         pairs-now : Each (PairScoped s.made s.covers (s.bound ++ binding y t ∷ []) (length s.covers)) rest
         pairs-now =
             Each-map (PairScoped s.made s.covers s.bound (length s.covers)) (PairScoped s.made s.covers (s.bound ++ binding y t ∷ []) (length s.covers))
-            (λ o l. (each-weaker (Scoped s.made s.covers s.bound (length s.covers)) (Scoped s.made s.covers (s.bound ++ binding y t ∷ []) (length s.covers)) (λ z m. scoped (length s.covers) z (omega arith) m) (tm_of o.left) l.0,
-                each-weaker (Either s.made s.covers s.bound (length s.covers)) (Either s.made s.covers (s.bound ++ binding y t ∷ []) (length s.covers)) either (tm_of o.right) l.1)) rest pf
+            (λ o l. (
+              each-weaker (Scoped s.made s.covers s.bound (length s.covers)) (Scoped s.made s.covers (s.bound ++ binding y t ∷ []) (length s.covers)) (λ z m. scoped (length s.covers) z (omega arith) m) (tm_of o.left) l.0,
+              each-weaker (Either s.made s.covers s.bound (length s.covers)) (Either s.made s.covers (s.bound ++ binding y t ∷ []) (length s.covers)) either (tm_of o.right) l.1,
+            )) rest pf
 
         aim-now : (a : Aim) → AimScoped p s.made s.covers s.bound (length s.covers) a → AimScoped p s.made s.covers (s.bound ++ binding y t ∷ []) (length s.covers) a
         aim-now aims.Test g = tt
-        aim-now (aims.Head c first) g z l m = let e = g z l m in (e.0, e.1, either z e.2)
+        aim-now (aims.Head c first) g = λ z l m. let e = g z l m in (e.0, e.1, either z e.2)
 
         work-now : First s.made s.covers (s.bound ++ binding y t ∷ []) (length s.covers) s.work
         work-now = waiting-more (Scoped s.made s.covers s.bound) (Scoped s.made s.covers (s.bound ++ binding y t ∷ [])) (length s.covers) (λ j z l m. scoped j z l m) (length s.covers) (omega arith) s.work w

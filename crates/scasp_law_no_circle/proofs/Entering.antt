@@ -62,7 +62,7 @@ use Rattle.scasp_law_no_circle.proofs.Differing.{differ-owns, value-owns, avoid-
 use Rattle.scasp_law_no_circle.proofs.Equating.{equate-owning, equations-level}
 use Rattle.scasp_law_no_circle.proofs.Growing.{more-scopes}
 use Rattle.scasp_law_no_circle.proofs.Meeting.{met-free}
-use Rattle.scasp_law_no_circle.proofs.Places.{entry-new}
+use Rattle.scasp_law_no_circle.proofs.Places.{entry, entry-new}
 use Rattle.scasp_law_no_circle.proofs.Scope.{Good, existential, Scoped, Sound, Scopes}
 use Rattle.scasp_law_no_circle.proofs.Tasks.{Plain, Either, Waiting, Level, level-before, shows-level, First, Assumed, Front, plain, assumes, numbers, differs, becomes, avoids, shapes, begins, Owning, scoped-kept, work-kept}
 
@@ -121,8 +121,8 @@ all-quiet p sat s h solved [] k = (record { assumes = assumes-itself p s h solve
 all-quiet p sat s h solved (c ∷ cs) k =
     each_followed (Quiet p s) (Quiet p s) (assume_all sat cs) (assume sat s c).states (quiet-assumes p sat s h solved c k.0)
     (λ r q. each_weaker (Quiet p r) (Quiet p s) (assume_all sat cs r).states (λ t l. quiet-then p s r t q l)
-        (all-quiet p sat r q.assumes.scopes.sound (subst (Solved (length r.made)) (sym q.assumes.bound) (solved-more (length s.made) (length r.made) q.assumes.scopes.long s.bound solved)) cs
-        (Each-map (λ c. is_empty (universals_of s c) ≡ true) (λ c. is_empty (universals_of r c) ≡ true) (λ c e. still-quiet s r q.made q.assumes.bound c e) cs k.1)))
+    (all-quiet p sat r q.assumes.scopes.sound (subst (Solved (length r.made)) (sym q.assumes.bound) (solved-more (length s.made) (length r.made) q.assumes.scopes.long s.bound solved)) cs
+    (Each-map (λ c. is_empty (universals_of s c) ≡ true) (λ c. is_empty (universals_of r c) ≡ true) (λ c e. still-quiet s r q.made q.assumes.bound c e) cs k.1)))
 
 -- the number tests and the row of an item
 abbrev Tested : Con → Type 0
@@ -146,7 +146,7 @@ all-tested p sat s h solved [] k = (assumes-itself p s h solved, tt)
 all-tested p sat s h solved (c ∷ cs) k =
     each_followed (Assumes p s) (Assumes p s) (assume_all sat cs) (assume sat s c).states (assume-assumes p sat s h solved (length s.covers) c (tested s c k.0))
     (λ r q. each_weaker (Assumes p r) (Assumes p s) (assume_all sat cs r).states (λ t l. assumes-then p s r t q l)
-        (all-tested p sat r q.scopes.sound (subst (Solved (length r.made)) (sym q.bound) (solved-more (length s.made) (length r.made) q.scopes.long s.bound solved)) cs k.1))
+    (all-tested p sat r q.scopes.sound (subst (Solved (length r.made)) (sym q.bound) (solved-more (length s.made) (length r.made) q.scopes.long s.bound solved)) cs k.1))
 
 module _ (p : Program) (sat : List Con → Bool) (s : State) (h : Sound p s.made s.covers s.bound) (solved : Solved (length s.made) s.bound) (w : First s.made s.covers s.bound (length s.covers) s.work) where
   line-owns : (l : Line) → Owning p (with_line s l)
@@ -206,7 +206,7 @@ module _ (p : Program) (sat : List Con → Bool) (s : State) (h : Sound p s.made
       new : (z : ℕ) → length s.made ≤ z → z < length s.made + vars_of_clause p k → Scoped (with_new s Existential (length s.covers) (vars_of_clause p k)).made s.covers s.bound (length s.covers) z
       new z a c =
           let e = entry-new s.made (vars_of_clause p k) (record { kind = Existential; depth = length s.covers }) z a c in
-          let depth = ap (λ (d : Made). d.depth) e in
+          let depth : (entry more z).depth ≡ length s.covers = ap (λ (d : Made). d.depth) e in
           met-free (Good more s.covers s.bound (length s.covers)) s.bound z (existential (omega (arith, c, long)) (ap (λ (d : Made). d.kind) e) (omega (arith, depth)))
           (above-unbound (length s.made) s.bound solved z a)
 
@@ -235,9 +235,6 @@ module _ (p : Program) (sat : List Con → Bool) (s : State) (h : Sound p s.made
   looped-owns : (l : Lit) (r : Repeated) → EachState (Owning p) (looped s l r)
   looped-owns l r = by l.positive r.is_behind_negation
     where
-      t : State
-      t = with_line s (line.Loop l r.number)
-
       by : (c d : Bool) → EachState (Owning p) (if not c then with_line s (line.Loop l r.number) ∷ [] else (if d then marked (ancestors s) (with_line s (line.Loop l r.number)) ∷ [] else []))
       by false d = (line-owns (line.Loop l r.number), tt)
       by true true = (more (ancestors s), tt)
@@ -256,8 +253,8 @@ module _ (p : Program) (sat : List Con → Bool) (s : State) (h : Sound p s.made
       each_followed (Quiet p s) (Owning p) (λ t. gives (entered p t l)) (assume_all sat (map (differing l) (opposites s l)) s).states
       (all-quiet p sat s h solved (map (differing l) (opposites s l)) (by (is_free s l) refl))
       (λ r q. entered-owns p sat r q.assumes.scopes.sound (subst (Solved (length r.made)) (sym q.assumes.bound) (solved-more (length s.made) (length r.made) q.assumes.scopes.long s.bound solved))
-          (subst (First r.made r.covers r.bound (length r.covers)) (sym q.assumes.work) (work-kept p s.made r.made s.covers r.covers s.bound r.bound q.assumes.scopes s.work w)) l
-          (all-weaker (Scoped s.made s.covers s.bound (length s.covers)) (Scoped r.made r.covers r.bound (length r.covers)) (scoped-kept p s.made r.made s.covers r.covers s.bound r.bound q.assumes.scopes) l.atom.args b))
+      (subst (First r.made r.covers r.bound (length r.covers)) (sym q.assumes.work) (work-kept p s.made r.made s.covers r.covers s.bound r.bound q.assumes.scopes s.work w)) l
+      (all-weaker (Scoped s.made s.covers s.bound (length s.covers)) (Scoped r.made r.covers r.bound (length r.covers)) (scoped-kept p s.made r.made s.covers r.covers s.bound r.bound q.assumes.scopes) l.atom.args b))
     where
       by : (c : Bool) → is_free s l ≡ c → Each (λ c. is_empty (universals_of s c) ≡ true) (map (differing l) (if c then filter (is_opposite s l) s.literals else []))
       by true e = opposites-quiet s l e s.literals
@@ -291,12 +288,14 @@ module _ (p : Program) (sat : List Con → Bool) (s : State) (h : Sound p s.made
       by : (c : Bool) → is_empty (universals_of s (con.Neq t u)) ≡ c
           → EachState (Owning p) (if c then assume sat s (con.Neq t u) else goes (before (task.Differ (record { left = t; right = u } ∷ []) aims.Test ∷ []) s)).states
       by true e = kept-owns (assume sat s (con.Neq t u)).states (each_weaker (Quiet p s) (Assumes p s) (assume sat s (con.Neq t u)).states (λ r q. q.assumes) (quiet-assumes p sat s h solved (con.Neq t u) e))
-      by false e =
-          (record {
-            sound = h;
-            front = differs (record { left = t; right = u } ∷ []) aims.Test s.work
-                ((b.0, each-weaker (Scoped s.made s.covers s.bound (length s.covers)) (Either s.made s.covers s.bound (length s.covers)) (λ z m. inr m) (tm_of u) b.1), tt) tt w;
-          }, tt)
+      by false e = (
+        record {
+          sound = h;
+          front = differs (record { left = t; right = u } ∷ []) aims.Test s.work
+              ((b.0, each-weaker (Scoped s.made s.covers s.bound (length s.covers)) (Either s.made s.covers s.bound (length s.covers)) (λ z m. inr m) (tm_of u) b.1), tt) tt w;
+        },
+        tt,
+      )
   test-owns (con.NotShape x f k) b = assumed-owns p sat s h solved w (con.NotShape x f k) b
   test-owns (con.Num t) b = assumed-owns p sat s h solved w (con.Num t) tt
   test-owns (con.NotNum t) b = assumed-owns p sat s h solved w (con.NotNum t) tt

@@ -84,7 +84,7 @@ pub read-frees : (s : State) → Solved (length s.made) s.bound → (n : ℕ) (t
 read-frees s solved n t h =
     occurs-each (Frees s.made s.covers s.bound n) (under (meaning s) t)
     (λ w o. let free = term-unbound (length s.made) s.bound solved t w o in
-        (met-free (Good s.made s.covers s.bound n) s.bound w (each-occurs (Good s.made s.covers s.bound n) (under (meaning s) t) good w o) free, free))
+    (met-free (Good s.made s.covers s.bound n) s.bound w (each-occurs (Good s.made s.covers s.bound n) (under (meaning s) t) good w o) free, free))
   where
     good : EachVar (Good s.made s.covers s.bound n) (under (meaning s) t)
     good = each-under (Scoped s.made s.covers s.bound n) (Good s.made s.covers s.bound n) (meaning s) (λ x m. met-reads (Good s.made s.covers s.bound n) s.bound x m) t h
@@ -151,12 +151,14 @@ module _ (p : Program) (sat : List Con → Bool) (s : State) (h : Sound p s.made
     where
       by : (c : Bool) → (nat_le (depth_of s u) (depth_of s e) && not (is_constrained s e)) ≡ c → EachState (Moves p s) (if c then goes (bind s e (var u)) else replaced_if sat s u (var e)).states
       by true k =
-          let l : depth_of s u ≤ depth_of s e = leb-true (depth_of s u) (depth_of s e) (and_parts (nat_le (depth_of s u) (depth_of s e)) (not (is_constrained s e)) k).0 in
-          (record {
-            scopes = bind-scopes p s h solved e (var u) (made-free n e a) (existential-free n e a f) a.1
-                (λ w o. subst (λ (z : ℕ). IsOther p s h solved e z) (sym (eqb-true w u o)) (universal-other n e u b g (λ i. d (sym i)) l));
-            work = refl;
-          }, tt)
+          let l : depth_of s u ≤ depth_of s e = leb-true (depth_of s u) (depth_of s e) (and_parts (nat_le (depth_of s u) (depth_of s e)) (not (is_constrained s e)) k).0 in (
+            record {
+              scopes = bind-scopes p s h solved e (var u) (made-free n e a) (existential-free n e a f) a.1
+                  (λ w o. subst (λ (z : ℕ). IsOther p s h solved e z) (sym (eqb-true w u o)) (universal-other n e u b g (λ i. d (sym i)) l));
+              work = refl;
+            },
+            tt,
+          )
       by false k = replaced-moves u (var e) (by-variable p s h solved u (open-free n u b g) e (existential-other n u e a f d))
 
   universals-move : (n x y : ℕ) → Frees s.made s.covers s.bound n x → Frees s.made s.covers s.bound n y → is_universal s x ≡ true → is_universal s y ≡ true → y ≢ x → EachState (Moves p s) (two_universals sat s x y).states
@@ -265,7 +267,7 @@ module _ (p : Program) (sat : List Con → Bool) (s : State) (h : Sound p s.made
           put =
               bind-scopes p r grown.sound (grown-solved r.made (omega (arith, long))) x t (omega (arith, low, long)) (ap (λ (d : Made). d.kind) (entry-left s.made (replicate k m) x low) ∙ existential-free n x a e) a.1
               (λ w o. let q = parts-span (length s.made) k w o in let l : length s.made ≤ w = q.0 in let b : w < length s.made + k = q.1 in
-                  (omega (arith, b, long), above-unbound (length s.made) s.bound solved w l, apart w l, inl (ap (λ (d : Made). d.kind) (entry-new s.made k m w l b))))
+              (omega (arith, b, long), above-unbound (length s.made) s.bound solved w l, apart w l, inl (ap (λ (d : Made). d.kind) (entry-new s.made k m w l b))))
 
       pub shape-puts : EachState (Puts p s x (app f (new_parts (length s.made) k))) (becomes_shape sat s x f k).states
       shape-puts = by (is_universal s x) refl
@@ -282,9 +284,9 @@ pub parts-scoped : (p : Program) (s r : State) (x f k : ℕ) → Puts p s x (app
 parts-scoped p s r x f k put m =
     occurs-all (Scoped r.made r.covers r.bound (length r.covers)) (new_parts (length s.made) k)
     (λ w o. met-next (Good r.made r.covers r.bound (length r.covers)) r.bound x (scoped-kept p s.made r.made s.covers r.covers s.bound r.bound put.moves.scopes x m) (binding x (app f (new_parts (length s.made) k)))
-        (subst (λ (bs : List Binding). Contains bs (binding x (app f (new_parts (length s.made) k)))) (sym put.bound)
-        (Contains-append_right s.bound (binding x (app f (new_parts (length s.made) k)) ∷ []) (binding x (app f (new_parts (length s.made) k))) (Contains-here (binding x (app f (new_parts (length s.made) k))) [])))
-        refl w o)
+    (subst (λ (bs : List Binding). Contains bs (binding x (app f (new_parts (length s.made) k)))) (sym put.bound)
+    (Contains-append_right s.bound (binding x (app f (new_parts (length s.made) k)) ∷ []) (binding x (app f (new_parts (length s.made) k))) (Contains-here (binding x (app f (new_parts (length s.made) k))) [])))
+    refl w o)
 
 module _ (p : Program) (sat : List Con → Bool) (s : State) (h : Sound p s.made s.covers s.bound) (solved : Solved (length s.made) s.bound) where
   -- ---- a number
@@ -368,9 +370,6 @@ equate-owning p sat s h solved w t u a b =
     (pairs-both (Frees s.made s.covers s.bound (length s.covers)) (Frees s.made s.covers s.bound (length s.covers)) (under (meaning s) (tm_of t)) (under (meaning s) (tm_of u))
     (read-frees s solved (length s.covers) (tm_of t) a) (read-frees s solved (length s.covers) (tm_of u) b)))
   where
-    G : ℕ → Type 0
-    G = Scoped s.made s.covers s.bound (length s.covers)
-
     F : ℕ → Type 0
     F = Frees s.made s.covers s.bound (length s.covers)
 

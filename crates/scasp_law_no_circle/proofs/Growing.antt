@@ -28,7 +28,7 @@ use Rattle.scasp_law_no_circle.proofs.Meeting.{met, met-free, met-pushed, bound-
 use Rattle.scasp_law_no_circle.proofs.Places.{entry, Lower, lower-same, lowered-lowers, lowered-small, lowered-other, entry-left, owns, Placed, Place, places, vars-occur}
 use Rattle.scasp_law_no_circle.proofs.Scope.{Good, existential, universal, matched, Scoped, Under, Falls, Owned, Holds, Sound, Better, Carries, fewer-carries, Change, covers-kept, good-better, Scopes}
 
-within : (n : ℕ) → n ≤ n
+pub within : (n : ℕ) → n ≤ n
 within n = omega arith
 
 pub still-bound : (bs : List Binding) (b : Binding) (z : ℕ) → is_bound_in bs z ≡ true → is_bound_in (bs ++ b ∷ []) z ≡ true

@@ -1,5 +1,5 @@
 -- The variables that are met as a variable is read: itself, and those of what it, or one of these, is bound to.
-use Rattle.std.specs.Prelude.{◌≡◌, ◌≢◌, ◌⊎◌, ℕ, nat_eq, Bool, true, false, ◌||◌, if◌then◌else◌, List, [], ◌∷◌, ◌++◌}
+use Rattle.std.specs.Prelude.{◌≡◌, ◌≢◌, ◌⊎◌, ℕ, nat_eq, Bool, true, false, ◌||◌, if◌then◌else◌, List, [], ◌∷◌, ◌++◌, ⊤}
 use Rattle.std.specs.List.{Contains}
 use Rattle.std.proofs.Common.{refl, ap, sym, subst, ◌∙◌, inl, inr}
 use Rattle.std.proofs.lemmas.Bool.{or_left, or_right, or_from, or_parts, eqb-true, eqb-false, eq-eqb, ne_eqb, true≢false}
@@ -49,34 +49,40 @@ mutual
 pub bound-there : (bs : List Binding) (b : Binding) (z : ℕ) → Contains bs b → b.x ≡ z → is_bound_in bs z ≡ true
 bound-there bs b z i e = list_any-from (λ (c : Binding). nat_eq c.x z) bs b i (eq-eqb b.x z e)
 
--- what is read has no bound variable
-pub read-unbound : (n : ℕ) (bs : List Binding) → Solved n bs → (z w : ℕ) → occurs w (sub_of bs z) ≡ true → is_bound_in bs w ≡ false
-read-unbound n [] h z w o = refl
-read-unbound n (b ∷ bs) h z w o = or_from (nat_eq b.x w) (is_bound_in bs w) (ne_eqb b.x w (λ e. apart w o (sym e))) (each-occurs (λ y. is_bound_in bs y ≡ false) (sub_of (b ∷ bs) z) rest w o)
+-- what stands in none of the terms is not read
+read-absent : (x : ℕ) (bs : List Binding) → Each (λ c. EachVar (λ y. y ≢ x) (tm_of c.term)) bs → (z : ℕ) → z ≢ x → EachVar (λ y. y ≢ x) (sub_of bs z)
+read-absent x [] k z d = d
+read-absent x (c ∷ cs) k z d = by (nat_eq z c.x) (λ y e. read-absent x cs k.1 y e)
+  where
+    by : (same : Bool) → ((y : ℕ) → y ≢ x → EachVar (λ v. v ≢ x) (sub_of cs y)) → EachVar (λ v. v ≢ x) (under (sub_of cs) (if same then tm_of c.term else var z))
+    by true rec = each-under (λ v. v ≢ x) (λ v. v ≢ x) (sub_of cs) rec (tm_of c.term) k.0
+    by false rec = rec z d
+
+read-step : (n : ℕ) (b : Binding) (bs : List Binding) → Solved n (b ∷ bs) → ((x w : ℕ) → occurs w (sub_of bs x) ≡ true → is_bound_in bs w ≡ false) → (z w : ℕ) → occurs w (sub_of (b ∷ bs) z) ≡ true
+    → is_bound_in (b ∷ bs) w ≡ false
+read-step n b bs h rec z w o = or_from (nat_eq b.x w) (is_bound_in bs w) (ne_eqb b.x w (λ e. apart (sym e))) (each-occurs (λ y. is_bound_in bs y ≡ false) (sub_of (b ∷ bs) z) rest w o)
   where
     first : Tm
     first = if nat_eq z b.x then tm_of b.term else var z
 
-    rest : EachVar (λ y. is_bound_in bs y ≡ false) (sub_of (b ∷ bs) z)
-    rest = each-under (λ y. ⊤) (λ y. is_bound_in bs y ≡ false) (sub_of bs) (λ x k. occurs-each (λ y. is_bound_in bs y ≡ false) (sub_of bs x) (λ y m. read-unbound n bs h.3 x y m)) first (occurs-each (λ y. ⊤) first (λ y m. tt))
+    rest : EachVar (λ y. is_bound_in bs y ≡ false) (under (sub_of bs) (if nat_eq z b.x then tm_of b.term else var z))
+    rest =
+        each-under (λ y. ⊤) (λ y. is_bound_in bs y ≡ false) (sub_of bs) (λ x k. occurs-each (λ y. is_bound_in bs y ≡ false) (sub_of bs x) (λ y m. rec x y m)) first (occurs-each (λ y. ⊤) first (λ y m. tt))
 
-    absent : (cs : List Binding) → Each (λ c. EachVar (λ y. y ≢ b.x) (tm_of c.term)) cs → (y : ℕ) → y ≢ b.x → EachVar (λ x. x ≢ b.x) (sub_of cs y)
-    absent [] k y d = d
-    absent (c ∷ cs) k y d = by (nat_eq y c.x) (λ x e. absent cs k.1 x e)
-      where
-        by : (same : Bool) → ((x : ℕ) → x ≢ b.x → EachVar (λ v. v ≢ b.x) (sub_of cs x)) → EachVar (λ x. x ≢ b.x) (under (sub_of cs) (if same then tm_of c.term else var y))
-        by true rec = each-under (λ x. x ≢ b.x) (λ x. x ≢ b.x) (sub_of cs) rec (tm_of c.term) k.0
-        by false rec = rec y d
-
-    parts : EachVar (λ x. x ≢ b.x) first
+    parts : EachVar (λ x. x ≢ b.x) (if nat_eq z b.x then tm_of b.term else var z)
     parts = by (nat_eq z b.x) refl
       where
         by : (same : Bool) → nat_eq z b.x ≡ same → EachVar (λ x. x ≢ b.x) (if same then tm_of b.term else var z)
         by true e = h.2.0
         by false e = eqb-false z b.x e
 
-    apart : (y : ℕ) → occurs y (sub_of (b ∷ bs) z) ≡ true → y ≢ b.x
-    apart y m = each-occurs (λ x. x ≢ b.x) (sub_of (b ∷ bs) z) (each-under (λ x. x ≢ b.x) (λ x. x ≢ b.x) (sub_of bs) (λ x d. absent bs h.2.1 x d) first parts) y m
+    apart : w ≢ b.x
+    apart = each-occurs (λ x. x ≢ b.x) (sub_of (b ∷ bs) z) (each-under (λ x. x ≢ b.x) (λ x. x ≢ b.x) (sub_of bs) (λ x d. read-absent b.x bs h.2.1 x d) first parts) w o
+
+-- what is read has no bound variable
+pub read-unbound : (n : ℕ) (bs : List Binding) → Solved n bs → (z w : ℕ) → occurs w (sub_of bs z) ≡ true → is_bound_in bs w ≡ false
+read-unbound n [] h z w o = refl
+read-unbound n (b ∷ bs) h z w o = read-step n b bs h (λ x y m. read-unbound n bs h.3 x y m) z w o
 
 -- ---- what is met
 
@@ -108,25 +114,23 @@ met-pushed G H bs b f new _ (met z g k) = met z (f z g) (λ c j e w o. by c e w 
         let same : b ≡ c = Contains-single b c i in
         new (subst G (sym (ap (λ (d : Binding). d.x) same ∙ e)) g) w (ap (λ (d : Binding). occurs w (tm_of d.term)) same ∙ o)
 
+-- a binding before the others, of another variable
+met-later : (G : ℕ → Type 0) (a : Binding) (bs : List Binding) → ((b : Binding) → Contains (a ∷ bs) b → (w : ℕ) → occurs w (tm_of b.term) ≡ true → w ≢ a.x) → (z : ℕ) → Met G bs z → z ≢ a.x → Met G (a ∷ bs) z
+met-later G a bs absent _ (met z g k) d = met z g (λ b j e v o. by b e v o (Contains-cases a bs b j) (λ i. met-later G a bs absent v (k b i e v o) (absent b j v o)))
+  where
+    by : (b : Binding) → b.x ≡ z → (v : ℕ) → occurs v (tm_of b.term) ≡ true → (a ≡ b) ⊎ Contains bs b → (Contains bs b → Met G (a ∷ bs) v) → Met G (a ∷ bs) v
+    by b e v o (inl same) old = absurd (d (sym e ∙ ap (λ (c : Binding). c.x) (sym same)))
+    by b e v o (inr i) old = old i
+
 -- what leads to its like alone
 pub met-closed : (G C : ℕ → Type 0) (n : ℕ) (bs : List Binding) → Solved n bs → ((z : ℕ) → C z → G z) → ((b : Binding) → Contains bs b → C b.x → (w : ℕ) → occurs w (tm_of b.term) ≡ true → C w)
     → (z : ℕ) → C z → Met G bs z
 met-closed G C n [] h f k z c = met z (f z c) (λ b j e w o. absurd (Contains-none b j))
 met-closed G C n (a ∷ bs) h f k z c =
-    met z (f z c) (λ b j e w o. later w (rest w (k b j (subst C (sym e) c) w o)) (absent b j w o))
+    met z (f z c) (λ b j e w o. met-later G a bs absent w (met-closed G C n bs h.3 f (λ d i m v r. k d (Contains-there a bs d i) m v r) w (k b j (subst C (sym e) c) w o)) (absent b j w o))
   where
-    rest : (w : ℕ) → C w → Met G bs w
-    rest w d = met-closed G C n bs h.3 f (λ b j e v o. k b (Contains-there a bs b j) e v o) w d
-
     absent : (b : Binding) → Contains (a ∷ bs) b → (w : ℕ) → occurs w (tm_of b.term) ≡ true → w ≢ a.x
     absent b j w o = each-occurs (λ y. y ≢ a.x) (tm_of b.term) (Each-member (λ (c : Binding). EachVar (λ y. y ≢ a.x) (tm_of c.term)) (a ∷ bs) b h.2 j) w o
-
-    later : (w : ℕ) → Met G bs w → w ≢ a.x → Met G (a ∷ bs) w
-    later _ (met w g m) d = met w g (λ b j e v o. by b e v o (Contains-cases a bs b j) (λ i. later v (m b i e v o) (absent b j v o)))
-      where
-        by : (b : Binding) → b.x ≡ w → (v : ℕ) → occurs v (tm_of b.term) ≡ true → (a ≡ b) ⊎ Contains bs b → (Contains bs b → Met G (a ∷ bs) v) → Met G (a ∷ bs) v
-        by b e v o (inl same) old = absurd (d (sym e ∙ ap (λ (c : Binding). c.x) (sym same)))
-        by b e v o (inr i) old = old i
 
 -- what is read was met
 pub met-reads : (G : ℕ → Type 0) (bs : List Binding) (z : ℕ) → Met G bs z → EachVar G (sub_of bs z)

@@ -1,5 +1,5 @@
 -- The entries of variables as they are lowered, and which cover owns a universal variable.
-use Rattle.std.specs.Prelude.{◌≡◌, ◌⊎◌, ℕ, zero, suc, ◌+◌, ◌<◌, ◌≤◌, nat_eq, Bool, true, false, ◌&&◌, ◌||◌, min, if◌then◌else◌, Some, None, List, [], ◌∷◌, ◌++◌, length, replicate, slice_get, slice_set, ⊤}
+use Rattle.std.specs.Prelude.{◌≡◌, ◌≢◌, ◌⊎◌, ℕ, zero, suc, ◌+◌, ◌<◌, ◌≤◌, nat_eq, Bool, true, false, ◌&&◌, ◌||◌, min, if◌then◌else◌, Some, None, List, [], ◌∷◌, ◌++◌, length, replicate, slice_get, slice_set, ⊤}
 use Rattle.std.specs.List.{list_any}
 use Rattle.std.proofs.Common.{refl, arith, ap, sym, subst, ◌∙◌, inl, inr}
 use Rattle.std.proofs.lemmas.Bool.{and_left, and_parts, and_from, or_left, or_right, or_from, or_parts, or_cases, eqb-true, eqb-false, eq-eqb, ne_eqb, true≢false}
@@ -30,9 +30,9 @@ pub record Lower (m o : Made) : Type 0 where
   pub fixed : is_kind_existential m.kind ≡ false → o ≡ m
 
 pub lower-same : (m o : Made) → o ≡ m → Lower m o
-lower-same m o e = record { kind = ap (λ (a : Made). a.kind) e; depth = (let d = ap (λ (a : Made). a.depth) e in omega (arith, d)); fixed = λ f. e }
+lower-same m o e = record { kind = ap (λ (a : Made). a.kind) e; depth = (let d : o.depth ≡ m.depth = ap (λ (a : Made). a.depth) e in omega (arith, d)); fixed = λ f. e }
 
-lower-then : (m o r : Made) → Lower m o → Lower o r → Lower m r
+pub lower-then : (m o r : Made) → Lower m o → Lower o r → Lower m r
 lower-then m o r a b = record {
   kind = b.kind ∙ a.kind;
   depth = (let d = a.depth in let e = b.depth in omega (arith, d, e));
@@ -92,19 +92,19 @@ lowered-small d (x ∷ xs) made z i l e = by (nat_eq z x) refl (λ j. lowered-sm
     by true f rest g = let a = first (eqb-true z x f) in let b = (lowered-lowers d xs next z).depth in omega (arith, a, b)
     by false f rest g = rest g
 
-set-other : (xs : List Made) (x z : ℕ) (m : Made) → nat_eq z x ≡ false → entry (slice_set xs x m) z ≡ entry xs z
-set-other [] x z m e = refl
-set-other (y ∷ ys) zero zero m e = absurd (true≢false e)
-set-other (y ∷ ys) zero (suc z) m e = refl
-set-other (y ∷ ys) (suc x) zero m e = refl
-set-other (y ∷ ys) (suc x) (suc z) m e = set-other ys x z m e
+set-other : (xs : List Made) (x z : ℕ) (m : Made) → z ≢ x → entry (slice_set xs x m) z ≡ entry xs z
+set-other [] x z m n = refl
+set-other (y ∷ ys) zero zero m n = absurd (n refl)
+set-other (y ∷ ys) zero (suc z) m n = refl
+set-other (y ∷ ys) (suc x) zero m n = refl
+set-other (y ∷ ys) (suc x) (suc z) m n = set-other ys x z m (λ e. n (ap suc e))
 
 -- one that was not
 pub lowered-other : (d : ℕ) (xs : List ℕ) (made : List Made) (z : ℕ) → among z xs ≡ false → entry (lowered d xs made) z ≡ entry made z
 lowered-other d [] made z e = refl
 lowered-other d (x ∷ xs) made z e =
     let q = or_parts (nat_eq z x) (among z xs) e in
-    lowered-other d xs (slice_set made x (lower d (slice_get made x))) z q.1 ∙ set-other made x z (lower d (slice_get made x)) q.0
+    lowered-other d xs (slice_set made x (lower d (slice_get made x))) z q.1 ∙ set-other made x z (lower d (slice_get made x)) (eqb-false z x q.0)
 
 -- ---- new variables, and those that become universal
 
@@ -121,7 +121,7 @@ pub universals-other : (d : ℕ) (xs : List ℕ) (made : List Made) (z : ℕ) �
 universals-other d [] made z e = refl
 universals-other d (x ∷ xs) made z e =
     let q = or_parts (nat_eq z x) (among z xs) e in
-    universals-other d xs (slice_set made x (universal_of d)) z q.1 ∙ set-other made x z (universal_of d) q.0
+    universals-other d xs (slice_set made x (universal_of d)) z q.1 ∙ set-other made x z (universal_of d) (eqb-false z x q.0)
 
 universals-stay : (d : ℕ) (xs : List ℕ) (made : List Made) (z : ℕ) → z < length made → entry made z ≡ universal_of d → entry (universals_at d xs made) z ≡ universal_of d
 universals-stay d [] made z l e = e
@@ -134,7 +134,7 @@ universals-stay d (x ∷ xs) made z l e = universals-stay d xs (slice_set made x
     by true f =
         let same : z ≡ x = eqb-true z x f in
         ap (λ (y : ℕ). entry (slice_set made x (universal_of d)) y) same ∙ ap made_or (get-set made x (universal_of d) (subst (λ (y : ℕ). y < length made) same l))
-    by false f = set-other made x z (universal_of d) f ∙ e
+    by false f = set-other made x z (universal_of d) (eqb-false z x f) ∙ e
 
 pub universals-entry : (d : ℕ) (xs : List ℕ) (made : List Made) (z : ℕ) → among z xs ≡ true → z < length made → entry (universals_at d xs made) z ≡ universal_of d
 universals-entry d [] made z i l = absurd (true≢false (sym i))
@@ -168,7 +168,7 @@ mutual
 
   pub all-vars-occur : (z : ℕ) (ts : Tms) → among z (terms_vars ts) ≡ occurs_among z ts
   all-vars-occur z nil = refl
-  all-vars-occur z (cons t ts) = among-append z (term_vars t) (terms_vars ts) ∙ (let a = vars-occur z t in let b = all-vars-occur z ts in rw a (rw b refl))
+  all-vars-occur z (cons t ts) = among-append z (term_vars t) (terms_vars ts) ∙ ap (λ (b : Bool). b || among z (terms_vars ts)) (vars-occur z t) ∙ ap (λ (b : Bool). occurs z t || b) (all-vars-occur z ts)
 
 -- ---- which cover owns a variable
 
@@ -190,14 +190,14 @@ pub record Place (cs : List Cover) (c : Cover) : Type 0 where
 
 pub owns-low : (cs : List Cover) → Placed cs → (d z : ℕ) → owns cs d z ≡ true → (0 < d) × (d ≤ length cs)
 owns-low [] h d z o = absurd (true≢false (sym o))
-owns-low (c ∷ cs) h d z o = by (or_cases (nat_eq c.depth d && among z c.universals) (owns cs d z) o)
+owns-low (c ∷ cs) h d z o = by (or_cases (nat_eq c.depth d && among z c.universals) (owns cs d z) o) (λ e. owns-low cs h.1 d z e)
   where
     depth : c.depth ≡ suc (length cs)
     depth = h.0
 
-    by : ((nat_eq c.depth d && among z c.universals) ≡ true) ⊎ (owns cs d z ≡ true) → (0 < d) × (d ≤ length (c ∷ cs))
-    by (inl e) = let same : c.depth ≡ d = eqb-true c.depth d (and_parts (nat_eq c.depth d) (among z c.universals) e).0 in (omega (arith, depth, same), omega (arith, depth, same))
-    by (inr e) = let k = owns-low cs h.1 d z e in (k.0, omega (arith, k.1))
+    by : ((nat_eq c.depth d && among z c.universals) ≡ true) ⊎ (owns cs d z ≡ true) → (owns cs d z ≡ true → (0 < d) × (d ≤ length cs)) → (0 < d) × (d ≤ length (c ∷ cs))
+    by (inl e) rest = let same : c.depth ≡ d = eqb-true c.depth d (and_parts (nat_eq c.depth d) (among z c.universals) e).0 in (omega (arith, depth, same), omega (arith, depth, same))
+    by (inr e) rest = let k = rest e in let l : d ≤ length cs = k.1 in (k.0, omega (arith, l))
 
 pub places : (cs : List Cover) → Placed cs → Each (Place cs) cs
 places [] h = tt

@@ -43,7 +43,7 @@ module _ (p : Problem) (q : Query) (fits : is_query_well_formed q ≡ true) wher
 
   first-scoped : (z : ℕ) → z < length q.names → Scoped (start q p.checks).made [] [] 0 z
   first-scoped z l =
-      let e : entry (start q p.checks).made z ≡ record { kind = Existential; depth = 0 } = entry-new [] (length q.names) (record { kind = Existential; depth = 0 }) z (omega arith) l in
+      let e : entry (start q p.checks).made z ≡ record { kind = Existential; depth = 0 } = entry-new [] (length q.names) (record { kind = Existential; depth = 0 }) z (omega arith) (omega (arith, l)) in
       let depth : (entry (start q p.checks).made z).depth ≡ 0 = ap (λ (d : Made). d.depth) e in
       met-free (Good (start q p.checks).made [] [] 0) [] z (existential (omega (arith, l, many)) (ap (λ (d : Made). d.kind) e) (omega (arith, depth))) refl
 

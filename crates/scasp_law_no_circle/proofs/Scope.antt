@@ -161,7 +161,7 @@ module _ (made more : List Made) (cs ds : List Cover) (bs es : List Binding) (n 
       let same : entry more u ≡ entry made u = lo.fixed (ap is_kind_existential o.1) in
       let low : u < length made = o.0 in
       let long = b.long in
-      (omega (arith, low, long), (lo.kind ∙ o.1, ap (λ (a : Made). a.depth) same ∙ o.2))
+      (omega (arith, low, long), lo.kind ∙ o.1, ap (λ (a : Made). a.depth) same ∙ o.2)
 
 -- with the variables that covers own, and those that are new
 pub record Change (made more : List Made) (cs ds : List Cover) (bs es : List Binding) (n : ℕ) : Type 0 where

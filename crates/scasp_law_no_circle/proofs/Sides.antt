@@ -177,15 +177,16 @@ module _ (p : Program) (s : State) (h : Sound p s.made s.covers s.bound) (solved
 
     long : length s.made ≤ length (Lowered p s h d c (free c))
     long =
-        let a = lowered-length (d - 1) (con_vars (meaning s) c) (Grown p s h d c (free c)) in
-        let b = new-length s Universal d (length (parted (next_variable s) c).parts_there) in omega (arith, a, b)
+        let a : length (Lowered p s h d c (free c)) ≡ length (Grown p s h d c (free c)) = lowered-length (d - 1) (con_vars (meaning s) c) (Grown p s h d c (free c)) in
+        let b : length (Grown p s h d c (free c)) ≡ length s.made + length (parted (next_variable s) c).parts_there = new-length s Universal d (length (parted (next_variable s) c).parts_there) in
+        omega (arith, a, b)
 
     same-universal : (z : ℕ) → z < length s.made → (entry s.made z).kind ≡ Universal → entry (Lowered p s h d c (free c)) z ≡ entry s.made z
     same-universal z l e = (low z l).fixed (ap is_kind_existential e)
 
     below-split : (z : ℕ) → z < length s.made → (entry s.made z).kind ≡ Existential → among z (con_vars (meaning s) c) ≡ true → (entry (Lowered p s h d c (free c)) z).depth ≤ d - 1
     below-split z l e i =
-        lowered-small (d - 1) (con_vars (meaning s) c) (Grown p s h d c (free c)) z i (let b = new-length s Universal d (length (parted (next_variable s) c).parts_there) in omega (arith, l, b))
+        lowered-small (d - 1) (con_vars (meaning s) c) (Grown p s h d c (free c)) z i (let b : length (Grown p s h d c (free c)) ≡ length s.made + length (parted (next_variable s) c).parts_there = new-length s Universal d (length (parted (next_variable s) c).parts_there) in omega (arith, l, b))
         (ap (λ (a : Made). is_kind_existential a.kind) (entry-left s.made (replicate (length (parted (next_variable s) c).parts_there) (universal_of d)) z l) ∙ ap is_kind_existential e)
 
     -- a universal variable that the split replaces, or that the other side does
@@ -194,7 +195,8 @@ module _ (p : Program) (s : State) (h : Sound p s.made s.covers s.bound) (solved
 
     -- the new parts of the other side
     there-owned : (w : ℕ) → length s.made ≤ w → w < length s.made + length (parted (next_variable s) c).parts_there → Owned (Lowered p s h d c (free c)) d w × (is_bound_in s.bound w ≡ false)
-    there-owned w l m = ((omega (arith, a, b, m), (ap (λ (e : Made). e.kind) new, ap (λ (e : Made). e.depth) new)), above-unbound (length s.made) s.bound solved w l)
+    there-owned w l m =
+        ((omega (arith, a, b, m), ap (λ (e : Made). e.kind) new, ap (λ (e : Made). e.depth) new), above-unbound (length s.made) s.bound solved w l)
       where
         a : length (Lowered p s h d c (free c)) ≡ length (Grown p s h d c (free c))
         a = lowered-length (d - 1) (con_vars (meaning s) c) (Grown p s h d c (free c))

@@ -103,7 +103,7 @@ module _ (q : Parting) (bs : List Binding) (d : ℕ) where
       by true = omega (arith, depth, same)
       by false = omega (arith, depth, same)
 
-  still-owns : (cs : List Cover) (k z : ℕ) → owns cs k z ≡ true → owns (at_depth d (cover_parted q bs) cs) k z ≡ true
+  pub still-owns : (cs : List Cover) (k z : ℕ) → owns cs k z ≡ true → owns (at_depth d (cover_parted q bs) cs) k z ≡ true
   still-owns [] k z o = o
   still-owns (c ∷ cs) k z o = by (nat_eq c.depth d) (or_cases (nat_eq c.depth k && among z c.universals) (owns cs k z) o) (λ f. still-owns cs k z f)
     where
@@ -130,9 +130,6 @@ module _ (q : Parting) (bs : List Binding) (d : ℕ) where
       by false e (inr f) rest = or_right (nat_eq c.depth d && among w c.universals) (owns (at_depth d (cover_parted q bs) cs) d w) (rest f)
 
 module _ (p : Program) (made : List Made) (cs : List Cover) (bs : List Binding) (h : Sound p made cs bs) (d : ℕ) (q : Parting) where
-  abbrev ds : List Cover
-  ds = at_depth d (cover_parted q bs) cs
-
   parted-better : Better made made cs (at_depth d (cover_parted q bs) cs) bs bs (length cs)
   parted-better = record {
     long = within (length made);
