@@ -1,5 +1,5 @@
 -- What is assumed keeps what is owned.
-use Rattle.std.specs.Prelude.{◌≡◌, ◌≢◌, ◌⊎◌, ℕ, ◌+◌, ◌<◌, ◌≤◌, nat_eq, max, Bool, true, false, not, if◌then◌else◌, Option, Some, None, List, [], ◌∷◌, ◌++◌, length, map, filter, ⊤}
+use Rattle.std.specs.Prelude.{◌≡◌, ◌≢◌, ◌⊎◌, ℕ, ◌<◌, ◌≤◌, max, Bool, true, false, not, if◌then◌else◌, Option, Some, None, List, [], ◌∷◌, ◌++◌, length, map, filter}
 use Rattle.std.specs.List.{fold}
 use Rattle.std.proofs.Common.{refl, arith, ap, sym, subst, ◌∙◌, inl, inr}
 use Rattle.std.proofs.lemmas.Bool.{eq-eqb, ne_eqb, true≢false}
@@ -11,16 +11,15 @@ use Rattle.scasp_search_rules.specs.declared.states.outcomes.Status.TheVariants.
 use Rattle.scasp_search_rules.specs.declared.states.state.Kind.{Kind}
 use Rattle.scasp_search_rules.specs.declared.states.state.Kind.TheVariants.{Existential, Universal, Matched}
 use Rattle.scasp_search_rules.specs.declared.states.state.State.{State}
-use Rattle.scasp_search_rules.specs.declared.states.tasks.Task.{Task}
-use Rattle.scasp_search_rules.specs.Successors.Assumptions.{performed, as_read, status, assume, assume_all, against, along}
+use Rattle.scasp_search_rules.specs.Successors.Assumptions.{performed, as_read, status, assume, against, along}
 use Rattle.scasp_search_rules.specs.Successors.Falls.{EachState}
 use Rattle.scasp_search_rules.specs.Successors.Reading.{con_vars, holds_always, not_shaped, row_under, term_under}
 use Rattle.scasp_search_rules.specs.Successors.Regions.{with_given}
 use Rattle.scasp_search_rules.specs.Successors.Splits.{is_bound_in, split, split_at, owner, greatest, numbered_to, is_number_by, replacement, bound_by}
-use Rattle.scasp_search_rules.specs.Successors.Variables.{depth_of, is_universal, is_empty, is_kind_matched, is_kind_universal, meaning, universals_of}
+use Rattle.scasp_search_rules.specs.Successors.Variables.{depth_of, is_universal, is_empty, is_kind_universal, meaning, universals_of}
 use Rattle.scasp_syntax.specs.Constraints.{has_shape}
 use Rattle.scasp_syntax.specs.Same.{same_number}
-use Rattle.scasp_syntax.specs.Tm.{Tm, Tms, var, num, app}
+use Rattle.scasp_syntax.specs.Tm.{Tm, var, num, app}
 use Rattle.scasp_syntax.specs.declared.con.Con.{Con}
 use Rattle.scasp_syntax.specs.declared.con.Con.TheVariants as con
 use Rattle.scasp_syntax.specs.declared.program.Program.{Program}
@@ -32,14 +31,13 @@ use Rattle.scasp_unify.specs.Unification.{term_vars}
 use Rattle.scasp_unify.specs.declared.bindings.Binding.{Binding}
 use Rattle.scasp_unify.proofs.LaterParts.{parts-same}
 use Rattle.scasp_law_first_event.proofs.Bindings.{Solved, unbound-self}
-use Rattle.scasp_law_first_event.proofs.EachStates.{each_followed, each_weaker}
 use Rattle.scasp_law_first_event.proofs.Keeping.{solved-more}
 use Rattle.scasp_law_first_event.proofs.Terms.{EachVar}
 use Rattle.scasp_law_no_circle.proofs.Meeting.{met-good, met-reads, read-unbound}
 use Rattle.scasp_law_no_circle.proofs.Places.{entry, owns}
 use Rattle.scasp_law_no_circle.proofs.Scope.{Good, existential, universal, matched, good-made, Scoped, Sound, Scopes, scopes-then, scopes-itself}
 use Rattle.scasp_law_no_circle.proofs.Sides.{IsOpen, IsOther, one-owner, number-split, no-number-split, row-split, Blunt, blunt-split, shape-split, value-split, variable-split}
-use Rattle.scasp_law_no_circle.proofs.Tasks.{Assumed, AssumedSides, Frees, StandsFirst}
+use Rattle.scasp_law_no_circle.proofs.Tasks.{Assumed, Frees, StandsFirst}
 
 -- with the same bindings and the same work
 pub record Assumes (p : Program) (s r : State) : Type 0 where

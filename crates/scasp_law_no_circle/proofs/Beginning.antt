@@ -1,5 +1,5 @@
 -- Cases, and covers that begin.
-use Rattle.std.specs.Prelude.{◌≡◌, ◌≢◌, ◌⊎◌, ℕ, zero, suc, ◌+◌, ◌-◌, ◌<◌, ◌≤◌, nat_eq, Bool, true, false, ◌&&◌, ◌||◌, not, if◌then◌else◌, Option, Some, None, List, [], ◌∷◌, ◌++◌, length, map, filter, replicate}
+use Rattle.std.specs.Prelude.{◌≡◌, ◌⊎◌, ℕ, zero, suc, ◌+◌, ◌-◌, ◌<◌, ◌≤◌, nat_eq, Bool, true, false, ◌&&◌, not, if◌then◌else◌, List, [], ◌∷◌, ◌++◌, length, map, replicate}
 use Rattle.std.specs.List.{Contains}
 use Rattle.std.proofs.Common.{refl, arith, ap, sym, subst, ◌∙◌, inl, inr}
 use Rattle.std.proofs.lemmas.Bool.{cases_Bool, and_from, not-true, or_left, or_right, eq-eqb, true≢false}
@@ -9,10 +9,9 @@ use Rattle.scasp_list.proofs.MemberLemmas.{Contains-here, Contains-there}
 use Rattle.scasp_search_rules.specs.declared.states.covers.Cover.{Cover}
 use Rattle.scasp_search_rules.specs.declared.states.lines.Line.{Line}
 use Rattle.scasp_search_rules.specs.declared.states.lines.Line.TheVariants as line
-use Rattle.scasp_search_rules.specs.declared.states.state.Kind.TheVariants.{Existential, Universal, Matched}
+use Rattle.scasp_search_rules.specs.declared.states.state.Kind.TheVariants.{Matched}
 use Rattle.scasp_search_rules.specs.declared.states.state.Made.{Made}
 use Rattle.scasp_search_rules.specs.declared.states.state.State.{State}
-use Rattle.scasp_search_rules.specs.declared.states.tasks.Task.{Task}
 use Rattle.scasp_search_rules.specs.declared.states.tasks.Task.TheVariants as task
 use Rattle.scasp_search_rules.specs.declared.states.tasks.Aim.TheVariants as aims
 use Rattle.scasp_search_rules.specs.Successors.Calls.{covered, head_args, vars_of_clause}
@@ -21,16 +20,14 @@ use Rattle.scasp_search_rules.specs.Successors.Falls.{EachState}
 use Rattle.scasp_search_rules.specs.Successors.Items.{body_of, with_line}
 use Rattle.scasp_search_rules.specs.Successors.Pairs.{pairs}
 use Rattle.scasp_search_rules.specs.Successors.Reading.{among, count_from}
-use Rattle.scasp_search_rules.specs.Successors.Regions.{before, context, asked_with}
+use Rattle.scasp_search_rules.specs.Successors.Regions.{context, asked_with}
 use Rattle.scasp_search_rules.specs.Successors.Splits.{is_bound_in}
 use Rattle.scasp_search_rules.specs.Successors.Variables.{is_kind_matched, next_variable, with_new}
 use Rattle.scasp_syntax.specs.Programs.{numbered}
-use Rattle.scasp_syntax.specs.View.{tm_of}
 use Rattle.scasp_syntax.specs.declared.atom.Atom.{Atom}
 use Rattle.scasp_syntax.specs.declared.clause.FlatItem.{FlatItem}
 use Rattle.scasp_syntax.specs.declared.con.Con.{Con}
 use Rattle.scasp_syntax.specs.declared.program.Program.{Program}
-use Rattle.scasp_unify.specs.Parts.{occurs}
 use Rattle.scasp_unify.specs.declared.bindings.Binding.{Binding}
 use Rattle.scasp_law_first_event.proofs.Bindings.{Solved, above-unbound}
 use Rattle.scasp_law_first_event.proofs.Calls.{each-of}
@@ -39,16 +36,16 @@ use Rattle.scasp_law_first_event.proofs.Fitting.{ItemEach}
 use Rattle.scasp_law_first_event.proofs.Loose.{universals-length}
 use Rattle.scasp_law_first_event.proofs.Moves.{new-length}
 use Rattle.scasp_law_first_event.proofs.Raising.{BodyEach, Raised, raised-of}
-use Rattle.scasp_law_first_event.proofs.Terms.{EachVar, EachVars, all-weaker}
+use Rattle.scasp_law_first_event.proofs.Terms.{EachVars, all-weaker}
 use Rattle.scasp_law_first_event.proofs.Turning.{among-kept}
 use Rattle.scasp_law_no_circle.proofs.Differing.{pairs-scoped}
 use Rattle.scasp_law_no_circle.proofs.Growing.{within, more-scopes}
 use Rattle.scasp_law_no_circle.proofs.Meeting.{met-free, bound-there}
-use Rattle.scasp_law_no_circle.proofs.Places.{entry, lower-same, entry-new, universals-other, universals-entry, universal_of, owns, Placed, places}
+use Rattle.scasp_law_no_circle.proofs.Places.{entry, lower-same, entry-new, universals-other, universals-entry, universal_of, owns, places}
 use Rattle.scasp_law_no_circle.proofs.Scope.{Good, universal, Scoped, deeper, Under, Falls, Owned, InClause, Holds, Sound, Better, Carries, fewer-carries, Change, covers-kept, Scopes}
 use Rattle.scasp_law_no_circle.proofs.Sides.{count-span}
 use Rattle.scasp_law_no_circle.proofs.Splitting.{among-filter}
-use Rattle.scasp_law_no_circle.proofs.Tasks.{Either, Heads, Waiting, First, Front, plain, differs, waiting-more, case-before, scoped-kept, either-kept, work-kept, Owning}
+use Rattle.scasp_law_no_circle.proofs.Tasks.{Either, Heads, Waiting, First, Front, plain, differs, waiting-more, case-before, scoped-kept, work-kept, Owning}
 
 -- ---- the alternatives of a case
 

@@ -9,16 +9,15 @@ use Rattle.scasp_list.proofs.EachLemmas.{Each-both, Each-filter, Each-map}
 use Rattle.scasp_list.proofs.MemberLemmas.{Contains-from_filter}
 use Rattle.scasp_search_rules.specs.declared.states.covers.Cover.{Cover}
 use Rattle.scasp_search_rules.specs.declared.states.covers.Remainder.{Remainder}
-use Rattle.scasp_search_rules.specs.declared.states.state.Kind.TheVariants.{Existential, Universal, Matched}
+use Rattle.scasp_search_rules.specs.declared.states.state.Kind.TheVariants.{Universal, Matched}
 use Rattle.scasp_search_rules.specs.declared.states.state.Made.{Made}
 use Rattle.scasp_search_rules.specs.declared.states.state.State.{State}
-use Rattle.scasp_search_rules.specs.declared.states.tasks.Task.{Task}
 use Rattle.scasp_search_rules.specs.Successors.Calls.{vars_of_clause}
 use Rattle.scasp_search_rules.specs.Successors.Cases.{cases_of, unbound, ended_case, replaced_now, remaining, taken_up, after_case, close_case}
 use Rattle.scasp_search_rules.specs.Successors.Falls.{EachState}
 use Rattle.scasp_search_rules.specs.Successors.Reading.{among}
 use Rattle.scasp_search_rules.specs.Successors.Splits.{is_bound_in}
-use Rattle.scasp_search_rules.specs.Successors.Variables.{binding, is_kind_matched, is_kind_universal, meaning}
+use Rattle.scasp_search_rules.specs.Successors.Variables.{binding, is_kind_matched, is_kind_universal}
 use Rattle.scasp_syntax.specs.Tm.{Tm}
 use Rattle.scasp_syntax.specs.Values.{under}
 use Rattle.scasp_syntax.specs.View.{tm_of}
@@ -35,10 +34,10 @@ use Rattle.scasp_law_first_event.proofs.Turning.{kept-bound}
 use Rattle.scasp_law_no_circle.proofs.Beginning.{cases-own, clause-scoped}
 use Rattle.scasp_law_no_circle.proofs.Growing.{within, Fits, pushed-scopes}
 use Rattle.scasp_law_no_circle.proofs.Meeting.{met-good, met-next, met-closed, met-reads, occurs-each, each-occurs, bound-there}
-use Rattle.scasp_law_no_circle.proofs.Places.{entry, lower-same, owns, owns-inner, Placed, Place, places}
+use Rattle.scasp_law_no_circle.proofs.Places.{entry, lower-same, owns, owns-inner, Place, places}
 use Rattle.scasp_law_no_circle.proofs.Scope.{Good, existential, universal, matched, Scoped, good-deeper, Under, Falls, Owned, InClause, InEquation, Equates, Waits, Nested, Holds, Sound, Better, Carries, fewer-carries, Change, holds-kept, Scopes}
 use Rattle.scasp_law_no_circle.proofs.Sides.{term-unbound}
-use Rattle.scasp_law_no_circle.proofs.Tasks.{Waiting, First, plain, waiting-more, Owning}
+use Rattle.scasp_law_no_circle.proofs.Tasks.{Waiting, plain, waiting-more, Owning}
 
 -- ---- bindings that are taken out
 

@@ -1,5 +1,5 @@
 -- What is to be apart, and what is matched, keeps what is owned.
-use Rattle.std.specs.Prelude.{◌≡◌, ◌≢◌, ◌⊎◌, ℕ, ◌+◌, ◌<◌, ◌≤◌, nat_eq, nat_lt, Bool, true, false, ◌&&◌, ◌||◌, not, if◌then◌else◌, List, [], ◌∷◌, ◌++◌, length, ⊤}
+use Rattle.std.specs.Prelude.{◌≡◌, ◌≢◌, ◌⊎◌, ℕ, ◌<◌, ◌≤◌, nat_eq, nat_lt, Bool, true, false, ◌&&◌, ◌||◌, not, if◌then◌else◌, List, [], ◌∷◌, ◌++◌, length, ⊤}
 use Rattle.std.proofs.Common.{refl, arith, ap, sym, subst, ◌∙◌, inl, inr}
 use Rattle.std.proofs.lemmas.Bool.{cases_Bool, and_parts, or_parts, or_cases, eqb-true, eqb-false, ltb-true, ltb-false, not-true, true≢false}
 use Rattle.scasp_list.specs.Each.{Each}
@@ -16,8 +16,8 @@ use Rattle.scasp_search_rules.specs.declared.states.tasks.Pair.{Pair}
 use Rattle.scasp_search_rules.specs.declared.states.tasks.Task.{Task}
 use Rattle.scasp_search_rules.specs.declared.states.tasks.Task.TheVariants as task
 use Rattle.scasp_search_rules.specs.Successors.Assumptions.{assume, status}
-use Rattle.scasp_search_rules.specs.Successors.Differences.{when_apart, when_same, alternatives, at_part, part_of_variables, stands_first, differ_variables, differ_number, differ_value, differ_shape, differ_pair, same_value, same_shape, is_matched, take_up, differ_first, differ_pairs, differ_terms}
-use Rattle.scasp_search_rules.specs.Successors.Equations.{is_inside, becomes_shape, equated, two_variables, variable_number}
+use Rattle.scasp_search_rules.specs.Successors.Differences.{when_apart, alternatives, at_part, part_of_variables, stands_first, differ_variables, differ_number, differ_value, differ_shape, differ_pair, same_value, same_shape, is_matched, take_up, differ_first, differ_pairs, differ_terms}
+use Rattle.scasp_search_rules.specs.Successors.Equations.{is_inside, becomes_shape, two_variables, variable_number}
 use Rattle.scasp_search_rules.specs.Successors.Falls.{EachState}
 use Rattle.scasp_search_rules.specs.Successors.Pairs.{pairs, pairs_of, in_front, from_first}
 use Rattle.scasp_search_rules.specs.Successors.Regions.{before}
@@ -33,8 +33,7 @@ use Rattle.scasp_syntax.specs.declared.program.Program.{Program}
 use Rattle.scasp_syntax.specs.declared.term.Term.{Term}
 use Rattle.scasp_syntax.specs.declared.term.Term.TheVariants.{Var, Num, App}
 use Rattle.scasp_unify.specs.Negations.{new_parts}
-use Rattle.scasp_unify.specs.Parts.{occurs, occurs_among}
-use Rattle.scasp_unify.specs.SimpleForm.{term_with}
+use Rattle.scasp_unify.specs.Parts.{occurs_among}
 use Rattle.scasp_unify.specs.declared.bindings.Binding.{Binding}
 use Rattle.scasp_unify.proofs.SimpleLemmas.{viewed}
 use Rattle.scasp_law_first_event.proofs.Apart.{Apart, Both, pairs-both}
@@ -46,8 +45,8 @@ use Rattle.scasp_law_no_circle.proofs.Equating.{Moves, Puts, variables-move, num
 use Rattle.scasp_law_no_circle.proofs.Growing.{Fits, still-unbound, pushed-sound, pushed-carries, pushed-loose}
 use Rattle.scasp_law_no_circle.proofs.Meeting.{met-good, each-occurs}
 use Rattle.scasp_law_no_circle.proofs.Places.{entry, owns}
-use Rattle.scasp_law_no_circle.proofs.Scope.{Good, Scoped, good-made, Sound, Scopes}
-use Rattle.scasp_law_no_circle.proofs.Tasks.{Either, PairScoped, Frees, StandsFirst, Assumed, Heads, AimScoped, BecomesScoped, First, Front, plain, assumes, numbers, differs, becomes, avoids, shapes, begins, Owning, scoped-kept, either-kept, pairs-kept, aim-kept, work-kept, waiting-more}
+use Rattle.scasp_law_no_circle.proofs.Scope.{Good, Scoped, good-made, Sound}
+use Rattle.scasp_law_no_circle.proofs.Tasks.{Either, PairScoped, Frees, StandsFirst, Assumed, AimScoped, BecomesScoped, First, Front, plain, assumes, numbers, differs, becomes, avoids, shapes, begins, Owning, scoped-kept, either-kept, pairs-kept, aim-kept, work-kept, waiting-more}
 
 -- free, and in scope; or of a head, and free
 abbrev RightFree : State → ℕ → Type 0

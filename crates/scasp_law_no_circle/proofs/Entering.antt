@@ -1,13 +1,12 @@
 -- Calls and items keep what is owned, and so each step does.
-use Rattle.std.specs.Prelude.{◌≡◌, ◌⊎◌, ℕ, suc, ◌+◌, ◌-◌, ◌<◌, ◌≤◌, Bool, true, false, ◌&&◌, ◌||◌, not, if◌then◌else◌, Option, Some, None, List, [], ◌∷◌, ◌++◌, length, map, filter, replicate, ⊤}
+use Rattle.std.specs.Prelude.{◌≡◌, ℕ, ◌+◌, ◌<◌, ◌≤◌, Bool, true, false, ◌&&◌, ◌||◌, not, if◌then◌else◌, Option, Some, None, List, [], ◌∷◌, ◌++◌, length, map, filter, replicate, ⊤}
 use Rattle.std.specs.List.{list_any}
-use Rattle.std.proofs.Common.{refl, arith, ap, sym, subst, ◌∙◌, inl, inr}
-use Rattle.std.proofs.lemmas.Bool.{and_parts, and_left, and_right, not-true, or_from, or_parts, true≢false}
+use Rattle.std.proofs.Common.{refl, arith, ap, sym, subst, ◌∙◌, inr}
+use Rattle.std.proofs.lemmas.Bool.{and_parts, not-true, or_from, or_parts, true≢false}
 use Rattle.std.proofs.lemmas.List.{append-nil}
 use Rattle.std.proofs.lemmas.List.Folds.{list_any-append}
 use Rattle.scasp_list.specs.Each.{Each}
 use Rattle.scasp_list.proofs.EachLemmas.{Each-append, Each-map}
-use Rattle.scasp_num.specs.Linear.{Linear}
 use Rattle.scasp_num.specs.declared.linear.Coeff.{Coeff}
 use Rattle.scasp_search_rules.specs.declared.states.lines.Line.{Line}
 use Rattle.scasp_search_rules.specs.declared.states.lines.Line.TheVariants as line
@@ -23,7 +22,7 @@ use Rattle.scasp_search_rules.specs.Successors.Assumptions.{assume, assume_all}
 use Rattle.scasp_search_rules.specs.Successors.Calls.{lit_under, nearest, ancestors, can_be_seen, is_free, is_opposite, opposites, differing, marked, looped, moved, left, at_number, finished, looping, vars_of_clause, head_args, by_rule, by_no_rule, entered, unrepeated, judged, call}
 use Rattle.scasp_search_rules.specs.Successors.Equations.{equations}
 use Rattle.scasp_search_rules.specs.Successors.Falls.{EachState}
-use Rattle.scasp_search_rules.specs.Successors.Items.{body_of, with_line, number_tests, test_item, show_test}
+use Rattle.scasp_search_rules.specs.Successors.Items.{body_of, with_line, number_tests, test_item}
 use Rattle.scasp_search_rules.specs.Successors.Regions.{before}
 use Rattle.scasp_search_rules.specs.Successors.Replacing.{is_close, closes}
 use Rattle.scasp_search_rules.specs.Successors.Search.{step_at, done}
@@ -31,12 +30,11 @@ use Rattle.scasp_search_rules.specs.Successors.Steps.{gives, goes}
 use Rattle.scasp_search_rules.specs.Successors.Variables.{has_universal, is_empty, is_universal, meaning, universals_of, with_new}
 use Rattle.scasp_syntax.specs.Programs.{numbered, rules_of, pred_of}
 use Rattle.scasp_syntax.specs.Same.{same_bool, same_pred}
-use Rattle.scasp_syntax.specs.Tm.{Tm, Tms, var, num, app, nil, cons, items}
+use Rattle.scasp_syntax.specs.Tm.{Tm, Tms, nil, cons, items}
 use Rattle.scasp_syntax.specs.Values.{Sub, under, all_under}
 use Rattle.scasp_syntax.specs.View.{tm_of}
 use Rattle.scasp_syntax.specs.declared.atom.Atom.{Atom}
 use Rattle.scasp_syntax.specs.declared.atom.Lit.{Lit}
-use Rattle.scasp_syntax.specs.declared.clause.FlatItem.{FlatItem}
 use Rattle.scasp_syntax.specs.declared.clause.FlatItem.TheVariants as flat
 use Rattle.scasp_syntax.specs.declared.con.Con.{Con}
 use Rattle.scasp_syntax.specs.declared.con.Con.TheVariants as con
@@ -54,7 +52,7 @@ use Rattle.scasp_law_first_event.proofs.Fitting.{ConEach, ItemEach}
 use Rattle.scasp_law_first_event.proofs.Keeping.{solved-more}
 use Rattle.scasp_law_first_event.proofs.Moves.{new-length}
 use Rattle.scasp_law_first_event.proofs.Raising.{BodyEach, Raised, raised-of}
-use Rattle.scasp_law_first_event.proofs.Terms.{EachVar, EachVars, each-weaker, all-weaker}
+use Rattle.scasp_law_first_event.proofs.Terms.{EachVars, each-weaker, all-weaker}
 use Rattle.scasp_law_no_circle.proofs.Assuming.{Assumes, assumes-then, assumes-itself, assume-assumes, Quiet, quiet-assumes}
 use Rattle.scasp_law_no_circle.proofs.Beginning.{begin-owns, cover-owns, check-owns}
 use Rattle.scasp_law_no_circle.proofs.Closing.{close-owns, close-absent}

@@ -1,5 +1,5 @@
 -- What is equated keeps what is owned.
-use Rattle.std.specs.Prelude.{◌≡◌, ◌≢◌, ◌⊎◌, ℕ, ◌+◌, ◌<◌, ◌≤◌, nat_eq, nat_le, nat_lt, max, min, Bool, true, false, ◌&&◌, ◌||◌, not, if◌then◌else◌, List, [], ◌∷◌, ◌++◌, length, replicate}
+use Rattle.std.specs.Prelude.{◌≡◌, ◌≢◌, ◌⊎◌, ℕ, ◌+◌, ◌<◌, ◌≤◌, nat_eq, nat_le, nat_lt, max, min, Bool, true, false, ◌&&◌, not, if◌then◌else◌, List, [], ◌∷◌, ◌++◌, length, replicate}
 use Rattle.std.specs.List.{Contains}
 use Rattle.std.proofs.Common.{refl, arith, ap, sym, subst, ◌∙◌, inl, inr}
 use Rattle.std.proofs.lemmas.Bool.{cases_lt, and_parts, or_parts, or_cases, eqb-true, ltb-true, ltb-false, leb-true, true≢false}
@@ -9,12 +9,11 @@ use Rattle.scasp_list.specs.Each.{Each}
 use Rattle.scasp_list.proofs.EachLemmas.{Each-append, Each-map}
 use Rattle.scasp_list.proofs.MemberLemmas.{Contains-here}
 use Rattle.scasp_num.specs.Number.{Number}
-use Rattle.scasp_search_rules.specs.declared.states.state.Kind.TheVariants.{Existential, Universal, Matched}
+use Rattle.scasp_search_rules.specs.declared.states.state.Kind.TheVariants.{Existential, Universal}
 use Rattle.scasp_search_rules.specs.declared.states.state.Made.{Made}
 use Rattle.scasp_search_rules.specs.declared.states.state.State.{State}
 use Rattle.scasp_search_rules.specs.declared.states.tasks.Pair.{Pair}
 use Rattle.scasp_search_rules.specs.declared.states.tasks.Task.{Task}
-use Rattle.scasp_search_rules.specs.declared.states.tasks.Task.TheVariants as task
 use Rattle.scasp_search_rules.specs.Successors.Assumptions.{assume}
 use Rattle.scasp_search_rules.specs.Successors.Equations.{replaced_if, bound_if, two_existentials, mixed, two_universals, two_variables, is_inside, becomes_number, variable_number, becomes_shape, variable_app, equated, equate_pairs, equate_terms, equations, equations_of}
 use Rattle.scasp_search_rules.specs.Successors.Falls.{EachState}
@@ -31,14 +30,13 @@ use Rattle.scasp_syntax.specs.declared.con.Con.{Con}
 use Rattle.scasp_syntax.specs.declared.con.Con.TheVariants as con
 use Rattle.scasp_syntax.specs.declared.program.Program.{Program}
 use Rattle.scasp_syntax.specs.declared.term.Term.{Term}
-use Rattle.scasp_syntax.specs.declared.term.Term.TheVariants.{Var, Num, App}
+use Rattle.scasp_syntax.specs.declared.term.Term.TheVariants.{Var, App}
 use Rattle.scasp_unify.specs.Negations.{new_parts}
-use Rattle.scasp_unify.specs.Parts.{occurs, occurs_among}
+use Rattle.scasp_unify.specs.Parts.{occurs_among}
 use Rattle.scasp_unify.specs.SimpleForm.{term_with}
-use Rattle.scasp_unify.specs.Solving.{sub_of}
 use Rattle.scasp_unify.specs.declared.bindings.Binding.{Binding}
 use Rattle.scasp_unify.proofs.SimpleLemmas.{viewed}
-use Rattle.scasp_law_first_event.proofs.Apart.{Other, Apart, Both, pairs-both}
+use Rattle.scasp_law_first_event.proofs.Apart.{Apart, Both, pairs-both}
 use Rattle.scasp_law_first_event.proofs.Bindings.{Solved, above-unbound}
 use Rattle.scasp_law_first_event.proofs.EachStates.{each_only_if, each_followed, each_map, each_weaker}
 use Rattle.scasp_law_first_event.proofs.Keeping.{solved-more}

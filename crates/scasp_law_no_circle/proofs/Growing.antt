@@ -1,9 +1,9 @@
 -- New variables, variables that are lowered, and one binding more.
-use Rattle.std.specs.Prelude.{◌≡◌, ◌≢◌, ◌⊎◌, ℕ, ◌+◌, ◌-◌, ◌<◌, ◌≤◌, nat_eq, Bool, true, false, ◌||◌, List, [], ◌∷◌, ◌++◌, length, replicate}
+use Rattle.std.specs.Prelude.{◌≡◌, ◌≢◌, ◌⊎◌, ℕ, ◌<◌, ◌≤◌, nat_eq, true, false, List, [], ◌∷◌, ◌++◌, length}
 use Rattle.std.specs.List.{Contains}
 use Rattle.std.proofs.Common.{refl, arith, ap, sym, subst, ◌∙◌, inl, inr}
 use Rattle.std.proofs.lemmas.Bool.{cases_Bool, or_from, or_left, or_right, eq-eqb, ne_eqb, true≢false}
-use Rattle.std.proofs.lemmas.List.{length-append, length-replicate}
+use Rattle.std.proofs.lemmas.List.{length-append}
 use Rattle.std.proofs.lemmas.List.Elements.{Contains-append_cases}
 use Rattle.scasp_list.specs.Each.{Each}
 use Rattle.scasp_list.proofs.EachLemmas.{Each-map, Each-append}
@@ -14,19 +14,18 @@ use Rattle.scasp_search_rules.specs.declared.states.state.Kind.TheVariants.{Exis
 use Rattle.scasp_search_rules.specs.declared.states.state.Made.{Made}
 use Rattle.scasp_search_rules.specs.Successors.Reading.{among}
 use Rattle.scasp_search_rules.specs.Successors.Splits.{is_bound_in}
-use Rattle.scasp_search_rules.specs.Successors.Variables.{binding, is_kind_matched, is_kind_existential, lowered}
+use Rattle.scasp_search_rules.specs.Successors.Variables.{binding, is_kind_matched, lowered}
 use Rattle.scasp_syntax.specs.Tm.{Tm}
 use Rattle.scasp_syntax.specs.View.{tm_of}
 use Rattle.scasp_syntax.specs.declared.program.Program.{Program}
 use Rattle.scasp_unify.specs.Parts.{occurs}
-use Rattle.scasp_unify.specs.Unification.{term_vars}
 use Rattle.scasp_unify.specs.declared.bindings.Binding.{Binding}
 use Rattle.scasp_unify.proofs.SimpleLemmas.{viewed}
 use Rattle.scasp_law_first_event.proofs.Bindings.{bound-push}
 use Rattle.scasp_law_first_event.proofs.Moves.{lowered-length}
 use Rattle.scasp_law_no_circle.proofs.Meeting.{met, met-free, met-pushed, bound-there}
-use Rattle.scasp_law_no_circle.proofs.Places.{entry, Lower, lower-same, lowered-lowers, lowered-small, lowered-other, entry-left, owns, Placed, Place, places, vars-occur}
-use Rattle.scasp_law_no_circle.proofs.Scope.{Good, existential, universal, matched, Scoped, Under, Falls, Owned, Holds, Sound, Better, Carries, fewer-carries, Change, covers-kept, good-better, Scopes}
+use Rattle.scasp_law_no_circle.proofs.Places.{entry, Lower, lower-same, lowered-lowers, lowered-other, entry-left, owns, places}
+use Rattle.scasp_law_no_circle.proofs.Scope.{Good, existential, universal, matched, Scoped, Under, Falls, Sound, Better, Carries, fewer-carries, Change, covers-kept, good-better, Scopes}
 
 pub within : (n : ℕ) → n ≤ n
 within n = omega arith

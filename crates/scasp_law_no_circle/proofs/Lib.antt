@@ -1,5 +1,6 @@
 mod Assuming
 mod Beginning
+mod Behind
 mod Closing
 mod Differing
 mod Entering

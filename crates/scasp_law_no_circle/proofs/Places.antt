@@ -1,14 +1,14 @@
 -- The entries of variables as they are lowered, and which cover owns a universal variable.
-use Rattle.std.specs.Prelude.{◌≡◌, ◌≢◌, ◌⊎◌, ℕ, zero, suc, ◌+◌, ◌<◌, ◌≤◌, nat_eq, Bool, true, false, ◌&&◌, ◌||◌, min, if◌then◌else◌, Some, None, List, [], ◌∷◌, ◌++◌, length, replicate, slice_get, slice_set, ⊤}
+use Rattle.std.specs.Prelude.{◌≡◌, ◌≢◌, ◌⊎◌, ℕ, zero, suc, ◌+◌, ◌<◌, ◌≤◌, nat_eq, Bool, true, false, ◌&&◌, ◌||◌, min, if◌then◌else◌, Some, List, [], ◌∷◌, ◌++◌, length, replicate, slice_get, slice_set, ⊤}
 use Rattle.std.specs.List.{list_any}
 use Rattle.std.proofs.Common.{refl, arith, ap, sym, subst, ◌∙◌, inl, inr}
-use Rattle.std.proofs.lemmas.Bool.{and_left, and_parts, and_from, or_left, or_right, or_from, or_parts, or_cases, eqb-true, eqb-false, eq-eqb, ne_eqb, true≢false}
+use Rattle.std.proofs.lemmas.Bool.{and_parts, and_from, or_left, or_right, or_parts, or_cases, eqb-true, eqb-false, eq-eqb, true≢false}
 use Rattle.std.proofs.lemmas.List.{length-set}
 use Rattle.std.proofs.lemmas.List.Folds.{list_any-append}
 use Rattle.scasp_list.specs.Each.{Each}
 use Rattle.scasp_list.proofs.EachLemmas.{Each-map}
 use Rattle.scasp_search_rules.specs.declared.states.covers.Cover.{Cover}
-use Rattle.scasp_search_rules.specs.declared.states.state.Kind.TheVariants.{Existential, Universal, Matched}
+use Rattle.scasp_search_rules.specs.declared.states.state.Kind.TheVariants.{Universal}
 use Rattle.scasp_search_rules.specs.declared.states.state.Made.{Made}
 use Rattle.scasp_search_rules.specs.Successors.Cases.{universals_at}
 use Rattle.scasp_search_rules.specs.Successors.Reading.{among}

@@ -1,5 +1,5 @@
 -- Each state that comes of the start owns what it speaks of, so no circle is reached, and each search has a first event.
-use Rattle.std.specs.Prelude.{◌≡◌, ◌↔◌, ◌⊎◌, ℕ, ◌+◌, ◌<◌, ◌≤◌, true, false, List, [], ◌∷◌, ◌++◌, length, map, replicate}
+use Rattle.std.specs.Prelude.{◌≡◌, ◌↔◌, ◌⊎◌, ℕ, ◌<◌, ◌≤◌, true, false, List, [], ◌∷◌, length, map}
 use Rattle.std.specs.List.{Contains}
 use Rattle.std.proofs.Common.{refl, arith, ap, sym, ◌∙◌, inl, inr}
 use Rattle.std.proofs.lemmas.Bool.{true≢false}
@@ -9,7 +9,6 @@ use Rattle.scasp_nmr.specs.declared.items.CheckItem.{CheckItem}
 use Rattle.scasp_search_rules.specs.declared.states.state.Kind.TheVariants.{Existential}
 use Rattle.scasp_search_rules.specs.declared.states.state.Made.{Made}
 use Rattle.scasp_search_rules.specs.declared.states.state.State.{State}
-use Rattle.scasp_search_rules.specs.declared.states.tasks.Task.{Task}
 use Rattle.scasp_search_rules.specs.declared.states.tasks.Task.TheVariants as task
 use Rattle.scasp_search_rules.specs.Successors.Problems.{Problem}
 use Rattle.scasp_search_rules.specs.Successors.Search.{search_for, start}
@@ -18,7 +17,7 @@ use Rattle.scasp_syntax.specs.Flat.{flat_body}
 use Rattle.scasp_syntax.specs.WellFormed.{is_query_well_formed}
 use Rattle.scasp_syntax.specs.declared.clause.FlatItem.{FlatItem}
 use Rattle.scasp_syntax.specs.declared.clause.Query.{Query}
-use Rattle.scasp_law_first_event.specs.Events.{HasEvent, IsCircular, itself, after, IsReachable, ComesToReplacement, TellsOverflow}
+use Rattle.scasp_law_first_event.specs.Events.{HasEvent, itself, after, IsReachable, ComesToReplacement, TellsOverflow}
 use Rattle.scasp_law_first_event.specs.Replaced.{replaces_inside}
 use Rattle.scasp_law_first_event.specs.Solved.{has_circle, is_solved}
 use Rattle.scasp_law_first_event.proofs.Allowing.{told-allowed}

@@ -1,5 +1,5 @@
 -- Variables that are in scope at a depth, and states in which covers own what they speak of.
-use Rattle.std.specs.Prelude.{◌≡◌, ◌≢◌, ◌⊎◌, ℕ, ◌+◌, ◌-◌, ◌<◌, ◌≤◌, nat_eq, Bool, true, false, ◌&&◌, Option, Some, None, List, [], ◌∷◌, ◌++◌, length, ⊤}
+use Rattle.std.specs.Prelude.{◌≡◌, ◌≢◌, ◌⊎◌, ℕ, ◌+◌, ◌-◌, ◌<◌, ◌≤◌, true, false, Option, Some, None, List, [], ◌∷◌, length, ⊤}
 use Rattle.std.specs.List.{Contains}
 use Rattle.std.proofs.Common.{refl, arith, ap, sym, subst, ◌∙◌, inl, inr}
 use Rattle.std.proofs.lemmas.Bool.{cases_Bool, true≢false}
@@ -19,7 +19,7 @@ use Rattle.scasp_unify.specs.Parts.{occurs}
 use Rattle.scasp_unify.specs.declared.bindings.Binding.{Binding}
 use Rattle.scasp_unify.proofs.Members.{Each-member}
 use Rattle.scasp_law_no_circle.proofs.Meeting.{Met, met, met-good, met-fewer}
-use Rattle.scasp_law_no_circle.proofs.Places.{entry, Lower, owns, Placed, Place, places}
+use Rattle.scasp_law_no_circle.proofs.Places.{entry, Lower, owns, Placed, Place}
 
 -- ---- one variable
 

@@ -1,19 +1,18 @@
 -- The splits of each constraint, and variables that are bound.
-use Rattle.std.specs.Prelude.{◌≡◌, ◌≢◌, ◌⊎◌, ℕ, zero, suc, ◌+◌, ◌-◌, ◌<◌, ◌≤◌, nat_eq, max, Bool, true, false, ◌||◌, if◌then◌else◌, List, [], ◌∷◌, ◌++◌, length, map, filter, replicate, ⊤}
+use Rattle.std.specs.Prelude.{◌≡◌, ◌≢◌, ◌⊎◌, ℕ, zero, suc, ◌+◌, ◌-◌, ◌<◌, ◌≤◌, nat_eq, Bool, true, false, ◌||◌, if◌then◌else◌, List, [], ◌∷◌, ◌++◌, length, map, filter, replicate, ⊤}
 use Rattle.std.specs.List.{flat_map}
 use Rattle.std.proofs.Common.{refl, arith, ap, sym, subst, ◌∙◌, inl, inr}
 use Rattle.std.proofs.lemmas.Bool.{cases_Bool, eqb-true, eqb-false, eq-eqb, true≢false}
 use Rattle.scasp_num.specs.Linear.{Linear}
 use Rattle.scasp_num.specs.declared.linear.Coeff.{Coeff}
 use Rattle.scasp_search_rules.specs.declared.states.covers.Cover.{Cover}
-use Rattle.scasp_search_rules.specs.declared.states.outcomes.Parting.{Parting}
-use Rattle.scasp_search_rules.specs.declared.states.state.Kind.TheVariants.{Existential, Universal, Matched}
+use Rattle.scasp_search_rules.specs.declared.states.state.Kind.TheVariants.{Existential, Universal}
 use Rattle.scasp_search_rules.specs.declared.states.state.Made.{Made}
 use Rattle.scasp_search_rules.specs.declared.states.state.State.{State}
 use Rattle.scasp_search_rules.specs.Successors.Reading.{among, con_vars, count_from}
-use Rattle.scasp_search_rules.specs.Successors.Splits.{is_bound_in, parted, parting, replacement, cover_parted, at_depth, split_at, greatest}
-use Rattle.scasp_search_rules.specs.Successors.Variables.{bind, binding, depth_of, is_kind_matched, is_kind_existential, is_universal, lowered, meaning, next_variable, with_new}
-use Rattle.scasp_syntax.specs.Tm.{Tm, Tms, var, num, app, nil, cons}
+use Rattle.scasp_search_rules.specs.Successors.Splits.{is_bound_in, parted, cover_parted, at_depth, split_at, greatest}
+use Rattle.scasp_search_rules.specs.Successors.Variables.{bind, binding, depth_of, is_kind_matched, is_kind_existential, is_universal, lowered, meaning, next_variable}
+use Rattle.scasp_syntax.specs.Tm.{Tm, var, num, app}
 use Rattle.scasp_syntax.specs.Values.{under}
 use Rattle.scasp_syntax.specs.View.{tm_of}
 use Rattle.scasp_syntax.specs.declared.con.Con.{Con}
@@ -24,19 +23,18 @@ use Rattle.scasp_syntax.specs.declared.term.Term.TheVariants.{Var, Num, App}
 use Rattle.scasp_num.specs.Number.{Number}
 use Rattle.scasp_unify.specs.Negations.{new_parts}
 use Rattle.scasp_unify.specs.Parts.{occurs, occurs_among}
-use Rattle.scasp_unify.specs.SimpleForm.{term_with}
 use Rattle.scasp_unify.specs.Solving.{sub_of}
-use Rattle.scasp_unify.specs.Unification.{term_vars, terms_vars}
+use Rattle.scasp_unify.specs.Unification.{term_vars}
 use Rattle.scasp_unify.specs.declared.bindings.Binding.{Binding}
 use Rattle.scasp_law_first_event.proofs.Bindings.{Solved, unbound-self, above-unbound}
 use Rattle.scasp_law_first_event.proofs.Keeping.{length-count}
 use Rattle.scasp_law_first_event.proofs.Moves.{lowered-length, new-length}
-use Rattle.scasp_law_first_event.proofs.Terms.{EachVar, each-under}
-use Rattle.scasp_law_no_circle.proofs.Growing.{Fits, lowered-scopes, more-scopes, pushed-scopes}
+use Rattle.scasp_law_first_event.proofs.Terms.{each-under}
+use Rattle.scasp_law_no_circle.proofs.Growing.{lowered-scopes, pushed-scopes}
 use Rattle.scasp_law_no_circle.proofs.Meeting.{occurs-each, each-occurs, read-unbound, met-free}
 use Rattle.scasp_law_no_circle.proofs.Places.{entry, Lower, lower-same, lower-then, lowered-lowers, lowered-small, lowered-other, entry-left, entry-new, universal_of, owns, owns-low, vars-occur, all-vars-occur}
-use Rattle.scasp_law_no_circle.proofs.Scope.{Good, existential, universal, matched, Scoped, Under, Owned, Sound, Scopes, scopes-then}
-use Rattle.scasp_law_no_circle.proofs.Splitting.{among-either, among-left, among-right, Parts, Lowered, Grown, owns-here, still-owns, room, quiet-split, pushed-split}
+use Rattle.scasp_law_no_circle.proofs.Scope.{Good, existential, universal, Scoped, Under, Owned, Sound, Scopes, scopes-then}
+use Rattle.scasp_law_no_circle.proofs.Splitting.{among-either, among-right, Lowered, Grown, owns-here, still-owns, quiet-split, pushed-split}
 
 -- ---- what is read
 

@@ -1,16 +1,14 @@
 -- A case that is parted.
-use Rattle.std.specs.Prelude.{◌≡◌, ◌≢◌, ◌⊎◌, ℕ, suc, ◌+◌, ◌-◌, ◌<◌, ◌≤◌, nat_eq, Bool, true, false, ◌&&◌, ◌||◌, not, if◌then◌else◌, Option, Some, None, List, [], ◌∷◌, ◌++◌, length, filter, replicate, ⊤}
+use Rattle.std.specs.Prelude.{◌≡◌, ◌≢◌, ◌⊎◌, ℕ, suc, ◌+◌, ◌-◌, ◌<◌, ◌≤◌, nat_eq, Bool, true, false, ◌&&◌, if◌then◌else◌, Option, Some, None, List, [], ◌∷◌, ◌++◌, length, filter, replicate, ⊤}
 use Rattle.std.specs.List.{Contains}
 use Rattle.std.proofs.Common.{refl, arith, ap, sym, subst, ◌∙◌, inl, inr}
-use Rattle.std.proofs.lemmas.Bool.{cases_Bool, and_parts, and_from, or_left, or_right, or_from, or_parts, or_cases, eqb-true, eqb-false, eq-eqb, true≢false}
+use Rattle.std.proofs.lemmas.Bool.{cases_Bool, and_parts, and_from, or_left, or_right, or_parts, or_cases, eqb-true, eqb-false, true≢false}
 use Rattle.std.proofs.lemmas.List.{append-nil}
 use Rattle.scasp_list.specs.Each.{Each}
 use Rattle.scasp_list.proofs.EachLemmas.{Each-map}
 use Rattle.scasp_search_rules.specs.declared.states.covers.Cover.{Cover}
 use Rattle.scasp_search_rules.specs.declared.states.covers.Remainder.{Remainder}
 use Rattle.scasp_search_rules.specs.declared.states.outcomes.Parting.{Parting}
-use Rattle.scasp_search_rules.specs.declared.states.state.Kind.{Kind}
-use Rattle.scasp_search_rules.specs.declared.states.state.Kind.TheVariants.{Existential, Universal, Matched}
 use Rattle.scasp_search_rules.specs.declared.states.state.Made.{Made}
 use Rattle.scasp_search_rules.specs.declared.states.state.State.{State}
 use Rattle.scasp_search_rules.specs.Successors.Calls.{vars_of_clause}
@@ -27,7 +25,7 @@ use Rattle.scasp_unify.proofs.Members.{Each-member}
 use Rattle.scasp_law_no_circle.proofs.Growing.{within, Fits, more-scopes, lowered-scopes, pushed-scopes}
 use Rattle.scasp_law_no_circle.proofs.Meeting.{met-good, met-free, met-next}
 use Rattle.scasp_law_no_circle.proofs.Places.{entry, lower-same, owns, Placed, Place, places, among-append, universal_of}
-use Rattle.scasp_law_no_circle.proofs.Scope.{Good, existential, universal, matched, Scoped, Under, Falls, sinks, Owned, InClause, InEquation, Equates, Waits, Nested, Holds, Sound, Better, Carries, fewer-carries, Change, in-clause-kept, waits-kept, holds-kept, Scopes, scopes-then, scopes-itself}
+use Rattle.scasp_law_no_circle.proofs.Scope.{Good, existential, universal, matched, Scoped, Under, Falls, sinks, Owned, InClause, InEquation, Equates, Waits, Nested, Holds, Sound, Better, Carries, fewer-carries, Change, in-clause-kept, waits-kept, holds-kept, Scopes, scopes-then}
 
 -- ---- lists of numbers
 

@@ -1,6 +1,6 @@
 -- What tasks speak of is in scope at their depth: a task behind the end of a case is one less deep.
 use Rattle.std.specs.Prelude.{◌≡◌, ◌≢◌, ◌⊎◌, ℕ, ◌+◌, ◌-◌, ◌<◌, ◌≤◌, Bool, true, false, if◌then◌else◌, List, [], ◌∷◌, ◌++◌, length, map, ⊤}
-use Rattle.std.proofs.Common.{refl, arith, ap, sym, subst, inl, inr}
+use Rattle.std.proofs.Common.{refl, arith, sym, subst, inl, inr}
 use Rattle.scasp_list.specs.Each.{Each}
 use Rattle.scasp_list.proofs.EachLemmas.{Each-map}
 use Rattle.scasp_num.specs.Number.{Number}

@@ -1,5 +1,5 @@
 //! What holds of each search.
-ghost use Rattle.scasp_law_no_circle.specs.Circles.{AllowedIsFirst, NoCircles, SearchesFind};
+ghost use Rattle.scasp_law_no_circle.specs.Circles.{AllowedIsFirst, NoCircles, RunsGoOn, SearchesFind};
 
 /// No state that comes of the start of a search binds a variable to a term in which it stands. Its bindings are in solved form.
 pub fn no_circle_is_reached()
@@ -10,6 +10,11 @@ pub fn no_circle_is_reached()
 /// number of steps.
 pub fn each_search_has_an_event()
     ensures { SearchesFind }
+{}
+
+/// The states behind that event come of the start too, so that another event comes from them: as long as a run is asked, it goes on.
+pub fn each_event_has_a_next_one()
+    ensures { RunsGoOn }
 {}
 
 /// From such states, an overflow is allowed just where there is a first event, and it is an overflow or tells of a list that overflows.
