@@ -44,8 +44,8 @@ pub enum Sign {
     Foreign,
 }
 
-/// The signs with their texts; of two that begin alike the longer one comes first.
-static SIGNS: [(&[u8], Sign); 46] = [
+/// The signs of two bytes or more with their texts; of two that begin alike the longer one comes first.
+static LONG_SIGNS: [(&[u8], Sign); 22] = [
     (b".=<.", Sign::Relation(Op::Le, false)),
     (b".>=.", Sign::Relation(Op::Le, true)),
     (b".<>.", Sign::Relation(Op::Ne, false)),
@@ -68,6 +68,10 @@ static SIGNS: [(&[u8], Sign); 46] = [
     (b":-", Sign::If),
     (b"?-", Sign::Query),
     (b"\\=", Sign::Differ),
+];
+
+/// The signs of one byte with their texts.
+static SHORT_SIGNS: [(&[u8], Sign); 24] = [
     (b"(", Sign::Open),
     (b")", Sign::Close),
     (b"[", Sign::OpenList),
@@ -114,5 +118,8 @@ pub fn sign_at(bytes: &[u8]) -> Option<(Sign, usize)>
     ensures some { IfSome result (λ x. 0 < x.1) }
     ensures within { IfSome result (λ x. x.1 ≤ length bytes.now) }
 {
-    sign_in(&SIGNS, bytes)
+    match sign_in(&LONG_SIGNS, bytes) {
+        Some(found) => Some(found),
+        None => sign_in(&SHORT_SIGNS, bytes),
+    }
 }
