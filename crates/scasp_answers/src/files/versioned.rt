@@ -79,7 +79,7 @@ fn judge(
 fn is_second(words: &[u8]) -> bool
     ensures { result ≡ spec.is_second words.now }
 {
-    words == b"scasp 2"
+    words == b"scasp 2".as_slice()
 }
 
 /// The words, with the header of version 1 in place of the other.
@@ -89,15 +89,16 @@ fn as_first(words: &[u8]) -> &[u8]
     if is_second(words) { b"scasp 1" } else { words }
 }
 
-/// The number behind `copy `, if there is one and nothing else.
+/// The number that the bytes are, if they are one.
+#[tactic(auto, using(crate::proofs::FilesLemmas::CopyLemmas::is_number, crate::proofs::FilesLemmas::CopyLemmas::no_number, crate::proofs::FilesLemmas::CopyLemmas::no_digits))]
 fn number_alone(bytes: &[u8]) -> Option<u128>
     ensures { result ≡ spec.number_alone bytes.now }
 {
     let mut cursor = Cursor::new(bytes);
-    match cursor.number() {
-        Ok(number) if cursor.is_over() => Some(number),
-        Ok(_) | Err(_) => None,
-    }
+    let Ok(number) = cursor.number() else {
+        return None;
+    };
+    if cursor.is_over() { Some(number) } else { None }
 }
 
 /// The number of a line `copy N`, if the words are one.
@@ -111,6 +112,7 @@ fn copy_number(words: &[u8]) -> Option<u128>
 }
 
 /// The room behind a line with its line feed.
+#[tactic(auto, using(crate::proofs::FilesLemmas::CopyLemmas::room_left))]
 fn room_behind(room: usize, line: &BlockLine<'_>) -> usize
     ensures { result ≡ room - length (piece_text (line_piece line.now)) }
 {
@@ -149,7 +151,7 @@ impl<'a> Versioned<'a> {
             return Ok(());
         }
         self.room = room_behind(self.room, &line);
-        if line.words.as_bytes() == b"tree" {
+        if line.words.as_bytes() == b"tree".as_slice() {
             drop(line);
             self.told.clear();
             return Ok(());
@@ -186,7 +188,7 @@ impl<'a> Versioned<'a> {
         lines: Vec<BlockLine<'a>>,
         names: &Names,
     ) -> Result<Option<AnswerKind>, Memory>
-        ensures { Judges (spec.all_judged names.now (versioned_of self.old) (waiting_of lines.items)) result (versioned_of self.new) }
+        ensures { Judges (spec.all_judged names.now (versioned_of self.old) (waiting_of lines.entry.items)) result (versioned_of self.new) }
     {
         let mut left = lines;
         'left: while let Some(line) = left.pop() {
