@@ -1,5 +1,6 @@
 -- The number of a copy, and the room behind a line.
 use Rattle.std.proofs.Common.{◌≡◌, ◌∙◌, ℕ, ◌+◌, ◌-◌, Bool, true, false, List, [], ◌∷◌, ◌++◌, length, replicate, codes, Option, None, Some, refl, sym, ap, arith, length-append}
+use Rattle.std.proofs.lemmas.List.{length-replicate}
 use Rattle.scasp_num.specs.Arithmetic.{◌>>=◌}
 use Rattle.scasp_answers_terms.specs.Tokens.Tokens.{Token}
 use Rattle.scasp_answers_terms.specs.Tokens.Readers.{Parsed}
@@ -24,11 +25,8 @@ no_number read n ts r e = ap (λ x. x >>= alone) r ∙ not-over n ts e
 pub no_digits : (read : Parsed ℕ) → read ≡ None → (read >>= alone) ≡ None
 no_digits read r = ap (λ x. x >>= alone) r
 
-blanks : (d : ℕ) → length (replicate d 32) ≡ d
-blanks d = grind (arith)
-
 pub room_left : (room : ℕ) (p : Piece) → room - p.depth - length p.words - 1 ≡ room - length (piece_text p)
 room_left room p =
     let size : length (piece_text p) ≡ p.depth + (length p.words + 1) =
-    length-append (replicate p.depth 32) (p.words ++ codes "\n") ∙ (λ i. blanks p.depth i + length-append p.words (codes "\n") i) in
+    length-append (replicate p.depth 32) (p.words ++ codes "\n") ∙ (λ i. length-replicate p.depth 32 i + length-append p.words (codes "\n") i) in
     omega (arith, size)
