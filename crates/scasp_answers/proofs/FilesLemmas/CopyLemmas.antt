@@ -27,6 +27,6 @@ no_digits read r = ap (λ x. x >>= alone) r
 
 pub room_left : (room : ℕ) (p : Piece) → room - p.depth - length p.words - 1 ≡ room - length (piece_text p)
 room_left room p =
-    let size : length (piece_text p) ≡ p.depth + (length p.words + 1) =
-    length-append (replicate p.depth 32) (p.words ++ codes "\n") ∙ (λ i. length-replicate p.depth 32 i + length-append p.words (codes "\n") i) in
-    omega (arith, size)
+    let blanks : List ℕ = replicate p.depth 32 in
+    let feed : List ℕ = codes "\n" in
+    omega (arith, length-append (blanks ++ p.words) feed, length-append blanks p.words, length-replicate {A = ℕ} p.depth 32)

@@ -1,5 +1,5 @@
 -- Small files, read from their bytes, and files with a fault of each kind.
-use Rattle.std.specs.Prelude.{◌≡◌, ℕ, false, List, [], ◌∷◌, ◌++◌, codes, Option, None, Some, Result, Ok, Err}
+use Rattle.std.specs.Prelude.{◌≡◌, ℕ, true, false, List, [], ◌∷◌, ◌++◌, codes, Option, None, Some, Result, Ok, Err}
 use Rattle.std.proofs.Common.{refl}
 use Rattle.scasp_syntax.specs.Tm.{nil}
 use Rattle.scasp_syntax.specs.declared.term.Term.TheVariants.{Var, App}
@@ -173,12 +173,12 @@ behind_a_call room = record {
   room = room;
 }
 
-is_over : {A K : Type 0} → Result A K → Option K
-is_over (Ok x) = None
-is_over (Err k) = Some k
+abbrev kind_in : {A K : Type 0} → Result A K → Option K
+kind_in (Ok x) = None
+kind_in (Err k) = Some k
 
 abbrev kind_of_copy : ℕ → ℕ → Option AnswerKind
-kind_of_copy depth room = is_over (line_judged names (behind_a_call room) (record { depth = depth; words = codes "copy 1" }))
+kind_of_copy depth room = kind_in (line_judged names (behind_a_call room) (record { depth = depth; words = codes "copy 1" }))
 
 -- the line has 17 bytes with its blank and its line feed; where it may not stand, this is told first
 by_room : (kind_of_copy 1 17 ≡ None) × (kind_of_copy 1 16 ≡ Some kind.Limit) × (kind_of_copy 3 16 ≡ Some kind.Order)
