@@ -1,5 +1,5 @@
 //! What has been read of an answer file of either version.
-ghost use Rattle.std.specs.Prelude.{◌≡◌, ◌-◌, if◌then◌else◌, length, Ok, Err, OnOk};
+ghost use Rattle.std.specs.Prelude.{◌≡◌, ◌-◌, if◌then◌else◌, length, Ok, Err, IfOk, OnOk};
 ghost use Rattle.scasp_answers_terms.specs.Tokens.Bounds.{line_fits};
 ghost use Rattle.scasp_answers_lines.specs.Forms.View.{line_of};
 ghost use Rattle.scasp_copies.specs.Pieces.{piece_of, piece_text};
@@ -8,6 +8,7 @@ ghost use Rattle.scasp_answers.specs.Blocks.Blocks.{at};
 ghost use Rattle.scasp_answers.specs.Blocks.Files as spec;
 ghost use Rattle.scasp_answers.specs.Blocks.States.{next_state};
 ghost use Rattle.scasp_answers.specs.declared.blocks.fault.AnswerKind.TheVariants as kind;
+ghost use Rattle.scasp_answers.specs.declared.blocks.version.Version.TheVariants as version;
 ghost use Rattle.scasp_answers.specs.States.View.{state_of};
 ghost use Rattle.scasp_answers.specs.Files.Inside.{versioned_of, Judges};
 
@@ -79,7 +80,7 @@ fn judge(
 fn is_second(words: &[u8]) -> bool
     ensures { result ≡ spec.is_second words.now }
 {
-    words == b"scasp 2"
+    words == b"scasp 2".as_slice()
 }
 
 /// The words, with the header of version 1 in place of the other.
@@ -89,28 +90,31 @@ fn as_first(words: &[u8]) -> &[u8]
     if is_second(words) { b"scasp 1" } else { words }
 }
 
-/// The number behind `copy `, if there is one and nothing else.
-fn number_alone(bytes: &[u8]) -> Option<u128>
-    ensures { result ≡ spec.number_alone bytes.now }
+/// The number that the bytes are, if they are one.
+#[tactic(auto, using(crate::proofs::FilesLemmas::CopyLemmas::is_number, crate::proofs::FilesLemmas::CopyLemmas::no_number, crate::proofs::FilesLemmas::CopyLemmas::no_digits))]
+fn number_alone(bytes: &[u8]) -> Result<Option<u128>, Memory>
+    ensures { IfOk result (λ number. number ≡ spec.number_alone bytes.now) }
 {
     let mut cursor = Cursor::new(bytes);
     match cursor.number() {
-        Ok(number) if cursor.is_over() => Some(number),
-        Ok(_) | Err(_) => None,
+        Ok(number) if cursor.is_over() => Ok(Some(number)),
+        Ok(_) | Err(Stop::NoForm) => Ok(None),
+        Err(Stop::Memory) => Err(Memory),
     }
 }
 
 /// The number of a line `copy N`, if the words are one.
-fn copy_number(words: &[u8]) -> Option<u128>
-    ensures { result ≡ spec.copy_in words.now }
+fn copy_number(words: &[u8]) -> Result<Option<u128>, Memory>
+    ensures { IfOk result (λ number. number ≡ spec.copy_in words.now) }
 {
     if !is_copy(words) {
-        return None;
+        return Ok(None);
     }
     number_alone(&words[5..])
 }
 
 /// The room behind a line with its line feed.
+#[tactic(auto, using(crate::proofs::FilesLemmas::CopyLemmas::room_left))]
 fn room_behind(room: usize, line: &BlockLine<'_>) -> usize
     ensures { result ≡ room - length (piece_text (line_piece line.now)) }
 {
@@ -140,21 +144,30 @@ impl<'a> Versioned<'a> {
         state
     }
 
-    /// Keeps a line that stands, in version 2.
-    fn keep(&mut self, line: BlockLine<'a>) -> Result<(), Memory>
-        ensures { OnOk result (versioned_of self.new ≡ spec.with_line self.old.version (versioned_of self.old) (line_piece line.entry)) }
+    /// Keeps a line of version 2 that stands.
+    fn tell(&mut self, line: BlockLine<'a>) -> Result<(), Memory>
+        ensures { OnOk result (versioned_of self.new ≡ spec.with_line version.Two (versioned_of self.old) (line_piece line.entry)) }
     {
-        if self.version == Version::One {
-            drop(line);
-            return Ok(());
-        }
         self.room = room_behind(self.room, &line);
-        if line.words.as_bytes() == b"tree" {
+        if line.words.as_bytes() == b"tree".as_slice() {
             drop(line);
             self.told.clear();
             return Ok(());
         }
         self.told.push(line)
+    }
+
+    /// Keeps a line that stands, in version 2.
+    fn keep(&mut self, line: BlockLine<'a>) -> Result<(), Memory>
+        ensures { OnOk result (versioned_of self.new ≡ spec.with_line self.old.version (versioned_of self.old) (line_piece line.entry)) }
+    {
+        match self.version {
+            Version::One => {
+                drop(line);
+                Ok(())
+            }
+            Version::Two => self.tell(line),
+        }
     }
 
     /// Reads a line that is no copy.
@@ -186,7 +199,7 @@ impl<'a> Versioned<'a> {
         lines: Vec<BlockLine<'a>>,
         names: &Names,
     ) -> Result<Option<AnswerKind>, Memory>
-        ensures { Judges (spec.all_judged names.now (versioned_of self.old) (waiting_of lines.items)) result (versioned_of self.new) }
+        ensures { Judges (spec.all_judged names.now (versioned_of self.old) (waiting_of lines.entry.items)) result (versioned_of self.new) }
     {
         let mut left = lines;
         'left: while let Some(line) = left.pop() {
@@ -238,7 +251,7 @@ impl<'a> Versioned<'a> {
     {
         let depth = indent(line);
         let words = &line[depth..];
-        match copy_number(words) {
+        match copy_number(words)? {
             Some(number) if is_place(number) => {
                 self.read_copy(alloc, number as usize, depth, names)
             }
