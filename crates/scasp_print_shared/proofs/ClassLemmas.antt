@@ -29,11 +29,11 @@ place-map read (k ∷ keys) key = by (bytes_eq key (read k)) (place-map read key
 
 place-kept : (table : List (List ℕ)) (new key : List ℕ) → has_text table key ≡ true → place_in (table ++ new ∷ []) key ≡ place_in table key
 place-kept [] new key h = absurd (true≢false (sym h))
-place-kept (t ∷ table) new key h = by (bytes_eq key t) refl
+place-kept (t ∷ table) new key h = by (bytes_eq key t) refl (λ g. place-kept table new key g)
   where
-    by : (b : Bool) → bytes_eq key t ≡ b → place_in ((t ∷ table) ++ new ∷ []) key ≡ place_in (t ∷ table) key
-    by true e = simp e refl
-    by false e = simp e (ap (λ n. 1 + n) (place-kept table new key (sym (ap (λ b. b || has_text table key) e) ∙ h)))
+    by : (b : Bool) → bytes_eq key t ≡ b → (has_text table key ≡ true → place_in (table ++ new ∷ []) key ≡ place_in table key) → place_in ((t ∷ table) ++ new ∷ []) key ≡ place_in (t ∷ table) key
+    by true e ih = simp e refl
+    by false e ih = simp e (ap (λ n. 1 + n) (ih (sym (ap (λ b. b || has_text table key) e) ∙ h)))
 
 place-new : (table : List (List ℕ)) (key : List ℕ) → has_text table key ≡ false → place_in (table ++ key ∷ []) key ≡ place_in table key
 place-new [] key h = rw ((bytes_eq-Decides key key).1 refl) refl

@@ -32,11 +32,11 @@ RootsBelow top (r ∷ rs) = (top ≤ r.depth) × RootsBelow top rs
 
 beside-are : (top d : ℕ) (rs : List Root) → RootsBelow top rs → RootsBelow top (beside d rs)
 beside-are top d [] h = tt
-beside-are top d (r ∷ rs) h = by (nat_lt d r.depth) refl
+beside-are top d (r ∷ rs) h = by (nat_lt d r.depth) refl (beside-are top d rs h.1)
   where
-    by : (a : Bool) → nat_lt d r.depth ≡ a → RootsBelow top (beside d (r ∷ rs))
-    by true q = rw q (beside-are top d rs h.1)
-    by false q = rw q h
+    by : (a : Bool) → nat_lt d r.depth ≡ a → RootsBelow top (beside d rs) → RootsBelow top (beside d (r ∷ rs))
+    by true q ih = rw q ih
+    by false q ih = rw q h
 
 roots-are : (table : List (List ℕ)) (top : ℕ) (ps : List Piece) → AreBelow top ps → RootsBelow top (roots table ps)
 roots-are table top [] h = tt

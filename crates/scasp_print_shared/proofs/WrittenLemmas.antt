@@ -39,15 +39,17 @@ copy-number depth n h =
 
 least-holds : (holds : ℕ → Bool) (n left k : ℕ) → least holds n left ≡ Some k → (holds k ≡ true) × (k < n + left)
 least-holds holds n zero k e = cc
-least-holds holds n (suc left) k e = by (holds n) refl
+least-holds holds n (suc left) k e = by (holds n) refl (λ g. least-holds holds (n + 1) left k g)
   where
-    by : (t : Bool) → holds n ≡ t → (holds k ≡ true) × (k < n + suc left)
-    by true p =
-        let same : n ≡ k = (let s : Some n ≡ Some k = sym (cond-true (holds n) (Some n) (least holds (n + 1) left) p) ∙ e in cc) in
+    by : (t : Bool) → holds n ≡ t → (least holds (n + 1) left ≡ Some k → (holds k ≡ true) × (k < n + 1 + left)) → (holds k ≡ true) × (k < n + suc left)
+    by true p ih =
+        let s : Some n ≡ Some k = sym (cond-true (holds n) (Some n) (least holds (n + 1) left) p) ∙ e in
+        let same : n ≡ k = cc in
         (ap holds (sym same) ∙ p, omega (arith, same))
-    by false p =
-        let r = least-holds holds (n + 1) left k (sym (cond-false (holds n) (Some n) (least holds (n + 1) left) p) ∙ e) in
-        (r.0, omega (arith, r.1))
+    by false p ih =
+        let r = ih (sym (cond-false (holds n) (Some n) (least holds (n + 1) left) p) ∙ e) in
+        let b = r.1 in
+        (r.0, omega (arith, b))
 
 given : (o : Option (List Piece)) (ps : List Piece) → are_lines o ps ≡ true → o ≡ Some ps
 given None ps e = absurd (true≢false (sym e))
