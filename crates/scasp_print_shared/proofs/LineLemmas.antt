@@ -1,6 +1,6 @@
 -- The lines of a text and of a block.
-use Rattle.std.proofs.Common.{◌≡◌, ◌∙◌, ℕ, zero, ◌+◌, ◌<◌, ◌≤◌, Bool, true, false, not, List, [], ◌∷◌, ◌++◌, length, get_or, map, take, drop, suc, refl, sym, ap, arith, append_assoc}
-use Rattle.std.specs.Prelude.{◌==◌, flat_map, if◌then◌else◌}
+use Rattle.std.proofs.Common.{◌≡◌, ◌∙◌, ℕ, zero, ◌+◌, ◌<◌, ◌≤◌, Bool, true, false, not, List, [], ◌∷◌, ◌++◌, length, get_or, take, drop, suc, refl, sym, ap, arith, append_assoc}
+use Rattle.std.specs.Prelude.{◌==◌, flat_map}
 use Rattle.std.specs.List.{prefix_len}
 use Rattle.std.proofs.lemmas.Grind.{flat_map-append}
 use Rattle.std.proofs.lemmas.List.{drop_more, take-map}
@@ -59,6 +59,9 @@ shared-parts (p ∷ ps) = by (is_tree p) refl (shared-parts ps)
 
 -- ---- lines as read
 
+abbrev pub no_line : Line
+no_line = record { depth = 0; words = record { ref_ptr = (0, 0); now = [] } }
+
 pub read-at : (ls : List Line) (k : ℕ) (l : Line) → l ≡ get_or ls k l → read l ≡ get_or (read_all ls) k (read l)
 read-at ls k l e = ap read e ∙ sym (mapped ls k)
   where
@@ -74,13 +77,6 @@ pub drop-read : (ls : List Line) (k : ℕ) → drop k (read_all ls) ≡ read_all
 drop-read ls zero = refl
 drop-read [] (suc k) = refl
 drop-read (l ∷ ls) (suc k) = drop-read ls k
-
-pub tree-here : (ls : List Line) (k : ℕ) (l : Line) → k < length ls → l ≡ get_or ls k l → is_tree (read l) ≡ true → behind_tree (read_all (drop k ls)) ≡ 1
-tree-here ls k l h e t = ap behind_tree (lines-from ls k l h e) ∙ ap (λ b. 1 + (if b then 0 else behind_tree (read_all (drop (k + 1) ls)))) t
-
-pub no-tree-here : (ls : List Line) (k : ℕ) (l : Line) → k < length ls → l ≡ get_or ls k l → is_tree (read l) ≡ false
-    → behind_tree (read_all (drop k ls)) ≡ 1 + behind_tree (read_all (drop (k + 1) ls))
-no-tree-here ls k l h e t = ap behind_tree (lines-from ls k l h e) ∙ ap (λ b. 1 + (if b then 0 else behind_tree (read_all (drop (k + 1) ls)))) t
 
 -- ---- the text of a block, by its parts
 

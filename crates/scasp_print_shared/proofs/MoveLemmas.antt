@@ -2,9 +2,9 @@
 use Rattle.std.proofs.Common.{◌≡◌, ℕ, ◌+◌, ◌-◌, ◌^◌, ◌<◌, ◌≤◌, ◌∙◌, Bool, true, false, List, [], ◌∷◌, ◌++◌, map, refl, sym, ap, subst, arith}
 use Rattle.std.specs.Prelude.{nat_lt, codes, decimal}
 use Rattle.std.proofs.lemmas.Bool.{ltb-true, ltb-false, lt-ltb, le-ltb}
-use Rattle.scasp_copies.specs.Copies.{Move, deeper_than, moved_piece, moved_words}
+use Rattle.scasp_copies.specs.Copies.{Move, deeper_than, moved_piece}
 use Rattle.scasp_copies.specs.Pieces.{Piece}
-use Rattle.scasp_print_shared.specs.Inside.Classes.{below, beside, classes_text, count_of, place_in, root_of, roots, stem}
+use Rattle.scasp_print_shared.specs.Inside.Classes.{below, beside, classes_text, count_of, place_in, root_of, roots}
 use Rattle.scasp_print_shared.specs.declared.classes.Root.{Root}
 use Rattle.scasp_print_shared.proofs.RootLemmas.{deeper-true, deeper-false, root}
 use Rattle.scasp_print_shared.proofs.WordLemmas.{stem-moved}

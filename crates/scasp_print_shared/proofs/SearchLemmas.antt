@@ -1,12 +1,12 @@
 -- Whether a line is copied, by the lines and their marks.
-use Rattle.std.proofs.Common.{inl, inr, ◌≡◌, ℕ, zero, suc, ◌+◌, ◌-◌, ◌^◌, ◌<◌, ◌≤◌, ◌∙◌, Bool, true, false, ◌&&◌, List, [], ◌∷◌, ◌++◌, length, get_or, map, take, drop, Option, None, Some, refl, sym, ap, arith}
+use Rattle.std.proofs.Common.{inl, inr, ◌≡◌, ℕ, suc, ◌+◌, ◌-◌, ◌<◌, ◌≤◌, ◌∙◌, Bool, true, false, ◌&&◌, List, [], ◌∷◌, ◌++◌, length, get_or, map, take, drop, None, Some, refl, sym, ap, arith}
 use Rattle.std.specs.Prelude.{◌==◌, ◌⊎◌, nat_le, nat_lt}
 use Rattle.std.specs.Str.{bytes_eq}
 use Rattle.std.proofs.Math.Seq.{drop-cons}
 use Rattle.std.proofs.lemmas.Bool.{true≢false, and_parts, cond-true, cond-false, le-leb, leb-true, lt-leb, false_from_ne_true}
 use Rattle.std.proofs.lemmas.List.{length-drop, length-map, length-take-le, get_or-take, get_or_default, take-append-drop, take-map, drop-append-le, drop_more}
 use Rattle.std.proofs.lemmas.List.Folds.{length-prefix_len}
-use Rattle.scasp_copies.specs.Copies.{Move, deeper_than, has_ended, is_call, moved_piece, moved_words, subtree}
+use Rattle.scasp_copies.specs.Copies.{Move, has_ended, is_call, moved_piece, moved_words, subtree}
 use Rattle.scasp_copies.specs.Pieces.{Piece, same_pieces}
 use Rattle.scasp_print_shared.specs.Shared.{is_copy, least, least_copy}
 use Rattle.scasp_print_shared.specs.Inside.Classes.{AreMarks}
@@ -150,6 +150,9 @@ module _ (ps : List Piece) (ms : List Root) (line : ℕ) (d : Root) (are : AreMa
 
 -- ---- the same, as the code has lines
 
+abbrev pub no_root : Root
+no_root = record { depth = 0; count = 0; class = 0 }
+
 pub slice-is : (ls : List Line) (k n : ℕ) → read_all (take (k + n - k) (drop k ls)) ≡ take n (drop k (read_all ls))
 slice-is ls k n =
     let e : k + n - k ≡ n = omega arith in
@@ -196,8 +199,3 @@ pub first-here : (holds : ℕ → Bool) (ns : List ℕ) (i : ℕ) → i < length
 first-here holds ns i h e =
     ap (first_among holds) (drop_more ns i 0 h)
     ∙ cond-true (holds (get_or ns i 0 + 1)) (Some (get_or ns i 0 + 1)) (first_among holds (drop (i + 1) ns)) e
-
-pub first-later : (holds : ℕ → Bool) (ns : List ℕ) (i : ℕ) → i < length ns → holds (get_or ns i 0 + 1) ≡ false → first_among holds (drop i ns) ≡ first_among holds (drop (i + 1) ns)
-first-later holds ns i h e =
-    ap (first_among holds) (drop_more ns i 0 h)
-    ∙ cond-false (holds (get_or ns i 0 + 1)) (Some (get_or ns i 0 + 1)) (first_among holds (drop (i + 1) ns)) e

@@ -6,7 +6,6 @@ ghost use Rattle.scasp_print_shared.specs.Inside.Classes.{stem};
 ghost use Rattle.scasp_reader_tokens.specs.Numbers.{digits_value};
 
 /// Whether the text begins with the first.
-
 pub(crate) fn begins(text: &[u8], first: &[u8]) -> bool
     ensures { result ≡ spec.begins first.now text.now }
 {

@@ -1,11 +1,8 @@
-use Rattle.std.proofs.Common.{◌≡◌, ◌+◌, ◌-◌, ◌<◌, ◌^◌, ℕ, [], length, get_or, sym, subst, arith}
+use Rattle.std.proofs.Common.{◌≡◌, ◌+◌, ◌-◌, ◌<◌, ◌^◌, ℕ, length, get_or, subst, arith}
 use Rattle.std.proofs.lemmas.List.{get_or_default}
-use Rattle.scasp_print_shared.specs.declared.lines.Line.{Line}
+use Rattle.scasp_print_shared.proofs.LineLemmas.{no_line}
 use Rattle.scasp_print_shared.proofs.MarkLemmas.{Marked, all-marked, one-more}
 use Rattle.scasp_print_shared.proofs.classes.marks_of.Goals as goal
-
-abbrev no_line : Line
-no_line = record { depth = 0; words = record { ref_ptr = (0, 0); now = [] } }
 
 pub loop-left-preserved : goal.loop-left-preserved
 loop-left-preserved c =

@@ -1,16 +1,9 @@
-use Rattle.std.proofs.Common.{◌≡◌, ◌∙◌, ℕ, Bool, [], inl, inr, sym, subst, arith}
+use Rattle.std.proofs.Common.{◌≡◌, ◌∙◌, Bool, inl, inr, sym, subst, arith}
 use Rattle.std.specs.Prelude.{IfOk}
-use Rattle.scasp_print_shared.specs.declared.classes.Root.{Root}
-use Rattle.scasp_print_shared.specs.declared.lines.Line.{Line}
-use Rattle.scasp_print_shared.proofs.SearchLemmas.{is-copy, is-no-copy, line-fits}
+use Rattle.scasp_print_shared.proofs.LineLemmas.{no_line}
+use Rattle.scasp_print_shared.proofs.SearchLemmas.{no_root, is-copy, is-no-copy, line-fits}
 use Rattle.scasp_print_shared.proofs.search.is_copy.Goals as goal
 use Rattle.scasp_print_shared.proofs.search.is_copy.Goals.{then-not-is_call-via-then-not-is_call, then-not-is_call-via-else-not-is_call+then-marks-place, then-not-is_call-via-else-not-is_call+else-marks-place+then-count-line}
-
-abbrev no_line : Line
-no_line = record { depth = 0; words = record { ref_ptr = (0, 0); now = [] } }
-
-abbrev no_root : Root
-no_root = record { depth = 0; count = 0; class = 0 }
 
 pub returns-then-not-is_call : goal.returns-then-not-is_call
 returns-then-not-is_call c =

@@ -1,16 +1,12 @@
-use Rattle.std.proofs.Common.{◌≡◌, ◌∙◌, ℕ, ◌+◌, ◌<◌, ◌≤◌, List, [], length, get_or, drop, take, sym, ap, subst, arith, Some, None}
+use Rattle.std.proofs.Common.{◌≡◌, ◌∙◌, ℕ, ◌<◌, List, length, get_or, drop, take, sym, ap, subst, arith}
 use Rattle.std.proofs.lemmas.List.{at_drop_all, length-map, length-take-le}
 use Rattle.scasp_print_shared.specs.Inside.Lines.{read, read_all}
 use Rattle.scasp_print_shared.specs.Inside.Places.{first_among, places_of}
 use Rattle.scasp_print_shared.specs.Shared.{is_copy}
-use Rattle.scasp_print_shared.specs.declared.classes.Root.{Root}
 use Rattle.scasp_print_shared.proofs.PlaceLemmas.{listed-at, listed-past, places-within}
-use Rattle.scasp_print_shared.proofs.SearchLemmas.{first-here, least-by_class, no-least}
+use Rattle.scasp_print_shared.proofs.SearchLemmas.{no_root, first-here, least-by_class, no-least}
 use Rattle.scasp_print_shared.proofs.search.least_copy.Goals as goal
 use Rattle.scasp_print_shared.proofs.search.least_copy.Goals.{then-root-lt3-via-then-root-lt3, then-root-lt3-via-else-root-lt3+then-root-places}
-
-abbrev no_root : Root
-no_root = record { depth = 0; count = 0; class = 0 }
 
 pub returns-then-root-lt3 : goal.returns-then-root-lt3
 returns-then-root-lt3 c =

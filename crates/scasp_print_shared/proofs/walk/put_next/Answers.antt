@@ -1,17 +1,10 @@
-use Rattle.std.proofs.Common.{◌≡◌, ◌∙◌, ◌<◌, [], length, get_or, sym, arith}
+use Rattle.std.proofs.Common.{◌∙◌, ◌<◌, length, get_or, sym, arith}
 use Rattle.std.proofs.lemmas.List.{get_or_default, length-map}
 use Rattle.scasp_print_shared.specs.Inside.Lines.{read, read_all}
-use Rattle.scasp_print_shared.specs.declared.classes.Root.{Root}
-use Rattle.scasp_print_shared.specs.declared.lines.Line.{Line}
-use Rattle.scasp_print_shared.proofs.LineLemmas.{read-at}
+use Rattle.scasp_print_shared.proofs.SearchLemmas.{no_root}
+use Rattle.scasp_print_shared.proofs.LineLemmas.{no_line, read-at}
 use Rattle.scasp_print_shared.proofs.WalkLemmas.{a-copy, no-copy}
 use Rattle.scasp_print_shared.proofs.walk.put_next.Goals as goal
-
-abbrev no_line : Line
-no_line = record { depth = 0; words = record { ref_ptr = (0, 0); now = [] } }
-
-abbrev no_root : Root
-no_root = record { depth = 0; count = 0; class = 0 }
 
 pub returns-in_ok-put_copy-in-Some : goal.returns-in_ok-put_copy-in-Some
 returns-in_ok-put_copy-in-Some c =
