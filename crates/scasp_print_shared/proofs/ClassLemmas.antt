@@ -1,11 +1,11 @@
 -- Keys in a table that grows, and the marks by it.
-use Rattle.std.proofs.Common.{◌≡◌, ℕ, zero, suc, ◌+◌, ◌-◌, ◌^◌, ◌<◌, ◌≤◌, ◌∙◌, Bool, true, false, not, ◌||◌, List, [], ◌∷◌, ◌++◌, length, get_or, map, take, drop, reverse, refl, sym, ap, arith}
-use Rattle.std.specs.Prelude.{nat_lt, if◌then◌else◌}
-use Rattle.std.specs.List.{list_any, position_or_len}
+use Rattle.std.proofs.Common.{◌≡◌, ℕ, suc, ◌+◌, ◌^◌, ◌<◌, ◌∙◌, Bool, true, false, not, ◌||◌, List, [], ◌∷◌, ◌++◌, length, get_or, map, take, drop, refl, sym, ap, arith}
+use Rattle.std.specs.Prelude.{if◌then◌else◌}
+use Rattle.std.specs.List.{position_or_len}
 use Rattle.std.specs.Str.{bytes_eq}
 use Rattle.std.proofs.Math.Seq.{drop-cons}
-use Rattle.std.proofs.lemmas.Bool.{true≢false, cond-true, cond-false, or_cases, or_parts, or_left, or_right}
-use Rattle.std.proofs.lemmas.List.{length-take-le, length-drop, take-append-drop, drop-drop, drop-append-le}
+use Rattle.std.proofs.lemmas.Bool.{true≢false, cond-true, cond-false, or_parts, or_left, or_right}
+use Rattle.std.proofs.lemmas.List.{length-take-le, length-drop, take-append-drop, drop-append-le}
 use Rattle.std.proofs.lemmas.List.Folds.{list_any-append}
 use Rattle.std.proofs.lemmas.Slice.Eq.{bytes_eq-Decides}
 use Rattle.scasp_name.specs.Texts.{has_text, with_text}
@@ -29,11 +29,11 @@ place-map read (k ∷ keys) key = by (bytes_eq key (read k)) (place-map read key
 
 place-kept : (table : List (List ℕ)) (new key : List ℕ) → has_text table key ≡ true → place_in (table ++ new ∷ []) key ≡ place_in table key
 place-kept [] new key h = absurd (true≢false (sym h))
-place-kept (t ∷ table) new key h = by (bytes_eq key t) refl
+place-kept (t ∷ table) new key h = by (bytes_eq key t) refl (λ g. place-kept table new key g)
   where
-    by : (b : Bool) → bytes_eq key t ≡ b → place_in ((t ∷ table) ++ new ∷ []) key ≡ place_in (t ∷ table) key
-    by true e = simp e refl
-    by false e = simp e (ap (λ n. 1 + n) (place-kept table new key (sym (ap (λ b. b || has_text table key) e) ∙ h)))
+    by : (b : Bool) → bytes_eq key t ≡ b → (has_text table key ≡ true → place_in (table ++ new ∷ []) key ≡ place_in table key) → place_in ((t ∷ table) ++ new ∷ []) key ≡ place_in (t ∷ table) key
+    by true e ih = simp e refl
+    by false e ih = simp e (ap (λ n. 1 + n) (ih (sym (ap (λ b. b || has_text table key) e) ∙ h)))
 
 place-new : (table : List (List ℕ)) (key : List ℕ) → has_text table key ≡ false → place_in (table ++ key ∷ []) key ≡ place_in table key
 place-new [] key h = rw ((bytes_eq-Decides key key).1 refl) refl

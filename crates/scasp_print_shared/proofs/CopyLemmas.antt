@@ -1,5 +1,5 @@
 -- Whether a copy stands for the subtree at the front.
-use Rattle.std.proofs.Common.{◌≡◌, ℕ, zero, suc, ◌+◌, ◌-◌, ◌^◌, ◌<◌, ◌≤◌, ◌∙◌, Bool, true, false, not, ◌&&◌, ◌||◌, List, [], ◌∷◌, ◌++◌, length, map, take, drop, Option, None, Some, refl, sym, ap, arith}
+use Rattle.std.proofs.Common.{◌≡◌, ℕ, suc, ◌+◌, ◌^◌, ◌<◌, ◌∙◌, Bool, true, false, not, ◌&&◌, ◌||◌, List, [], ◌∷◌, ◌++◌, length, map, take, drop, None, Some, refl, sym, ap, arith}
 use Rattle.std.specs.Prelude.{◌==◌, nat_le, nat_lt}
 use Rattle.std.specs.List.{prefix_len, take_while}
 use Rattle.std.specs.Str.{bytes_eq}
@@ -8,7 +8,7 @@ use Rattle.std.proofs.lemmas.List.{length-map, take-append-le}
 use Rattle.std.proofs.lemmas.List.Folds.{length-prefix_len, prefix_len-append}
 use Rattle.std.proofs.lemmas.List.Sums.{prefix_len-le-length}
 use Rattle.std.proofs.lemmas.Slice.Eq.{bytes_eq-Decides}
-use Rattle.scasp_copies.specs.Copies.{Move, copied, copy_of, deeper_than, has_ended, is_call, moved_piece, subtree}
+use Rattle.scasp_copies.specs.Copies.{Move, copied, deeper_than, has_ended, is_call, moved_piece, subtree}
 use Rattle.scasp_copies.specs.Pieces.{Piece, same_pieces}
 use Rattle.scasp_print_shared.specs.Shared.{are_lines, is_copy}
 use Rattle.scasp_print_shared.specs.Inside.Classes.{classes_text, place_in, root_of, roots, stem}

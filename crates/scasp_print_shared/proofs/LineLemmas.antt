@@ -1,11 +1,13 @@
 -- The lines of a text and of a block.
-use Rattle.std.proofs.Common.{◌≡◌, ◌∙◌, ℕ, zero, ◌+◌, ◌<◌, ◌≤◌, Bool, true, false, not, List, [], ◌∷◌, ◌++◌, length, get_or, map, take, drop, suc, refl, sym, ap, arith}
-use Rattle.std.specs.Prelude.{◌==◌, if◌then◌else◌}
+use Rattle.std.proofs.Common.{◌≡◌, ◌∙◌, ℕ, zero, ◌+◌, ◌<◌, ◌≤◌, Bool, true, false, not, List, [], ◌∷◌, ◌++◌, length, get_or, take, drop, suc, refl, sym, ap, arith, append_assoc}
+use Rattle.std.specs.Prelude.{◌==◌, flat_map}
 use Rattle.std.specs.List.{prefix_len}
-use Rattle.std.proofs.lemmas.List.{drop_more}
-use Rattle.scasp_copies.specs.Pieces.{Piece, Split, split_lines, with_byte}
+use Rattle.std.proofs.lemmas.Grind.{flat_map-append}
+use Rattle.std.proofs.lemmas.List.{drop_more, take-map}
+use Rattle.std.proofs.lemmas.List.Folds.{length-prefix_len}
+use Rattle.scasp_copies.specs.Pieces.{Piece, Split, piece_text, split_lines, with_byte}
 use Rattle.scasp_print_shared.specs.Inside.Lines.{behind_tree, read, read_all, with_line}
-use Rattle.scasp_print_shared.specs.Shared.{is_tree, numbered, shared_block, shared_lines}
+use Rattle.scasp_print_shared.specs.Shared.{is_behind, is_tree, numbered, shared_block, shared_lines}
 use Rattle.scasp_print_shared.specs.declared.lines.Line.{Line}
 
 abbrev pub is_inside : ℕ → Bool
@@ -57,6 +59,9 @@ shared-parts (p ∷ ps) = by (is_tree p) refl (shared-parts ps)
 
 -- ---- lines as read
 
+abbrev pub no_line : Line
+no_line = record { depth = 0; words = record { ref_ptr = (0, 0); now = [] } }
+
 pub read-at : (ls : List Line) (k : ℕ) (l : Line) → l ≡ get_or ls k l → read l ≡ get_or (read_all ls) k (read l)
 read-at ls k l e = ap read e ∙ sym (mapped ls k)
   where
@@ -73,9 +78,36 @@ drop-read ls zero = refl
 drop-read [] (suc k) = refl
 drop-read (l ∷ ls) (suc k) = drop-read ls k
 
-pub tree-here : (ls : List Line) (k : ℕ) (l : Line) → k < length ls → l ≡ get_or ls k l → is_tree (read l) ≡ true → behind_tree (read_all (drop k ls)) ≡ 1
-tree-here ls k l h e t = ap behind_tree (lines-from ls k l h e) ∙ ap (λ b. 1 + (if b then 0 else behind_tree (read_all (drop (k + 1) ls)))) t
+-- ---- the text of a block, by its parts
 
-pub no-tree-here : (ls : List Line) (k : ℕ) (l : Line) → k < length ls → l ≡ get_or ls k l → is_tree (read l) ≡ false
-    → behind_tree (read_all (drop k ls)) ≡ 1 + behind_tree (read_all (drop (k + 1) ls))
-no-tree-here ls k l h e t = ap behind_tree (lines-from ls k l h e) ∙ ap (λ b. 1 + (if b then 0 else behind_tree (read_all (drop (k + 1) ls)))) t
+abbrev text_of : List Piece → List ℕ
+text_of ps = flat_map piece_text ps
+
+pub block-text : (ls front behind inner others : List Line) (n m : ℕ) (out a b : List ℕ)
+    → n ≡ behind_tree (read_all ls) → front ≡ take n ls → behind ≡ drop n ls
+    → m ≡ prefix_len (λ p. not (is_behind p)) (read_all behind) → inner ≡ take m behind → others ≡ drop m behind
+    → a ≡ out ++ flat_map piece_text (read_all front) → b ≡ a ++ flat_map piece_text (shared_lines [] (read_all inner))
+    → b ++ flat_map piece_text (read_all others) ≡ out ++ flat_map piece_text (shared_block (read_all ls))
+block-text ls front behind inner others n m out a b ni fi bi mi ii oi ai bj =
+    let ps = read_all ls in
+    let f : Piece → Bool = λ p. not (is_behind p) in
+    let xs = read_all behind in
+    let first : read_all front ≡ take (behind_tree ps) ps = ap read_all fi ∙ sym (take-map read n ls) ∙ ap (λ k. take k ps) ni in
+    let rest : xs ≡ drop (behind_tree ps) ps = ap read_all bi ∙ sym (drop-read ls n) ∙ ap (λ k. drop k ps) ni in
+    let middle : read_all inner ≡ numbered xs = ap read_all ii ∙ sym (take-map read m behind) ∙ ap (λ k. take k xs) mi in
+    let last : read_all others ≡ drop (length (numbered xs)) xs =
+    ap read_all oi ∙ sym (drop-read behind m) ∙ ap (λ k. drop k xs) (mi ∙ sym (length-prefix_len f xs)) in
+    let front_text = text_of (take (behind_tree ps) ps) in
+    let inner_text = text_of (shared_lines [] (numbered xs)) in
+    let last_text = text_of (drop (length (numbered xs)) xs) in
+    let start : a ≡ out ++ front_text = ai ∙ ap (λ z. out ++ text_of z) first in
+    let more : b ≡ (out ++ front_text) ++ inner_text = bj ∙ (λ i. start i ++ text_of (shared_lines [] (middle i))) in
+    let block : text_of (shared_block ps) ≡ front_text ++ (inner_text ++ last_text) =
+    ap text_of (shared-parts ps)
+    ∙ ap (λ z. text_of (take (behind_tree ps) ps ++ shared_behind z)) (sym rest)
+    ∙ flat_map-append piece_text (take (behind_tree ps) ps) (shared_behind xs)
+    ∙ ap (λ z. front_text ++ z) (flat_map-append piece_text (shared_lines [] (numbered xs)) (drop (length (numbered xs)) xs)) in
+    (λ i. more i ++ text_of (last i))
+    ∙ append_assoc (out ++ front_text) inner_text last_text
+    ∙ append_assoc out front_text (inner_text ++ last_text)
+    ∙ ap (λ z. out ++ z) (sym block)

@@ -1,5 +1,5 @@
 -- The marks of the lines from a number on.
-use Rattle.std.proofs.Common.{◌≡◌, ℕ, ◌+◌, ◌^◌, ◌<◌, ◌≤◌, ◌∙◌, List, [], ◌∷◌, ◌++◌, length, get_or, drop, reverse, refl, sym, ap, subst, arith}
+use Rattle.std.proofs.Common.{◌≡◌, ℕ, ◌+◌, ◌^◌, ◌<◌, ◌≤◌, ◌∙◌, List, [], ◌∷◌, ◌++◌, length, get_or, drop, reverse, sym, ap, subst, arith}
 use Rattle.std.proofs.lemmas.List.{length-map, reverse-append}
 use Rattle.scasp_copies.specs.Pieces.{Piece}
 use Rattle.scasp_name.specs.Texts.{with_text}

@@ -2,9 +2,9 @@
 use Rattle.std.proofs.Common.{◌≡◌, ℕ, ◌+◌, ◌-◌, ◌^◌, ◌<◌, ◌≤◌, ◌∙◌, Bool, true, false, List, [], ◌∷◌, ◌++◌, map, refl, sym, ap, subst, arith}
 use Rattle.std.specs.Prelude.{nat_lt, codes, decimal}
 use Rattle.std.proofs.lemmas.Bool.{ltb-true, ltb-false, lt-ltb, le-ltb}
-use Rattle.scasp_copies.specs.Copies.{Move, deeper_than, moved_piece, moved_words}
+use Rattle.scasp_copies.specs.Copies.{Move, deeper_than, moved_piece}
 use Rattle.scasp_copies.specs.Pieces.{Piece}
-use Rattle.scasp_print_shared.specs.Inside.Classes.{below, beside, classes_text, count_of, place_in, root_of, roots, stem}
+use Rattle.scasp_print_shared.specs.Inside.Classes.{below, beside, classes_text, count_of, place_in, root_of, roots}
 use Rattle.scasp_print_shared.specs.declared.classes.Root.{Root}
 use Rattle.scasp_print_shared.proofs.RootLemmas.{deeper-true, deeper-false, root}
 use Rattle.scasp_print_shared.proofs.WordLemmas.{stem-moved}
@@ -32,11 +32,11 @@ RootsBelow top (r ∷ rs) = (top ≤ r.depth) × RootsBelow top rs
 
 beside-are : (top d : ℕ) (rs : List Root) → RootsBelow top rs → RootsBelow top (beside d rs)
 beside-are top d [] h = tt
-beside-are top d (r ∷ rs) h = by (nat_lt d r.depth) refl
+beside-are top d (r ∷ rs) h = by (nat_lt d r.depth) refl (beside-are top d rs h.1)
   where
-    by : (a : Bool) → nat_lt d r.depth ≡ a → RootsBelow top (beside d (r ∷ rs))
-    by true q = rw q (beside-are top d rs h.1)
-    by false q = rw q h
+    by : (a : Bool) → nat_lt d r.depth ≡ a → RootsBelow top (beside d rs) → RootsBelow top (beside d (r ∷ rs))
+    by true q ih = rw q ih
+    by false q ih = rw q h
 
 roots-are : (table : List (List ℕ)) (top : ℕ) (ps : List Piece) → AreBelow top ps → RootsBelow top (roots table ps)
 roots-are table top [] h = tt

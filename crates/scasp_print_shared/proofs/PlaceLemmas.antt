@@ -1,8 +1,9 @@
 -- The least copy among the lines of one class.
-use Rattle.std.proofs.Common.{◌≡◌, ℕ, zero, suc, ◌+◌, ◌<◌, ◌≤◌, ◌∙◌, Bool, true, false, List, [], ◌∷◌, ◌++◌, length, get_or, set, Option, None, Some, refl, sym, ap, arith, append-nil}
+use Rattle.std.proofs.Common.{◌≡◌, ℕ, zero, suc, ◌+◌, ◌<◌, ◌≤◌, ◌∙◌, Bool, true, false, List, [], ◌∷◌, ◌++◌, length, get_or, set, take, refl, sym, ap, arith, append-nil}
 use Rattle.std.specs.Global.{Vec}
 use Rattle.std.specs.Prelude.{◌==◌, if◌then◌else◌}
 use Rattle.std.proofs.lemmas.Bool.{true≢false, eq-eqb, eqb-true, eqb-false, ne_eqb, cond-true, cond-false}
+use Rattle.std.proofs.lemmas.List.{length-take-le, take_more}
 use Rattle.scasp_print_shared.specs.Shared.{least}
 use Rattle.scasp_print_shared.specs.Inside.Places.{first_among, listed, places_of}
 use Rattle.scasp_print_shared.specs.declared.classes.Root.{Root}
@@ -58,17 +59,12 @@ cons-within n bound d ns h f (suc i) g = f i (omega (arith, g))
 -- the lines of a class are among those that were told
 pub places-within : (class n : ℕ) (ms : List Root) (d i : ℕ) → i < length (places_of class n ms) → get_or (places_of class n ms) i d < n + length ms
 places-within class n [] d i h = absurd (omega (arith, h))
-places-within class n (m ∷ ms) d = by (m.class == class) refl
+places-within class n (m ∷ ms) d i h = by (m.class == class) refl (λ k g. places-within class (n + 1) ms d k g) i h
   where
-    e : n + 1 + length ms ≡ n + suc (length ms)
-    e = omega arith
-
-    behind : (i : ℕ) → i < length (places_of class (n + 1) ms) → get_or (places_of class (n + 1) ms) i d < n + suc (length ms)
-    behind i h = let b = places-within class (n + 1) ms d i h in omega (arith, b)
-
-    by : (a : Bool) → (m.class == class) ≡ a → (i : ℕ) → i < length (places_of class n (m ∷ ms)) → get_or (places_of class n (m ∷ ms)) i d < n + suc (length ms)
-    by true p = rw p (cons-within n (n + suc (length ms)) d (places_of class (n + 1) ms) (omega arith) behind)
-    by false p = rw p behind
+    by : (a : Bool) → (m.class == class) ≡ a → ((k : ℕ) → k < length (places_of class (n + 1) ms) → get_or (places_of class (n + 1) ms) k d < n + 1 + length ms)
+        → (k : ℕ) → k < length (places_of class n (m ∷ ms)) → get_or (places_of class n (m ∷ ms)) k d < n + suc (length ms)
+    by true p ih = rw p (cons-within n (n + suc (length ms)) d (places_of class (n + 1) ms) (omega arith) (λ k g. let b = ih k g in omega (arith, b)))
+    by false p ih = rw p (λ k g. let b = ih k g in omega (arith, b))
 
 -- ---- a list of lists
 
@@ -94,8 +90,10 @@ pub listed-set : (lists : List (Vec ℕ)) (v : Vec ℕ) (class other line : ℕ)
     → listed (set lists class v) other ≡ listed lists other ++ (if class == other then line ∷ [] else [])
 listed-set [] v class other line h e = absurd (omega (arith, h))
 listed-set (l ∷ lists) v zero zero line h e = e
-listed-set (l ∷ lists) v zero (suc other) line h e = sym (append-nil (listed lists other))
-listed-set (l ∷ lists) v (suc class) zero line h e = sym (append-nil l.items)
+listed-set (l ∷ lists) v zero (suc other) line h e =
+    sym (ap (λ b. listed lists other ++ (if b then line ∷ [] else [])) (ne_eqb 0 (suc other) (λ k. omega (arith, k))) ∙ append-nil (listed lists other))
+listed-set (l ∷ lists) v (suc class) zero line h e =
+    sym (ap (λ b. l.items ++ (if b then line ∷ [] else [])) (ne_eqb (suc class) 0 (λ k. omega (arith, k))) ∙ append-nil l.items)
 listed-set (l ∷ lists) v (suc class) (suc other) line h e =
     listed-set lists v class other line (omega (arith, h)) e ∙ ap (λ b. listed lists other ++ (if b then line ∷ [] else [])) (eq-suc class other)
   where
@@ -105,3 +103,15 @@ listed-set (l ∷ lists) v (suc class) (suc other) line h e =
         by : (t : Bool) → (a == b) ≡ t → t ≡ (suc a == suc b)
         by true q = let s = eqb-true a b q in sym (eq-eqb (suc a) (suc b) (ap suc s))
         by false q = let s = eqb-false a b q in sym (ne_eqb (suc a) (suc b) (λ k. s (omega (arith, k))))
+
+-- a line more is told
+pub places-next : (lists new : List (Vec ℕ)) (ms : List Root) (k : ℕ) (r : Root) → k < length ms → r ≡ get_or ms k r
+    → ((class : ℕ) → listed lists class ≡ places_of class 0 (take k ms))
+    → ((other : ℕ) → listed new other ≡ listed lists other ++ (if r.class == other then k ∷ [] else []))
+    → (class : ℕ) → listed new class ≡ places_of class 0 (take (k + 1) ms)
+places-next lists new ms k r h at old added class =
+    let size : k ≡ 0 + length (take k ms) = (let l = length-take-le k ms (omega (arith, h)) in omega (arith, l)) in
+    added class
+    ∙ (λ i. old class i ++ (if r.class == class then size i ∷ [] else []))
+    ∙ sym (places-push class 0 (take k ms) r)
+    ∙ ap (places_of class 0) (ap (λ x. take k ms ++ x ∷ []) at ∙ sym (take_more ms k r h))

@@ -1,12 +1,12 @@
 -- Whether a line is copied, by the lines and their marks.
-use Rattle.std.proofs.Common.{inl, inr, ◌≡◌, ℕ, zero, suc, ◌+◌, ◌-◌, ◌^◌, ◌<◌, ◌≤◌, ◌∙◌, Bool, true, false, ◌&&◌, List, [], ◌∷◌, ◌++◌, length, get_or, map, take, drop, Option, None, Some, refl, sym, ap, arith}
+use Rattle.std.proofs.Common.{inl, inr, ◌≡◌, ℕ, suc, ◌+◌, ◌-◌, ◌<◌, ◌≤◌, ◌∙◌, Bool, true, false, ◌&&◌, List, [], ◌∷◌, ◌++◌, length, get_or, map, take, drop, None, Some, refl, sym, ap, arith}
 use Rattle.std.specs.Prelude.{◌==◌, ◌⊎◌, nat_le, nat_lt}
 use Rattle.std.specs.Str.{bytes_eq}
 use Rattle.std.proofs.Math.Seq.{drop-cons}
 use Rattle.std.proofs.lemmas.Bool.{true≢false, and_parts, cond-true, cond-false, le-leb, leb-true, lt-leb, false_from_ne_true}
-use Rattle.std.proofs.lemmas.List.{length-drop, length-take-le, get_or-take, take-append-drop, drop-append-le, drop_more}
+use Rattle.std.proofs.lemmas.List.{length-drop, length-map, length-take-le, get_or-take, get_or_default, take-append-drop, take-map, drop-append-le, drop_more}
 use Rattle.std.proofs.lemmas.List.Folds.{length-prefix_len}
-use Rattle.scasp_copies.specs.Copies.{Move, deeper_than, has_ended, is_call, moved_piece, moved_words, subtree}
+use Rattle.scasp_copies.specs.Copies.{Move, has_ended, is_call, moved_piece, moved_words, subtree}
 use Rattle.scasp_copies.specs.Pieces.{Piece, same_pieces}
 use Rattle.scasp_print_shared.specs.Shared.{is_copy, least, least_copy}
 use Rattle.scasp_print_shared.specs.Inside.Classes.{AreMarks}
@@ -15,8 +15,9 @@ use Rattle.scasp_print_shared.specs.Inside.Places.{first_among, places_of}
 use Rattle.scasp_print_shared.specs.declared.classes.Root.{Root}
 use Rattle.scasp_print_shared.specs.declared.lines.Line.{Line}
 use Rattle.scasp_print_shared.proofs.CopyLemmas.{copy-length, copy-test, ended-is, ended-kept, moved_subtree}
-use Rattle.scasp_print_shared.proofs.LineLemmas.{lines-from}
+use Rattle.scasp_print_shared.proofs.LineLemmas.{drop-read, lines-from, read-at}
 use Rattle.scasp_print_shared.proofs.PlaceLemmas.{first-of}
+use Rattle.scasp_print_shared.proofs.RootLemmas.{subtree-within}
 
 pub subtree-front : (ps : List Piece) → take (length (subtree ps)) ps ≡ subtree ps
 subtree-front [] = refl
@@ -146,3 +147,55 @@ module _ (ps : List Piece) (ms : List Root) (line : ℕ) (d : Root) (are : AreMa
       (le-leb 3 (length (subtree (drop line ps))) (omega (arith, n, h)))
       ∙ ap (least (is_copy (take line ps) (drop line ps)) 1) same
       ∙ first-of (is_copy (take line ps) (drop line ps)) (get_or ms line d).class 0 (take line ms) d of-class
+
+-- ---- the same, as the code has lines
+
+abbrev pub no_root : Root
+no_root = record { depth = 0; count = 0; class = 0 }
+
+pub slice-is : (ls : List Line) (k n : ℕ) → read_all (take (k + n - k) (drop k ls)) ≡ take n (drop k (read_all ls))
+slice-is ls k n =
+    let e : k + n - k ≡ n = omega arith in
+    ap (λ i. read_all (take i (drop k ls))) e ∙ sym (take-map read n (drop k ls)) ∙ ap (take n) (sym (drop-read ls k))
+
+module _ (ls : List Line) (ms : List Root) (place line : ℕ) (l : Line) (r : Root) (are : AreMarks (read_all ls) ms) (before : place < line) (within : line < length ls) where
+  size-read : length (read_all ls) ≡ length ls
+  size-read = length-map ls read
+
+  line-in : line < length (read_all ls)
+  line-in = omega (arith, size-read, within)
+
+  q-at : read (get_or ls place l) ≡ get_or (read_all ls) place (read (get_or ls place l))
+  q-at = read-at ls place (get_or ls place l) (get_or_default ls place l (get_or ls place l) (omega (arith, before, within)))
+
+  p-at : read (get_or ls line l) ≡ get_or (read_all ls) line (read (get_or ls line l))
+  p-at = read-at ls line (get_or ls line l) (get_or_default ls line l (get_or ls line l) within)
+
+  place-in : place < length (read_all ls)
+  place-in = omega (arith, size-read, before, within)
+
+  pub line-fits : line + (get_or ms line r).count ≤ length ls
+  line-fits =
+      omega (arith, are.counts line r line-in, subtree-within (drop line (read_all ls)), length-drop line (read_all ls), size-read, within)
+
+  pub is-no-copy : (is_call (read (get_or ls place l)) ≡ false) ⊎ (((get_or ms place r).count ≡ (get_or ms line r).count → ⊥) ⊎ (line - place < (get_or ms line r).count))
+      → false ≡ is_copy (take line (read_all ls)) (drop line (read_all ls)) (place + 1)
+  is-no-copy h =
+      sym (not-copied (read_all ls) place line (read (get_or ls place l)) (read (get_or ls line l)) before line-in q-at p-at (get_or ms place r).count (get_or ms line r).count (are.counts place r place-in) (are.counts line r line-in) h)
+
+  pub is-copy : is_call (read (get_or ls place l)) ≡ true → (get_or ms place r).count ≡ (get_or ms line r).count → (get_or ms line r).count ≤ line - place
+      → same_pieces (map (moved_piece (record { from = place + 1; count = (get_or ms line r).count; to = line + 1 }) (get_or ls place l).depth (get_or ls line l).depth) (read_all (take (place + (get_or ms line r).count - place) (drop place ls))))
+      (read_all (take (line + (get_or ms line r).count - line) (drop line ls)))
+      ≡ is_copy (take line (read_all ls)) (drop line (read_all ls)) (place + 1)
+  is-copy c e h =
+      let n = (get_or ms line r).count in
+      let m : Move = record { from = place + 1; count = n; to = line + 1 } in
+      (λ i. same_pieces (map (moved_piece m (get_or ls place l).depth (get_or ls line l).depth) (slice-is ls place n i)) (slice-is ls line n i))
+      ∙ sym (copied-same (read_all ls) place line (read (get_or ls place l)) (read (get_or ls line l)) before line-in q-at p-at (get_or ms place r).count n (are.counts place r place-in) (are.counts line r line-in) c e h)
+
+-- ---- among the lines of a class
+
+pub first-here : (holds : ℕ → Bool) (ns : List ℕ) (i : ℕ) → i < length ns → holds (get_or ns i 0 + 1) ≡ true → first_among holds (drop i ns) ≡ Some (get_or ns i 0 + 1)
+first-here holds ns i h e =
+    ap (first_among holds) (drop_more ns i 0 h)
+    ∙ cond-true (holds (get_or ns i 0 + 1)) (Some (get_or ns i 0 + 1)) (first_among holds (drop (i + 1) ns)) e

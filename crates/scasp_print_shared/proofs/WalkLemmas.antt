@@ -1,7 +1,7 @@
 -- A line more of the numbered lines.
-use Rattle.std.proofs.Common.{◌≡◌, ◌∙◌, ℕ, zero, suc, ◌+◌, ◌-◌, ◌<◌, Bool, true, false, List, [], ◌∷◌, ◌++◌, length, get_or, take, drop, Option, None, Some, refl, sym, ap, arith, append_assoc}
+use Rattle.std.proofs.Common.{◌≡◌, ◌∙◌, ℕ, zero, suc, ◌+◌, ◌-◌, ◌<◌, ◌≤◌, List, [], ◌∷◌, ◌++◌, length, get_or, take, drop, Option, None, Some, refl, sym, ap, arith, append_assoc}
 use Rattle.std.specs.Prelude.{flat_map}
-use Rattle.std.proofs.lemmas.List.{drop_more, take_more}
+use Rattle.std.proofs.lemmas.List.{drop_all, drop_more, get_or_default, take_more}
 use Rattle.scasp_copies.specs.Copies.{deeper_than, subtree}
 use Rattle.scasp_copies.specs.Pieces.{Piece, piece_text}
 use Rattle.scasp_copies.specs.Writing.{copy_line}
@@ -55,3 +55,20 @@ a-copy out new ps k p n count h at e c w =
     ∙ append_assoc out (piece_text (copy_line p.depth n)) (text_from (count - 1) (k + 1) ps)
     ∙ ap (λ i. out ++ (piece_text (copy_line p.depth n) ++ text_from i (k + 1) ps)) (sym (below-count ps k p h at count c))
     ∙ ap (λ z. out ++ z) (sym (next-line ps k p h at (Some n) e))
+
+blank : Piece
+blank = record { depth = 0; words = [] }
+
+-- a line below a copy is left out
+pub below-copy : (ps : List Piece) (k left now : ℕ) → k < length ps → 0 < left → now ≡ left - 1 → text_from left k ps ≡ text_from now (k + 1) ps
+below-copy ps k left now h g e =
+    let p = get_or ps k blank in
+    let n : left ≡ suc now = omega (arith, g, e) in
+    ap (λ i. text_from i k ps) n ∙ left-out ps k p h (get_or_default ps k blank p h) now
+
+pub at-end : (ps : List Piece) (k left : ℕ) → length ps ≤ k → text_from left k ps ≡ []
+at-end ps k left h = ap (λ z. text_of (shared_below left (take k ps) z)) (drop_all k ps h) ∙ none left
+  where
+    none : (n : ℕ) → text_of (shared_below n (take k ps) []) ≡ []
+    none zero = refl
+    none (suc n) = refl

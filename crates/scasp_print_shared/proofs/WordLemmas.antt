@@ -1,12 +1,12 @@
 -- The words of a line, and what moving a line makes of them.
-use Rattle.std.proofs.Common.{inl, inr, ◌≡◌, ℕ, zero, suc, ◌+◌, ◌-◌, ◌*◌, ◌/◌, ◌%◌, ◌^◌, ◌<◌, ◌≤◌, ◌∙◌, Bool, true, false, ◌&&◌, ◌||◌, List, [], ◌∷◌, ◌++◌, length, take, drop, reverse, refl, sym, ap, subst, arith, decimal}
+use Rattle.std.proofs.Common.{inl, inr, ◌≡◌, ℕ, zero, suc, ◌+◌, ◌-◌, ◌*◌, ◌/◌, ◌%◌, ◌^◌, ◌<◌, ◌≤◌, ◌∙◌, Bool, true, false, ◌&&◌, List, [], ◌∷◌, ◌++◌, length, get_or, take, drop, reverse, refl, sym, ap, subst, arith, decimal}
 use Rattle.std.specs.Prelude.{◌==◌, ◌⊎◌, nat_le, nat_lt, codes}
-use Rattle.std.specs.List.{list_all, prefix_len, take_while}
+use Rattle.std.specs.List.{list_all, prefix_len}
 use Rattle.std.specs.Str.{bytes_eq}
-use Rattle.std.proofs.lemmas.Bool.{true≢false, and_parts, and_from, or_cases, or_left, or_right, cond-true, cond-false, eqb-true, leb-true, ltb-true}
+use Rattle.std.proofs.lemmas.Bool.{true≢false, and_parts, and_from, or_cases, or_left, or_right, and_right, cond-true, cond-false, eqb-true, leb-true, ltb-true, le-ltb}
 use Rattle.std.proofs.lemmas.Bool.Decides.{nat_tests}
 use Rattle.std.proofs.lemmas.Fmt.{decimal_by_steps}
-use Rattle.std.proofs.lemmas.List.{reverse-append, reverse-reverse, length-reverse, length-append, length-drop, take-append-drop, take_at, drop_at}
+use Rattle.std.proofs.lemmas.List.{reverse-append, reverse-reverse, length-reverse, length-append, length-drop, take-append-drop, take_at, drop_at, drop_more}
 use Rattle.std.proofs.lemmas.List.Folds.{list_all-append, length-prefix_len}
 use Rattle.std.proofs.lemmas.List.Sums.{prefix_len-le-length}
 use Rattle.scasp_copies.specs.Copies.{begins, is_digit, last_digits, last_number, before_digits, names_line, Move, is_inside, moved_number, moved_words}
@@ -199,3 +199,40 @@ stem-moved m words h = by (names_line words && is_inside m (last_number words)) 
         ∙ cond-true (names_line new) (before_digits new) new (names-kept words (decimal n) p.0)
         ∙ before-behind (before_digits words) (decimal n) (ends-before words) ds
         ∙ sym (cond-true (names_line words) (before_digits words) words p.0)
+
+-- a number past 2^64 is of no line inside
+pub far-stays : (m : Move) (words : List ℕ) → m.from ≤ m.to → m.to + m.count < 2 ^ 64 → (last_number words < 2 ^ 64 → ⊥) → moved_words m words ≡ words
+far-stays m words f h n =
+    let k = last_number words in
+    let past : m.from + m.count ≤ k = omega (arith, f, h, n) in
+    cond-false (names_line words && is_inside m k) (before_digits words ++ decimal (moved_number m k)) words
+    (and_right (names_line words) (is_inside m k) (and_right (nat_le m.from k) (nat_lt k (m.from + m.count)) (le-ltb k (m.from + m.count) past)))
+
+-- ---- the digits at the end, as they stand
+
+reverse-back : (words : List ℕ) (k : ℕ) → k ≤ length words → take k (reverse words) ≡ reverse (drop (length words - k) words)
+reverse-back words k h =
+    let a = length words - k in
+    let n : length (reverse (drop a words)) ≡ k = omega (arith, length-reverse (drop a words), length-drop a words) in
+    ap (λ z. take k (reverse z)) (sym (take-append-drop a words))
+    ∙ ap (take k) (reverse-append (take a words) (drop a words))
+    ∙ take_at (reverse (drop a words)) (reverse (take a words)) k n
+
+pub last-is : (words : List ℕ) → drop (length words - length (last_digits words)) words ≡ last_digits words
+last-is words =
+    let k = digits_len words in
+    ap (λ n. drop (length words - n) words) (length-last_digits words)
+    ∙ sym (reverse-reverse (drop (length words - k) words))
+    ∙ ap reverse (sym (reverse-back words k (digits-within words)))
+
+-- ---- one digit after the other
+
+pub digit-step : (n : ℕ) (ds : List ℕ) (k : ℕ) → k < length ds → digits_value n (drop k ds) ≡ digits_value (10 * n + (get_or ds k 0 - 48)) (drop (k + 1) ds)
+digit-step n ds k h = ap (digits_value n) (drop_more ds k 0 h)
+
+pub too-large : (n : ℕ) (ds : List ℕ) (k : ℕ) → k < length ds → (10 * n + (get_or ds k 0 - 48) < 2 ^ 64 → ⊥) → digits_value n (drop k ds) < 2 ^ 64 → ⊥
+too-large n ds k h past small =
+    let v = 10 * n + (get_or ds k 0 - 48) in
+    let g = grows v (drop (k + 1) ds) in
+    let e = digit-step n ds k h in
+    past (omega (arith, g, e, small))

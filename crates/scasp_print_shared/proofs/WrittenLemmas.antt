@@ -1,13 +1,12 @@
 -- The lines with their copies, written out, are the lines.
-use Rattle.std.proofs.Common.{◌≡◌, ◌∙◌, ℕ, zero, suc, ◌+◌, ◌-◌, ◌*◌, ◌/◌, ◌%◌, ◌^◌, ◌<◌, ◌≤◌, Bool, true, false, not, List, [], ◌∷◌, ◌++◌, length, take, drop, reverse, Option, None, Some, refl, sym, ap, arith, append_assoc, append-nil, decimal}
+use Rattle.std.proofs.Common.{◌≡◌, ◌∙◌, ℕ, zero, suc, ◌+◌, ◌-◌, ◌*◌, ◌/◌, ◌%◌, ◌^◌, ◌<◌, ◌≤◌, Bool, true, false, not, List, [], ◌∷◌, ◌++◌, length, take, drop, Option, None, Some, refl, sym, ap, arith, append_assoc, append-nil, decimal}
 use Rattle.std.specs.Prelude.{nat_lt, nat_le, codes}
-use Rattle.std.specs.List.{list_all, prefix_len}
+use Rattle.std.specs.List.{list_all}
 use Rattle.std.specs.Option.{option_map}
 use Rattle.std.proofs.lemmas.Bool.{true≢false, and_parts, cond-true, cond-false, not-true}
 use Rattle.std.proofs.lemmas.Fmt.{decimal_by_steps}
-use Rattle.std.proofs.lemmas.List.{length-append, length-drop, length-take-le, take-append-drop}
+use Rattle.std.proofs.lemmas.List.{length-append, length-drop, take-append-drop}
 use Rattle.std.proofs.lemmas.List.Folds.{length-prefix_len}
-use Rattle.std.proofs.lemmas.List.Sums.{prefix_len-le-length}
 use Rattle.scasp_copies.specs.Copies.{copy_of, deeper_than, last_number, subtree}
 use Rattle.scasp_copies.specs.Pieces.{Piece}
 use Rattle.scasp_copies.specs.Writing.{copy_line, is_copy_line, stands_for, written_behind, written_out}
@@ -39,15 +38,17 @@ copy-number depth n h =
 
 least-holds : (holds : ℕ → Bool) (n left k : ℕ) → least holds n left ≡ Some k → (holds k ≡ true) × (k < n + left)
 least-holds holds n zero k e = cc
-least-holds holds n (suc left) k e = by (holds n) refl
+least-holds holds n (suc left) k e = by (holds n) refl (λ g. least-holds holds (n + 1) left k g)
   where
-    by : (t : Bool) → holds n ≡ t → (holds k ≡ true) × (k < n + suc left)
-    by true p =
-        let same : n ≡ k = (let s : Some n ≡ Some k = sym (cond-true (holds n) (Some n) (least holds (n + 1) left) p) ∙ e in cc) in
+    by : (t : Bool) → holds n ≡ t → (least holds (n + 1) left ≡ Some k → (holds k ≡ true) × (k < n + 1 + left)) → (holds k ≡ true) × (k < n + suc left)
+    by true p ih =
+        let s : Some n ≡ Some k = sym (cond-true (holds n) (Some n) (least holds (n + 1) left) p) ∙ e in
+        let same : n ≡ k = cc in
         (ap holds (sym same) ∙ p, omega (arith, same))
-    by false p =
-        let r = least-holds holds (n + 1) left k (sym (cond-false (holds n) (Some n) (least holds (n + 1) left) p) ∙ e) in
-        (r.0, omega (arith, r.1))
+    by false p ih =
+        let r = ih (sym (cond-false (holds n) (Some n) (least holds (n + 1) left) p) ∙ e) in
+        let b = r.1 in
+        (r.0, omega (arith, b))
 
 given : (o : Option (List Piece)) (ps : List Piece) → are_lines o ps ≡ true → o ≡ Some ps
 given None ps e = absurd (true≢false (sym e))

@@ -1,5 +1,5 @@
 -- The text of a block in which a subtree that repeats is written once.
-use Rattle.std.specs.Prelude.{ℕ, zero, suc, ◌+◌, ◌==◌, ◌&&◌, ◌||◌, nat_le, Bool, true, false, not, if◌then◌else◌, List, [], ◌∷◌, ◌++◌, length, map, take_while, drop, flat_map, Option, None, Some, codes}
+use Rattle.std.specs.Prelude.{ℕ, zero, suc, ◌+◌, ◌==◌, ◌&&◌, ◌||◌, nat_le, Bool, false, not, if◌then◌else◌, List, [], ◌∷◌, ◌++◌, length, map, take_while, drop, flat_map, Option, None, Some, codes}
 use Rattle.std.specs.Str.{bytes_eq}
 use Rattle.scasp_copies.specs.Pieces.{Piece, piece_of, piece_text, same_pieces, split_lines}
 use Rattle.scasp_copies.specs.Copies.{begins, copy_of, deeper_than, subtree}

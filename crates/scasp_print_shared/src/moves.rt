@@ -1,5 +1,5 @@
 //! Whether a subtree, moved to where another stands, is the other.
-ghost use Rattle.std.specs.Prelude.{◌≡◌, ◌+◌, ◌-◌, ◌<◌, ◌^◌, ◌==◌, ◌++◌, true, false, length, map, decimal, IfOk, MatchOption};
+ghost use Rattle.std.specs.Prelude.{◌≡◌, ◌+◌, ◌-◌, ◌<◌, ◌≤◌, ◌^◌, ◌==◌, ◌++◌, true, false, length, map, decimal, IfOk, MatchOption};
 ghost use Rattle.std.specs.Str.{bytes_eq};
 ghost use Rattle.scasp_copies.specs.Copies.{is_inside, moved_number, moved_piece, moved_words, before_digits};
 ghost use Rattle.scasp_copies.specs.Pieces.{same_pieces};
@@ -35,7 +35,8 @@ fn moved_number(shift: Shift, number: u64) -> Option<u64>
 
 /// The number that the words have at their end where they are moved, if it changes.
 fn number_inside(shift: Shift, words: &[u8]) -> Option<u64>
-    requires { shift.to + shift.count < 2 ^ 64 }
+    requires room { shift.to + shift.count < 2 ^ 64 }
+    requires forward { shift.from ≤ shift.to }
     ensures { MatchOption result (moved_words (move_of shift) words.now ≡ words.now) (λ moved. moved_words (move_of shift) words.now ≡ before_digits words.now ++ decimal moved) }
 {
     if !names_line(words) {
@@ -49,7 +50,8 @@ fn number_inside(shift: Shift, words: &[u8]) -> Option<u64>
 
 /// Whether the words, moved, are the others.
 fn same_words(alloc: Global, shift: Shift, words: &[u8], others: &[u8]) -> Result<bool, Memory>
-    requires { shift.to + shift.count < 2 ^ 64 }
+    requires room { shift.to + shift.count < 2 ^ 64 }
+    requires forward { shift.from ≤ shift.to }
     ensures { IfOk result (λ same. same ≡ bytes_eq (moved_words (move_of shift) words.now) others.now) }
 {
     match number_inside(shift, words) {
@@ -77,6 +79,7 @@ pub(crate) fn same_lines(
     others: &[Line<'_>],
 ) -> Result<bool, Memory>
     requires room { shift.to + shift.count < 2 ^ 64 }
+    requires forward { shift.from ≤ shift.to }
     requires size { length lines.now ≡ length others.now }
     ensures { IfOk result (λ same. same ≡ same_pieces (map (moved_piece (move_of shift) shift.top shift.depth) (read_all lines.now)) (read_all others.now)) }
 {

@@ -27,7 +27,8 @@ fn put_next(
     ensures { IfOk result (λ left_out. out.new.items ++ flat_map piece_text (spec.shared_below left_out (take (line + 1) (read_all lines.now)) (drop (line + 1) (read_all lines.now))) ≡ out.old.items ++ flat_map piece_text (spec.shared_below 0 (take line (read_all lines.now)) (drop line (read_all lines.now)))) }
 {
     let alloc = *out.allocator();
-    match least_copy(alloc, lines, marks, places, line)? {
+    let copy = least_copy(alloc, lines, marks, places, line)?;
+    match copy {
         Some(number) => {
             put_copy(out, lines[line].depth, number)?;
             Ok(marks[line].count - 1)

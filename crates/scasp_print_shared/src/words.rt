@@ -1,12 +1,11 @@
 //! The words of a line.
-ghost use Rattle.std.specs.Prelude.{◌≡◌, ◌-◌, ◌<◌, ◌≤◌, ◌^◌, length, reverse, SomeIff};
+ghost use Rattle.std.specs.Prelude.{◌≡◌, ◌+◌, ◌-◌, ◌*◌, ◌<◌, ◌≤◌, ◌^◌, length, reverse, SomeIff};
 ghost use Rattle.std.specs.List.{prefix_len};
 ghost use Rattle.scasp_copies.specs.Copies as spec;
 ghost use Rattle.scasp_print_shared.specs.Inside.Classes.{stem};
 ghost use Rattle.scasp_reader_tokens.specs.Numbers.{digits_value};
 
 /// Whether the text begins with the first.
-
 pub(crate) fn begins(text: &[u8], first: &[u8]) -> bool
     ensures { result ≡ spec.begins first.now text.now }
 {
@@ -46,14 +45,26 @@ pub(crate) fn before_digits(words: &[u8]) -> &[u8]
     &words[..count_before_digits(words)]
 }
 
+/// The number with a digit more, where it is below 2^64.
+fn with_digit(number: u64, digit: u8) -> Option<u64>
+    ensures { SomeIff result (10 * number + (digit - 48) < 2 ^ 64) (10 * number + (digit - 48)) }
+{
+    match number.checked_mul(10) {
+        None => None,
+        Some(tens) => tens.checked_add(u64::from(digit.saturating_sub(b'0'))),
+    }
+}
+
 /// The number that these digits spell, where it is below 2^64.
 fn number_in(digits: &[u8]) -> Option<u64>
     ensures { SomeIff result (digits_value 0 digits.now < 2 ^ 64) (digits_value 0 digits.now) }
 {
     let mut number = 0u64;
     for digit in digits {
-        let tens = number.checked_mul(10)?;
-        number = tens.checked_add(u64::from(digit.saturating_sub(b'0')))?;
+        match with_digit(number, *digit) {
+            None => return None,
+            Some(next) => number = next,
+        }
     }
     Some(number)
 }

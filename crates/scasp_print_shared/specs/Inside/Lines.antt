@@ -1,5 +1,5 @@
 -- Lines of a block as the code has them.
-use Rattle.std.specs.Prelude.{◌≡◌, ℕ, ◌+◌, not, if◌then◌else◌, List, [], ◌∷◌, map, take, drop, Option, None, Some}
+use Rattle.std.specs.Prelude.{◌≡◌, ℕ, ◌+◌, if◌then◌else◌, List, [], ◌∷◌, map, take, drop, Option, None, Some}
 use Rattle.scasp_copies.specs.Copies.{Move}
 use Rattle.scasp_copies.specs.Pieces.{Piece, Split, split_lines}
 use Rattle.scasp_print_shared.specs.Shared.{is_tree}

@@ -1,5 +1,5 @@
 -- The lines of each class.
-use Rattle.std.specs.Prelude.{◌≡◌, ℕ, ◌+◌, ◌==◌, Bool, if◌then◌else◌, List, [], ◌∷◌, ◌++◌, map, slice_index_or, Option, None, Some}
+use Rattle.std.specs.Prelude.{ℕ, ◌+◌, ◌==◌, Bool, if◌then◌else◌, List, [], ◌∷◌, map, slice_index_or, Option, None, Some}
 use Rattle.std.specs.Global.{Vec}
 use Rattle.scasp_print_shared.specs.declared.classes.Root.{Root}
 

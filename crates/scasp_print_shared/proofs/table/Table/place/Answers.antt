@@ -1,4 +1,4 @@
-use Rattle.std.proofs.Common.{◌≡◌, map, ap, ◌∙◌}
+use Rattle.std.proofs.Common.{map, ap, ◌∙◌}
 use Rattle.scasp_name.specs.Texts.{with_text}
 use Rattle.scasp_name.proofs.TextLemmas.{with_text-map}
 use Rattle.scasp_print_shared.specs.Inside.Classes.{place_in}
