@@ -1,3 +1,2 @@
 pub mod AnswerReadbackLemmas
 pub mod LineReadbackLemmas
-pub mod CopyReadbackLemmas

@@ -1,3 +1,2 @@
 pub mod AnswerReadback
 pub mod LineReadback
-pub mod CopyReadback

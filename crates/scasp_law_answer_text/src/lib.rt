@@ -2,5 +2,4 @@
 #![tactic(auto)]
 
 pub mod answer_readback;
-pub mod copy_readback;
 pub mod line_readback;

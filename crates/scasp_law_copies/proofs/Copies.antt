@@ -1,5 +1,5 @@
 -- Lines with copies, and the lines that they stand for.
-use Rattle.std.proofs.Common.{◌≡◌, ◌∙◌, ℕ, ◌+◌, ◌-◌, ◌≤◌, Bool, true, false, not, ◌&&◌, List, [], ◌∷◌, ◌++◌, length, flat_map, Option, None, Some, Result, Ok, Err, refl, sym, ap, arith, length-append, append-nil}
+use Rattle.std.proofs.Common.{◌≡◌, ◌∙◌, ℕ, ◌+◌, ◌-◌, ◌≤◌, Bool, true, false, not, ◌&&◌, List, [], ◌∷◌, ◌++◌, length, take, flat_map, Option, None, Some, Result, Ok, Err, refl, sym, ap, arith, length-append, append-nil}
 use Rattle.std.specs.Prelude.{if◌then◌else◌, nat_le}
 use Rattle.std.specs.List.{list_all}
 use Rattle.std.specs.Option.{option_map}
@@ -12,11 +12,12 @@ use Rattle.scasp_copies.specs.Copies.{copy_of, last_number}
 use Rattle.scasp_copies.specs.Writing.{is_copy_line, stands_for, written_behind}
 use Rattle.scasp_answers_terms.specs.Tokens.Bounds.{is_place}
 use Rattle.scasp_answers.specs.declared.blocks.fault.AnswerKind.{AnswerKind}
+use Rattle.scasp_answers.specs.declared.blocks.fault.AnswerKind.TheVariants as kind
 use Rattle.scasp_answers.specs.declared.blocks.version.Version.TheVariants as version
 use Rattle.scasp_answers.specs.Blocks.States.{State}
-use Rattle.scasp_answers.specs.Blocks.Files.{Versioned, is_second, judged, plain_judged, all_judged, line_judged, copy_in, told_behind, unless_fault}
-use Rattle.scasp_law_answer_text.specs.CopyReadback.Written.{told_past, written_lines, is_of_first, IsSpelled}
-use Rattle.scasp_law_answer_text.proofs.CopyReadbackLemmas.Judging.{before, lines_judged, states_read, states-append}
+use Rattle.scasp_answers.specs.Blocks.Files.{Versioned, is_second, judged, plain_judged, all_judged, copy_read, copy_in_version, copy_judged, line_judged, copy_in, told_behind, unless_fault}
+use Rattle.scasp_law_copies.specs.Written.{told_past, written_lines, is_of_first, IsSpelled}
+use Rattle.scasp_law_copies.proofs.Judging.{before, lines_judged, states_read, states-append}
 
 abbrev pub one : State → List Piece → ℕ → Versioned
 one s told room = record { state = s; version = version.One; told = told; room = room }
@@ -50,7 +51,7 @@ first-states names s told room [] w h e = let same : one s told room ≡ w = cc 
 first-states names s told room (p ∷ ps) w h e =
     let k = and_parts (is_of_first p) (list_all is_of_first ps) h in
     let e' : unless_fault (unless_fault (judged names s p) (λ t. Ok (one t told room))) (λ u. lines_judged names u ps) ≡ Ok w =
-        ap (λ r. unless_fault r (λ u. lines_judged names u ps)) (sym (plain-one names s told room p k.0)) ∙ e in
+    ap (λ r. unless_fault r (λ u. lines_judged names u ps)) (sym (plain-one names s told room p k.0)) ∙ e in
     by (judged names s p) refl e' (λ t g. first-states names t told room ps w k.1 g)
   where
     by : (r : Result State AnswerKind) → judged names s p ≡ r → unless_fault (unless_fault r (λ t. Ok (one t told room))) (λ u. lines_judged names u ps) ≡ Ok w
@@ -104,7 +105,13 @@ copy-read : (names : List (List ℕ)) (s t : State) (told : List Piece) (room : 
     → line_judged names (two s told room) p ≡ Ok (two t (told_past told cs) (room - text_length cs))
 copy-read names s t told room p cs copy spelled stands first e fits =
     let k = spelled copy in
-    rw (k.0, k.1, stands, le-leb (text_length cs) room fits) (all-read names s t told room cs first e)
+    let v = two s told room in
+    let n = last_number p.words in
+    ap (λ (o : Option ℕ). elim o [ None ↦ plain_judged names v p | Some m ↦ copy_judged names v m p.depth ]) k.0
+    ∙ ap (λ (b : Bool). if b then copy_in_version version.Two names v n p.depth else Err kind.NumberTooLarge) k.1
+    ∙ ap (λ (o : Option (List Piece)). elim o [ None ↦ Err kind.Order | Some ps ↦ copy_read names v ps ]) stands
+    ∙ ap (λ (b : Bool). if b then all_judged names v cs else unless_fault (all_judged names v (take 1 cs)) (λ w. Err kind.Limit)) (le-leb (text_length cs) room fits)
+    ∙ all-read names s t told room cs first e
 
 pub copies-read : (names : List (List ℕ)) (s t : State) (told : List Piece) (room : ℕ) (ps qs : List Piece) → Each IsSpelled ps → list_all is_of_first qs ≡ true
     → written_lines told ps ≡ Some qs → states_read names s qs ≡ Ok t → text_length qs ≤ room

@@ -6,7 +6,7 @@ use Rattle.scasp_answers.specs.declared.blocks.fault.AnswerKind.{AnswerKind}
 use Rattle.scasp_answers.specs.declared.blocks.fault.AnswerKind.TheVariants as kind
 use Rattle.scasp_answers.specs.Blocks.States.{Entry, State}
 use Rattle.scasp_answers.specs.Blocks.Files.{Reading, fault, fault_place, is_remark, is_between, Versioned, judged, line_judged, unless_fault, proceeds, read_lines}
-use Rattle.scasp_law_answer_text.specs.CopyReadback.Written.{pieces_among}
+use Rattle.scasp_law_copies.specs.Written.{pieces_among}
 
 -- ---- faults
 

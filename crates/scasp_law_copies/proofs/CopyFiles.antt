@@ -9,18 +9,21 @@ use Rattle.scasp_answers_terms.specs.Tokens.Readers.{past_text}
 use Rattle.scasp_answers_terms.specs.Tokens.Forms.{line_in, line_at}
 use Rattle.scasp_answers_terms.specs.Tokens.Bounds.{line_fits}
 use Rattle.scasp_answers.specs.declared.blocks.fault.AnswerKind.TheVariants as kind
-use Rattle.scasp_answers.specs.Blocks.States.{Entry, State, next_state}
+use Rattle.scasp_answers.specs.Blocks.States.{Entry, State, between, first_state, next_state}
 use Rattle.scasp_answers.specs.Blocks.Files.{Reading, fault, Versioned, first_versioned, byte_limit, split_lines, line_judged, unless_fault, read_lines, file_in}
-use Rattle.scasp_law_answer_text.specs.AnswerReadback.Reading.{has_read}
-use Rattle.scasp_law_answer_text.specs.CopyReadback.Written.{pieces_among, written_lines, first_header, second_header, WrittenOut}
-use Rattle.scasp_law_answer_text.proofs.CopyReadbackLemmas.Judging.{HasRead, lines_judged, states_read, lines-of, lines-read, before}
-use Rattle.scasp_law_answer_text.proofs.CopyReadbackLemmas.Copies.{one, two, text_length, first-states, copies-read}
+use Rattle.scasp_law_copies.specs.Written.{pieces_among, written_lines, first_header, second_header, WrittenOut}
+use Rattle.scasp_law_copies.proofs.Judging.{HasRead, lines_judged, states_read, lines-of, lines-read, before}
+use Rattle.scasp_law_copies.proofs.Copies.{one, two, text_length, first-states, copies-read}
 
-first-read : (names : List (List ℕ)) → line_judged names first_versioned first_header ≡ Ok (one (has_read []) [] byte_limit)
+-- behind the header
+abbrev begun : State
+begun = record first_state { phase = between }
+
+first-read : (names : List (List ℕ)) → line_judged names first_versioned first_header ≡ Ok (one begun [] byte_limit)
 unfolding line_in line_at tokens_in past_text line_fits next_state
 first-read names = refl
 
-second-read : (names : List (List ℕ)) → line_judged names first_versioned second_header ≡ Ok (two (has_read []) (second_header ∷ []) (byte_limit - 8))
+second-read : (names : List (List ℕ)) → line_judged names first_versioned second_header ≡ Ok (two begun (second_header ∷ []) (byte_limit - 8))
 unfolding line_in line_at tokens_in past_text line_fits next_state
 second-read names = refl
 
@@ -58,10 +61,10 @@ read-written names shared plain entries o e =
     let found = lines-of names first_versioned 0 (split_lines plain).lines (split_lines plain).rest entries (within-limit names plain entries e) in
     let w = found.0 in
     let judged : lines_judged names first_versioned (first_header ∷ o.written) ≡ Ok w = ap (lines_judged names first_versioned) (sym o.begins_first) ∙ found.1 in
-    let behind : lines_judged names (one (has_read []) [] byte_limit) o.written ≡ Ok w = ap (λ r. unless_fault r (λ v. lines_judged names v o.written)) (sym (first-read names)) ∙ judged in
-    let states : states_read names (has_read []) o.written ≡ Ok w.state = first-states names (has_read []) [] byte_limit o.written w o.are_first behind in
+    let behind : lines_judged names (one begun [] byte_limit) o.written ≡ Ok w = ap (λ r. unless_fault r (λ v. lines_judged names v o.written)) (sym (first-read names)) ∙ judged in
+    let states : states_read names begun o.written ≡ Ok w.state = first-states names begun [] byte_limit o.written w o.are_first behind in
     let fits : text_length o.written ≤ byte_limit - 8 = header-fits o.written o.written_within in
-    let copies = copies-read names (has_read []) w.state (second_header ∷ []) (byte_limit - 8) o.lines o.written o.are_spelled o.are_first (written-behind o.lines o.written o.are_written) states fits in
+    let copies = copies-read names begun w.state (second_header ∷ []) (byte_limit - 8) o.lines o.written o.are_spelled o.are_first (written-behind o.lines o.written o.are_written) states fits in
     let all = ap (lines_judged names first_versioned) o.begins_second ∙ ap (λ r. unless_fault r (λ v. lines_judged names v o.lines)) (second-read names) ∙ copies in
     read-within names shared entries o.within o.ends (lines-read names first_versioned _ 0 (split_lines shared).lines entries all found.2)
   where
