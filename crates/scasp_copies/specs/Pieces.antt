@@ -1,5 +1,5 @@
 -- The lines of a block as they are written: words behind blanks.
-use Rattle.std.specs.Prelude.{ℕ, ◌==◌, ◌&&◌, Bool, true, false, if◌then◌else◌, List, [], ◌∷◌, ◌++◌, length, take_while, drop, replicate, codes}
+use Rattle.std.specs.Prelude.{ℕ, ◌==◌, ◌&&◌, Bool, true, false, if◌then◌else◌, List, [], ◌∷◌, ◌++◌, length, map, take_while, drop, replicate, codes}
 use Rattle.std.specs.Str.{bytes_eq}
 
 -- ---- lines of bytes

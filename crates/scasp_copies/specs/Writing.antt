@@ -1,5 +1,5 @@
 -- The lines of a block with its copies written out.
-use Rattle.std.specs.Prelude.{ℕ, List, [], ◌∷◌, ◌++◌, Option, None, Some, Bool, codes, decimal, if◌then◌else◌}
+use Rattle.std.specs.Prelude.{ℕ, ◌+◌, List, [], ◌∷◌, ◌++◌, drop, Option, None, Some, Bool, true, false, codes, decimal, if◌then◌else◌}
 use Rattle.std.specs.Option.{option_map}
 use Rattle.scasp_copies.specs.Copies.{begins, copy_of, last_number}
 use Rattle.scasp_copies.specs.Pieces.{Piece}
