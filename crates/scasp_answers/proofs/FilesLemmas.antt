@@ -1,3 +1,4 @@
 pub mod ByteLemmas
 pub mod ReadLemmas
 pub mod TextLemmas
+pub mod CopyLemmas

@@ -2,5 +2,7 @@
 
 mod fault;
 pub mod laws;
+mod version;
 
 pub use fault::{AnswerFault, AnswerKind};
+pub use version::Version;

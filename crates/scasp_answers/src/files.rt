@@ -4,6 +4,7 @@ mod bytes;
 mod error;
 mod names;
 mod read;
+mod versioned;
 
 pub use crate::states::{Block, Entries, Entry};
 pub use error::AnswerErr;

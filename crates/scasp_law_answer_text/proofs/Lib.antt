@@ -1,2 +1,3 @@
 pub mod AnswerReadbackLemmas
 pub mod LineReadbackLemmas
+pub mod CopyReadbackLemmas

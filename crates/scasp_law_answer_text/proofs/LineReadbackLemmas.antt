@@ -12,4 +12,5 @@ pub mod Readings
 pub mod Hints
 pub mod Lines
 pub mod Feeds
+pub mod NoCopies
 pub mod Files

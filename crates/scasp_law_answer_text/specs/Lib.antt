@@ -1,2 +1,3 @@
 pub mod AnswerReadback
 pub mod LineReadback
+pub mod CopyReadback

@@ -2,4 +2,5 @@
 #![tactic(auto)]
 
 pub mod answer_readback;
+pub mod copy_readback;
 pub mod line_readback;

@@ -1,10 +1,9 @@
 -- Files are read back.
-use Rattle.std.proofs.Common.{◌≡◌, ℕ, zero, suc, ◌+◌, ◌<◌, ◌≤◌, Bool, true, false, cond, ◌&&◌, ◌==◌, nat_lt, List, [], ◌∷◌, ◌++◌, length, drop, flat_map, replicate, codes, decimal, Option, None, Some, Result, Ok, Err, refl, sym, ap, ◌∙◌, arith, lit<, append_assoc, append-nil}
+use Rattle.std.proofs.Common.{◌≡◌, ℕ, zero, suc, ◌+◌, ◌<◌, ◌≤◌, Bool, true, false, cond, ◌&&◌, ◌==◌, nat_lt, List, [], ◌∷◌, ◌++◌, length, drop, flat_map, replicate, codes, decimal, Option, None, Some, Result, Ok, Err, refl, sym, ap, ◌∙◌, arith, append_assoc, append-nil}
 use Rattle.std.specs.Prelude.{if◌then◌else◌, map}
 use Rattle.std.specs.List.{list_all, take_while}
 use Rattle.std.proofs.lemmas.Bool.{and_parts, and_from, false≢true}
 use Rattle.std.proofs.lemmas.Bool.Decides.{nat_tests}
-use Rattle.std.proofs.lemmas.Fmt.{decimal_by_steps_wide}
 use Rattle.std.proofs.lemmas.List.Folds.{list_all-append}
 use Rattle.std.proofs.lemmas.List.Sums.{take_while-cons}
 use Rattle.scasp_num.specs.Arithmetic.{◌>>=◌}
@@ -18,7 +17,9 @@ use Rattle.scasp_answers_terms.specs.Tokens.Forms.{line_in}
 use Rattle.scasp_answers_terms.specs.Tokens.Lines.{Line, header_line, ending_line, rejected_line, words_of}
 use Rattle.scasp_answers.specs.Blocks.Blocks.{Placed, at, placed_text, block_lines}
 use Rattle.scasp_answers.specs.Blocks.States.{Entry, State, first_state, next_state}
-use Rattle.scasp_answers.specs.Blocks.Files.{Reading, fault, with_byte, split_lines, is_remark, indent, in_order, judged, fault_place, proceeds, is_between, read_lines, byte_limit, file_in}
+use Rattle.scasp_copies.specs.Pieces.{Piece as Words, piece_of}
+use Rattle.scasp_answers.specs.Blocks.Files.{Reading, fault, with_byte, split_lines, is_remark, indent, in_order, judged, Versioned, first_versioned, line_judged, fault_place, proceeds, is_between, read_lines, byte_limit, file_in}
+use Rattle.scasp_answers.specs.declared.blocks.version.Version.TheVariants as version
 use Rattle.scasp_answers.specs.declared.blocks.fault.AnswerKind.{AnswerKind}
 use Rattle.scasp_answers.specs.declared.blocks.fault.AnswerKind.TheVariants as kind
 use Rattle.scasp_law_answer_text.specs.AnswerReadback.Reading.{read_placed, has_read}
@@ -28,6 +29,7 @@ use Rattle.scasp_law_answer_text.specs.LineReadback.Endings.{begins_lower}
 use Rattle.scasp_law_answer_text.specs.LineReadback.Writable.{IsTable, is_written}
 use Rattle.scasp_law_answer_text.specs.LineReadback.Texts.{Piece, remark, answer, ending, rejection, piece_text, file_text, piece_lines, piece_entries, are_printable, is_printable}
 use Rattle.scasp_law_answer_text.proofs.LineReadbackLemmas.Lines.{writable-read}
+use Rattle.scasp_law_answer_text.proofs.LineReadbackLemmas.NoCopies.{one_text, no-copy}
 use Rattle.scasp_law_answer_text.proofs.LineReadbackLemmas.Feeds.{IsClean, clean-append, words-clean_line, words-begin}
 
 -- ---- rows: the lines of a file, remarks among them
@@ -113,21 +115,39 @@ module _ (names : List (List ℕ)) (table : IsTable names) where
   abbrev judge : State → ℕ → Option Line → Result State AnswerKind
   judge s depth o = elim o [ None ↦ Err kind.Line | Some l ↦ if line_fits l then in_order (next_state s (at depth l)) else Err kind.NumberTooLarge ]
 
-  judged-row : (s t : State) (p : Placed) → is_row_fine (length names) (written p) ≡ true → next_state s p ≡ Some t → judged names s (row_bytes names (written p)) ≡ Ok t
+  -- the words of a row
+  abbrev row_words : Placed → Words
+  row_words p = record { depth = p.depth; words = words_of names p.line }
+
+  piece-row : (p : Placed) → piece_of (row_bytes names (written p)) ≡ row_words p
+  piece-row p =
+      let w = words_of names p.line in
+      ap (λ d. record { depth = d; words = drop d (replicate p.depth 32 ++ w) }) (indent-words p.depth w (words-begin names p.line))
+      ∙ ap (λ bytes. record { depth = p.depth; words = bytes }) (drop-words p.depth w)
+
+  judged-row : (s t : State) (p : Placed) → is_row_fine (length names) (written p) ≡ true → next_state s p ≡ Some t → judged names s (row_words p) ≡ Ok t
   judged-row s t p e n =
       let h = and_parts (is_written (length names) p.line) (line_fits p.line) e in
-      let w = words_of names p.line in
-      let first = words-begin names p.line in
-      ap (λ d. judge s d (line_in (place_in names) (drop d (replicate p.depth 32 ++ w)))) (indent-words p.depth w first)
-      ∙ ap (λ bytes. judge s p.depth (line_in (place_in names) bytes)) (drop-words p.depth w)
-      ∙ ap (judge s p.depth) (writable-read names p.line (record { table = table; written = h.0; fits = h.1 }))
+      ap (judge s p.depth) (writable-read names p.line (record { table = table; written = h.0; fits = h.1 }))
       ∙ ap (λ b. if b then in_order (next_state s p) else Err kind.NumberTooLarge) h.1
       ∙ ap in_order n
+
+  -- what has been read of a file of version 1
+  abbrev first : State → Versioned
+  first s = record first_versioned { state = s }
+
+  -- a line that is neither a copy nor the header of version 2 leads to the state that it has by itself
+  line-row : (s t : State) (p : Placed) → is_row_fine (length names) (written p) ≡ true → next_state s p ≡ Some t
+      → line_judged names (first s) (piece_of (row_bytes names (written p))) ≡ Ok (first t)
+  line-row s t p e n =
+      let h = and_parts (is_written (length names) p.line) (line_fits p.line) e in
+      let k = no-copy names (length names) p.line h.0 in
+      ap (line_judged names (first s)) (piece-row p) ∙ rw (k.0, k.1, judged-row s t p e n) refl
 
   -- ---- all lines
 
   rows-read : (rows : List Row) (s t : State) (place : ℕ) → list_all (is_row_fine (length names)) rows ≡ true → read_placed s (flat_map row_lines rows) ≡ Some t → is_between t.phase ≡ true
-      → read_lines names s place (map (row_bytes names) rows) [] ≡ Ok t.entries
+      → read_lines names (first s) place (map (row_bytes names) rows) [] ≡ Ok t.entries
   rows-read [] s t place e h b = let same : s ≡ t = cc in ap (λ u. if is_between u.phase then Ok u.entries else fault place kind.Cut) same ∙ rw b refl
   rows-read (comment text ∷ rows) s t place e h b =
       rows-read rows s t (place + length (37 ∷ text) + 1) (and_parts (list_all is_of_line text) (list_all (is_row_fine (length names)) rows) e).1 h b
@@ -140,16 +160,14 @@ module _ (names : List (List ℕ)) (table : IsTable names) where
       line = row_bytes names (written p)
 
       by : (o : Option State) → next_state s p ≡ o
-          → ((u : State) → read_placed u (flat_map row_lines rows) ≡ Some t → read_lines names u (place + length (row_bytes names (written p)) + 1) (map (row_bytes names) rows) [] ≡ Ok t.entries)
-          → read_lines names s place (row_bytes names (written p) ∷ map (row_bytes names) rows) [] ≡ Ok t.entries
+          → ((u : State) → read_placed u (flat_map row_lines rows) ≡ Some t → read_lines names (first u) (place + length (row_bytes names (written p)) + 1) (map (row_bytes names) rows) [] ≡ Ok t.entries)
+          → read_lines names (first s) place (row_bytes names (written p) ∷ map (row_bytes names) rows) [] ≡ Ok t.entries
       by None n more = let none : None ≡ Some t = ap (λ o. o >>= (λ u. read_placed u (flat_map row_lines rows))) (sym n) ∙ h in cc
       by (Some u) n more =
-          let next : Reading = read_lines names u (place + length (row_bytes names (written p)) + 1) (map (row_bytes names) rows) [] in
-          ap (λ t. if t then read_lines names s (place + length (row_bytes names (written p)) + 1) (map (row_bytes names) rows) []
-          else proceeds (judged names s (row_bytes names (written p))) (fault_place place (row_bytes names (written p))) (λ t. read_lines names t (place + length (row_bytes names (written p)) + 1) (map (row_bytes names) rows) []))
+          let behind : Versioned → Reading = λ w. read_lines names w (place + length line + 1) (map (row_bytes names) rows) [] in
+          ap (λ b. if b then behind (first s) else proceeds (line_judged names (first s) (piece_of line)) (fault_place place line) behind)
           (no-remark p.depth (words_of names p.line) (words-begin names p.line))
-          ∙ ap (λ r. proceeds r (fault_place place (row_bytes names (written p))) (λ t. read_lines names t (place + length (row_bytes names (written p)) + 1) (map (row_bytes names) rows) []))
-          (judged-row s u p parts.0 n)
+          ∙ ap (λ r. proceeds r (fault_place place line) behind) (line-row s u p parts.0 n)
           ∙ more u (sym (ap (λ o. o >>= (λ u. read_placed u (flat_map row_lines rows))) n) ∙ h)
 
 -- `blocks` is the law that the text of a block is that of its lines
@@ -184,12 +202,9 @@ module _ (names : List (List ℕ)) (table : IsTable names) (blocks : (c : Certif
   pieces-rows [] = refl
   pieces-rows (p ∷ ps) = (λ i. piece-rows p i ++ pieces-rows ps i) ∙ sym (rows-append (rows_of p) (flat_map rows_of ps))
 
-  one : decimal 1 ≡ codes "1"
-  one = decimal_by_steps_wide (λ n ds. n ≡ 1 → ds ≡ codes "1") (λ n h e. ap (λ k. (48 + k) ∷ []) e) (λ n ds h s e. absurd (omega (arith, h, e))) 1 (lit< tt) refl
-
   header-row : codes "scasp 1\n" ≡ row_text names header
   unfolding words_of
-  header-row = ap (λ ds. codes "scasp " ++ ds ++ codes "\n") (sym one)
+  header-row = ap (λ ds. codes "scasp " ++ ds ++ codes "\n") (sym one_text)
 
   file-rows : (ps : List Piece) → file_text names ps ≡ flat_map (row_text names) (header ∷ flat_map rows_of ps)
   file-rows ps = λ i. header-row i ++ pieces-rows ps i
@@ -271,6 +286,6 @@ module _ (names : List (List ℕ)) (table : IsTable names) (blocks : (c : Certif
   text-read ps e h =
       let rows = header ∷ flat_map rows_of ps in
       let fine = and_from (is_row_fine (length names) header) (list_all (is_row_fine (length names)) (flat_map rows_of ps)) header-fine (pieces-fine ps e) in
-      ap (λ t. if t then fault byte_limit kind.Limit else read_lines names first_state 0 (split_lines (file_text names ps)).lines (split_lines (file_text names ps)).rest) (within (length (file_text names ps)) h)
-      ∙ ap (λ s. read_lines names first_state 0 s.lines s.rest) (ap split_lines (file-rows ps) ∙ split-rows names table rows fine)
+      ap (λ t. if t then fault byte_limit kind.Limit else read_lines names first_versioned 0 (split_lines (file_text names ps)).lines (split_lines (file_text names ps)).rest) (within (length (file_text names ps)) h)
+      ∙ ap (λ s. read_lines names first_versioned 0 s.lines s.rest) (ap split_lines (file-rows ps) ∙ split-rows names table rows fine)
       ∙ rows-read names table rows first_state (has_read (flat_map piece_entries ps)) 0 fine (file-read ps) refl

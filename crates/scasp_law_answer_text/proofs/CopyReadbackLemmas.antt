@@ -1,0 +1,3 @@
+pub mod Judging
+pub mod Copies
+pub mod CopyFiles
