@@ -1,6 +1,6 @@
 //! Programs over small domains, with the instances that are left.
 use crate::texts::text_of;
-use crate::worlds::world;
+use crate::worlds::{World, world_of};
 use scasp_ground::ground;
 use std::alloc::Global;
 use std::test::Fail;
@@ -36,9 +36,13 @@ const ROWS: [Row; 4] = [
 ];
 
 fn has_instances(alloc: Global, row: &Row) -> Result<bool, Fail> {
-    let world = world(alloc, row.program, row.domain)?;
-    let made = ground(alloc, &world.program, &world.domain)?;
-    let text = text_of(alloc, &world.names, &made)?;
+    let World {
+        program,
+        domain,
+        names,
+    } = world_of(alloc, row.program, row.domain)?;
+    let made = ground(alloc, &program, &domain)?;
+    let text = text_of(alloc, &names, &made)?;
     Ok(text.as_str() == row.instances)
 }
 

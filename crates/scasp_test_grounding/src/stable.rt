@@ -1,5 +1,5 @@
 //! Lists of atoms that are tried as models.
-use crate::worlds::{atoms_of, read, world};
+use crate::worlds::{World, atoms_of, read, world_of};
 use scasp_ground::ground;
 use scasp_model::{AtomList, GroundProgram};
 use std::alloc::Global;
@@ -79,9 +79,13 @@ fn are_told(
 }
 
 fn is_told(alloc: Global, row: &Row) -> Result<bool, Fail> {
-    let world = world(alloc, row.program, row.domain)?;
-    let made = ground(alloc, &world.program, &world.domain)?;
-    let (facts, _names) = read(alloc, row.atoms, world.names)?;
+    let World {
+        program,
+        domain,
+        names,
+    } = world_of(alloc, row.program, row.domain)?;
+    let made = ground(alloc, &program, &domain)?;
+    let (facts, _names) = read(alloc, row.atoms, names)?;
     let atoms = atoms_of(alloc, &facts)?;
     are_told(alloc, &made, &atoms, row.is_stable)
 }

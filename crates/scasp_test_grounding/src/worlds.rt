@@ -44,7 +44,7 @@ pub(crate) fn atoms_of(alloc: Global, facts: &Program) -> Result<AtomList, Fail>
 }
 
 /// The program of the first text over the arguments of the facts of the second.
-pub(crate) fn world(alloc: Global, program: &str, domain: &str) -> Result<World, Fail> {
+pub(crate) fn world_of(alloc: Global, program: &str, domain: &str) -> Result<World, Fail> {
     let (program, names) = read(alloc, program, Names::new(alloc)?)?;
     let (facts, names) = read(alloc, domain, names)?;
     let domain = domain_of(alloc, &facts)?;
