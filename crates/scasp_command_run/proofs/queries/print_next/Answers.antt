@@ -1,4 +1,4 @@
-use Rattle.std.proofs.Common.{◌∙◌, List, ℕ, refl, subst}
+use Rattle.std.proofs.Common.{◌∙◌, List, ℕ, Ok, Err, refl, subst}
 use Rattle.std.proofs.lemmas.Result.{err_from_is_err_and}
 use Rattle.scasp_cert.specs.Certificate.{certificate_of}
 use Rattle.scasp_command_run.proofs.QueryLemmas.{answer-failed, answer-written, nothing-steps}
@@ -29,11 +29,11 @@ returns-in_err-write_answer-clause-output g c =
     rw (e.1, e.2)
     (answer-failed c.args.program.now names query first (standing c.args.progress.now) (standing c.args.progress.now) (certificate_of c.args.cert.now) c.name_sample.new.table.names c.in_ok-number.number
     (g.K.Sink.taken c.args.out.now) (g.K.Sink.taken c.write_answer.new.out) _ answered (c.in_ok-name_sample.ensures names is).has c.in_ok-number.ensures
-    (subst (λ (t : List ℕ). Writes (IsText t) (g.K.Sink.taken c.args.out.now) (g.K.Sink.taken c.write_answer.new.out) _) (c.as_slice.ensures.value ∙ c.in_ok-text.ensures) c.in_err-write_answer.ensures.output))
+    (subst (λ (t : List ℕ). Writes (IsText t) (g.K.Sink.taken c.args.out.now) (g.K.Sink.taken c.write_answer.new.out) (Err c.in_err-write_answer.field-0.0)) (c.as_slice.ensures.value ∙ c.in_ok-text.ensures) c.in_err-write_answer.ensures.output))
 
 pub returns-clause-output : goal.returns-clause-output
 returns-clause-output g c =
     λ names query first is answered.
     answer-written c.args.program.now names query first (standing c.args.progress.now) _ (certificate_of c.args.cert.now) c.name_sample.new.table.names c.in_ok-number.number
     (g.K.Sink.taken c.args.out.now) (g.K.Sink.taken c.write_answer.new.out) answered (c.in_ok-name_sample.ensures names is).has c.in_ok-number.ensures refl c.fewer-progress.ensures refl refl
-    (subst (λ (t : List ℕ). Writes (IsText t) (g.K.Sink.taken c.args.out.now) (g.K.Sink.taken c.write_answer.new.out) _) (c.as_slice.ensures.value ∙ c.in_ok-text.ensures) c.in_ok-write_answer.ensures.output)
+    (subst (λ (t : List ℕ). Writes (IsText t) (g.K.Sink.taken c.args.out.now) (g.K.Sink.taken c.write_answer.new.out) (Ok tt)) (c.as_slice.ensures.value ∙ c.in_ok-text.ensures) c.in_ok-write_answer.ensures.output)
