@@ -117,11 +117,11 @@ module _ (p : Program) (names : List (List ℕ)) (query : ℕ) where
       ap (λ k. answer_text now.format p k (record { names = table; certificate = c })) n
       ∙ ap (λ (f : Format). answer_text f p (suc first.printed) (record { names = table; certificate = c })) format
 
-  pub answer-written : (first now new : Standing) (c : Certificate) (table : List (List ℕ)) (number : ℕ) (before after : Option (List ℕ)) → IsAnswered p first c now
+  pub answer-written : (first now new : Standing) (c : Certificate) (table : List (List ℕ)) (number : ℕ) (bytes : List ℕ) (before after : Option (List ℕ)) → IsAnswered p first c now
       → NamesSample names table c → number ≡ now.printed + 1 → new.rest ≡ now.rest → new.asked ≡ fewer now.asked → new.printed ≡ number → new.format ≡ now.format
-      → Writes (IsText (answer_text now.format p number (record { names = table; certificate = c }))) before after (Ok tt)
+      → bytes ≡ answer_text now.format p number (record { names = table; certificate = c }) → Writes (IsText bytes) before after (Ok tt)
       → Writes (Steps p names query first new) before after (Ok None)
-  answer-written first now new c table number before after is named number_is rest asked printed format w =
+  answer-written first now new c table number bytes before after is named number_is rest asked printed format same w =
       let n : number ≡ suc first.printed = number_is ∙ add-one now.printed ∙ ap suc is.printed in
       record {
         text = w.text;
@@ -129,21 +129,21 @@ module _ (p : Program) (names : List (List ℕ)) (query : ℕ) where
             answer-continues first new c (record { names = table; certificate = c }) w.text
             (subst (MeetsRight p first.rest c) (sym rest) is.comes) is.more refl named
             (asked ∙ ap fewer is.asked) (printed ∙ n) (format ∙ is.format)
-            (w.may ∙ text-numbered first now c table number n is.format);
+            (w.may ∙ same ∙ text-numbered first now c table number n is.format);
         taken = w.taken;
       }
 
-  pub answer-failed : (first now new : Standing) (c : Certificate) (table : List (List ℕ)) (number : ℕ) (before after : Option (List ℕ)) (e : OutputErr) → IsAnswered p first c now
+  pub answer-failed : (first now new : Standing) (c : Certificate) (table : List (List ℕ)) (number : ℕ) (bytes : List ℕ) (before after : Option (List ℕ)) (e : OutputErr) → IsAnswered p first c now
       → NamesSample names table c → number ≡ now.printed + 1
-      → Writes (IsText (answer_text now.format p number (record { names = table; certificate = c }))) before after (Err e)
+      → bytes ≡ answer_text now.format p number (record { names = table; certificate = c }) → Writes (IsText bytes) before after (Err e)
       → Writes (Steps p names query first new) before after (Err e)
-  answer-failed first now new c table number before after e is named number_is w =
+  answer-failed first now new c table number bytes before after e is named number_is same w =
       let next : Standing = record { rest = now.rest; asked = fewer now.asked; printed = suc now.printed; format = now.format } in
       let n : number ≡ suc first.printed = number_is ∙ add-one now.printed ∙ ap suc is.printed in
-      err-behind (IsText (answer_text now.format p number (record { names = table; certificate = c }))) (Steps p names query first new) [] before before after e (behind-nil before)
+      err-behind (IsText bytes) (Steps p names query first new) [] before before after e (behind-nil before)
       (λ text t. (nat_lt 0 first.printed, remains-cut first text t))
       (λ text r t. answer-cut first next new c (record { names = table; certificate = c }) text r is.comes is.more refl named (ap fewer is.asked) (ap suc is.printed)
-      is.format (text-numbered first now c table number n is.format) t) w
+      is.format (same ∙ text-numbered first now c table number n is.format) t) w
 
   -- a tree that is passed over
   pub pass-continues : (old new : Standing) → MeetsNoAccepted p old.rest new.rest → old.asked ≢ Some 0 → new.asked ≡ old.asked → new.printed ≡ old.printed → new.format ≡ old.format

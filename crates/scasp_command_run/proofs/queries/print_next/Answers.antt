@@ -1,10 +1,8 @@
-use Rattle.std.proofs.Common.{◌∙◌, List, ℕ, refl, subst}
+use Rattle.std.proofs.Common.{◌∙◌, refl}
 use Rattle.std.proofs.lemmas.Result.{err_from_is_err_and}
 use Rattle.scasp_cert.specs.Certificate.{certificate_of}
 use Rattle.scasp_command_run.proofs.QueryLemmas.{answer-failed, answer-written, nothing-steps}
-use Rattle.scasp_command_run.specs.Inside.Continuing.{IsText}
 use Rattle.scasp_command_run.specs.Inside.Progresses.{standing}
-use Rattle.scasp_io.specs.Taken.{Writes}
 use Rattle.scasp_command_run.proofs.queries.print_next.Goals as goal
 
 pub returns-in_err-number-clause-output : goal.returns-in_err-number-clause-output
@@ -27,13 +25,13 @@ returns-in_err-write_answer-clause-output g c =
     let e = err_from_is_err_and c.from_residual-in_err-write_answer.result c.from_residual-in_err-write_answer.ensures.1 in
     λ names query first is answered.
     rw (e.1, e.2)
-    (answer-failed c.args.program.now names query first (standing c.args.progress.now) (standing c.args.progress.now) (certificate_of c.args.cert.now) c.name_sample.new.table.names c.in_ok-number.number
+    (answer-failed c.args.program.now names query first (standing c.args.progress.now) (standing c.args.progress.now) (certificate_of c.args.cert.now) c.name_sample.new.table.names c.in_ok-number.number c.as_slice.result.now
     (g.K.Sink.taken c.args.out.now) (g.K.Sink.taken c.write_answer.new.out) _ answered (c.in_ok-name_sample.ensures names is).has c.in_ok-number.ensures
-    (subst (λ (t : List ℕ). Writes (IsText t) (g.K.Sink.taken c.args.out.now) (g.K.Sink.taken c.write_answer.new.out) _) (c.as_slice.ensures.value ∙ c.in_ok-text.ensures) c.in_err-write_answer.ensures.output))
+    (c.as_slice.ensures.value ∙ c.in_ok-text.ensures) c.in_err-write_answer.ensures.output)
 
 pub returns-clause-output : goal.returns-clause-output
 returns-clause-output g c =
     λ names query first is answered.
-    answer-written c.args.program.now names query first (standing c.args.progress.now) _ (certificate_of c.args.cert.now) c.name_sample.new.table.names c.in_ok-number.number
+    answer-written c.args.program.now names query first (standing c.args.progress.now) _ (certificate_of c.args.cert.now) c.name_sample.new.table.names c.in_ok-number.number c.as_slice.result.now
     (g.K.Sink.taken c.args.out.now) (g.K.Sink.taken c.write_answer.new.out) answered (c.in_ok-name_sample.ensures names is).has c.in_ok-number.ensures refl c.fewer-progress.ensures refl refl
-    (subst (λ (t : List ℕ). Writes (IsText t) (g.K.Sink.taken c.args.out.now) (g.K.Sink.taken c.write_answer.new.out) _) (c.as_slice.ensures.value ∙ c.in_ok-text.ensures) c.in_ok-write_answer.ensures.output)
+    (c.as_slice.ensures.value ∙ c.in_ok-text.ensures) c.in_ok-write_answer.ensures.output
