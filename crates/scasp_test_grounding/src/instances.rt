@@ -1,49 +1,58 @@
-//! Programs over small domains, with the instances that are left.
-use crate::texts::text_of;
-use crate::worlds::{World, world_of};
+//! Programs over the first numbers, with the instances that are left.
+use crate::texts::{numbers, read, text_of};
 use scasp_ground::ground;
+use scasp_name::Names;
+use scasp_syntax::Program;
+use scasp_tables::Domain;
 use std::alloc::Global;
 use std::test::Fail;
 
-/// A program and facts with the members of the domain, and the instances.
+/// A program, how many numbers there are, and the instances.
 struct Row {
     program: &'static str,
-    domain: &'static str,
+    members: u64,
     instances: &'static str,
 }
 
 const ROWS: [Row; 4] = [
     Row {
-        program: "p(X) :- not q(X). q(a).",
-        domain: "d(a). d(b).",
-        instances: "p a, not q a.p b, not q b.q a.",
+        program: "p(X) :- not q(X). q(0).",
+        members: 2,
+        instances: "p 0, not q 0.p 1, not q 1.q 0.",
     },
     Row {
         program: "p(X,Y) :- X \\= Y.",
-        domain: "d(a). d(b). d(a).",
-        instances: "p a b.p b a.",
+        members: 2,
+        instances: "p 0 1.p 1 0.",
     },
     Row {
         program: "p. q(X).",
-        domain: "",
+        members: 0,
         instances: "p.",
     },
     Row {
         program: ":- p(X), not q(X). p(f(X)).",
-        domain: "d(a).",
-        instances: ", p a, not q a.p f.",
+        members: 1,
+        instances: ", p 0, not q 0.p f(0).",
     },
 ];
 
+fn are_instances(
+    alloc: Global,
+    program: &Program,
+    names: &Names,
+    domain: &Domain,
+    instances: &str,
+) -> Result<bool, Fail> {
+    let made = ground(alloc, program, domain)?;
+    let text = text_of(alloc, names, &made)?;
+    Ok(text.as_slice() == instances.as_bytes())
+}
+
 fn has_instances(alloc: Global, row: &Row) -> Result<bool, Fail> {
-    let World {
-        program,
-        domain,
-        names,
-    } = world_of(alloc, row.program, row.domain)?;
-    let made = ground(alloc, &program, &domain)?;
-    let text = text_of(alloc, &names, &made)?;
-    Ok(text.as_str() == row.instances)
+    let (program, names) = read(alloc, row.program)?;
+    let domain = numbers(alloc, row.members)?;
+    are_instances(alloc, &program, &names, &domain, row.instances)
 }
 
 #[test]

@@ -9,5 +9,3 @@ mod limits;
 mod stable;
 #[cfg(test)]
 mod texts;
-#[cfg(test)]
-mod worlds;

@@ -1,9 +1,7 @@
 //! How many instances are left over the numbers from 0 on, or why there is no grounding.
-use crate::worlds::read;
+use crate::texts::{numbers, read};
 use scasp_ground::{GroundErr, ground};
-use scasp_name::Names;
-use scasp_num::Rat;
-use scasp_syntax::{Program, Term};
+use scasp_syntax::Program;
 use scasp_tables::Domain;
 use std::alloc::Global;
 use std::test::Fail;
@@ -62,21 +60,13 @@ const OVERFLOWS: [Row; 4] = [
     },
 ];
 
-fn numbers(alloc: Global, count: u64) -> Result<Domain, Fail> {
-    let mut domain = Domain::new(alloc);
-    for number in 0..count {
-        let _pushed = domain.push(alloc, Term::Num(Rat::new(i128::from(number), 1)?))?;
-    }
-    Ok(domain)
-}
-
 fn count(alloc: Global, program: &Program, domain: &Domain) -> Result<usize, GroundErr> {
     let made = ground(alloc, program, domain)?;
     Ok(made.len())
 }
 
 fn comes_to(alloc: Global, row: &Row) -> Result<bool, Fail> {
-    let (program, _names) = read(alloc, row.program, Names::new(alloc)?)?;
+    let (program, _names) = read(alloc, row.program)?;
     let domain = numbers(alloc, row.members)?;
     Ok(count(alloc, &program, &domain) == row.outcome)
 }

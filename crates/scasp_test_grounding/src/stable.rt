@@ -1,67 +1,68 @@
 //! Lists of atoms that are tried as models.
-use crate::worlds::{World, atoms_of, read, world_of};
+use crate::texts::{atoms_in, numbers, read};
 use scasp_ground::ground;
 use scasp_model::{AtomList, GroundProgram};
+use scasp_syntax::Program;
 use std::alloc::Global;
 use std::test::Fail;
 
-/// A program and facts with the members of the domain, facts that are tried as a model, and whether they are stable.
+/// A program, how many numbers there are, facts that are tried as a model, and whether they are stable.
 struct Row {
     program: &'static str,
-    domain: &'static str,
+    members: u64,
     atoms: &'static str,
     is_stable: bool,
 }
 
 const NEGATIONS: [Row; 4] = [
     Row {
-        program: "p(X) :- not q(X). q(a).",
-        domain: "d(a). d(b).",
-        atoms: "p(b). q(a).",
+        program: "p(X) :- not q(X). q(0).",
+        members: 2,
+        atoms: "p(1). q(0).",
         is_stable: true,
     },
     Row {
-        program: "p(X) :- not q(X). q(a).",
-        domain: "d(a). d(b).",
-        atoms: "q(a).",
+        program: "p(X) :- not q(X). q(0).",
+        members: 2,
+        atoms: "q(0).",
         is_stable: false,
     },
     Row {
         program: "p(X) :- not q(X). q(X) :- not p(X).",
-        domain: "d(a). d(b).",
-        atoms: "p(a). q(b).",
+        members: 2,
+        atoms: "p(0). q(1).",
         is_stable: true,
     },
     Row {
         program: "p(X) :- not q(X). q(X) :- not p(X). :- p(X), not q(X).",
-        domain: "d(a). d(b).",
-        atoms: "p(a). q(b).",
+        members: 2,
+        atoms: "p(0). q(1).",
         is_stable: false,
     },
 ];
 
 const CHAINS: [Row; 4] = [
     Row {
-        program: "e(a,b). e(b,c). r(a). r(Y) :- r(X), e(X,Y).",
-        domain: "d(a). d(b). d(c).",
-        atoms: "e(a,b). e(b,c). r(a). r(b). r(c).",
+        program: "e(0,1). e(1,2). r(0). r(Y) :- r(X), e(X,Y).",
+        members: 3,
+        atoms: "e(0,1). e(1,2). r(0). r(1). r(2).",
         is_stable: true,
     },
     Row {
-        program: "e(a,b). e(b,c). r(a). r(Y) :- r(X), e(X,Y).",
-        domain: "d(a). d(b). d(c).",
-        atoms: "e(a,b). e(b,c). r(a). r(b).",
+        program: "e(0,1). e(1,2). r(0). r(Y) :- r(X), e(X,Y).",
+        members: 3,
+        atoms: "e(0,1). e(1,2). r(0). r(1).",
         is_stable: false,
     },
     Row {
         program: "p :- q. q :- p. r.",
-        domain: "",
+        members: 0,
         atoms: "p. q. r.",
         is_stable: false,
     },
     Row {
         program: "p :- q, q. q. r :- p, q, p.",
-        domain: "",
+        members: 0,
         atoms: "r. q. p. q.",
         is_stable: true,
     },
@@ -78,16 +79,16 @@ fn are_told(
     Ok(by_rounds == is_stable && by_worklist == is_stable)
 }
 
+fn is_told_of(alloc: Global, program: &Program, atoms: &AtomList, row: &Row) -> Result<bool, Fail> {
+    let domain = numbers(alloc, row.members)?;
+    let made = ground(alloc, program, &domain)?;
+    are_told(alloc, &made, atoms, row.is_stable)
+}
+
 fn is_told(alloc: Global, row: &Row) -> Result<bool, Fail> {
-    let World {
-        program,
-        domain,
-        names,
-    } = world_of(alloc, row.program, row.domain)?;
-    let made = ground(alloc, &program, &domain)?;
-    let (facts, _names) = read(alloc, row.atoms, names)?;
-    let atoms = atoms_of(alloc, &facts)?;
-    are_told(alloc, &made, &atoms, row.is_stable)
+    let (program, names) = read(alloc, row.program)?;
+    let atoms = atoms_in(alloc, row.atoms, names)?;
+    is_told_of(alloc, &program, &atoms, row)
 }
 
 #[test]
