@@ -1,0 +1,11 @@
+pub mod ClassLemmas
+pub mod CopyLemmas
+pub mod LineLemmas
+pub mod MarkLemmas
+pub mod MoveLemmas
+pub mod PlaceLemmas
+pub mod RootLemmas
+pub mod SearchLemmas
+pub mod WalkLemmas
+pub mod WordLemmas
+pub mod WrittenLemmas

@@ -1,0 +1,4 @@
+-- What private functions alone speak of.
+pub mod Classes
+pub mod Lines
+pub mod Places
