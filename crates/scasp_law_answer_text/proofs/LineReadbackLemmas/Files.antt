@@ -18,7 +18,8 @@ use Rattle.scasp_answers_terms.specs.Tokens.Lines.{Line, header_line, ending_lin
 use Rattle.scasp_answers.specs.Blocks.Blocks.{Placed, at, placed_text, block_lines}
 use Rattle.scasp_answers.specs.Blocks.States.{Entry, State, first_state, next_state}
 use Rattle.scasp_copies.specs.Pieces.{Piece as Words, piece_of}
-use Rattle.scasp_answers.specs.Blocks.Files.{Reading, fault, with_byte, split_lines, is_remark, indent, in_order, judged, Versioned, first_versioned, line_judged, fault_place, proceeds, is_between, read_lines, byte_limit, file_in}
+use Rattle.scasp_copies.specs.Writing.{is_copy_line}
+use Rattle.scasp_answers.specs.Blocks.Files.{Reading, fault, with_byte, split_lines, is_remark, indent, in_order, judged, Versioned, first_versioned, is_second, line_judged, fault_place, proceeds, is_between, read_lines, byte_limit, file_in}
 use Rattle.scasp_answers.specs.declared.blocks.version.Version.TheVariants as version
 use Rattle.scasp_answers.specs.declared.blocks.fault.AnswerKind.{AnswerKind}
 use Rattle.scasp_answers.specs.declared.blocks.fault.AnswerKind.TheVariants as kind
@@ -136,13 +137,16 @@ module _ (names : List (List ℕ)) (table : IsTable names) where
   abbrev first : State → Versioned
   first s = record first_versioned { state = s }
 
+  plain-piece : (s t : State) (p : Words) → is_copy_line p ≡ false → is_second p.words ≡ false → judged names s p ≡ Ok t → line_judged names (first s) p ≡ Ok (first t)
+  plain-piece s t p copy second j = rw (copy, second, j) refl
+
   -- a line that is neither a copy nor the header of version 2 leads to the state that it has by itself
   line-row : (s t : State) (p : Placed) → is_row_fine (length names) (written p) ≡ true → next_state s p ≡ Some t
       → line_judged names (first s) (piece_of (row_bytes names (written p))) ≡ Ok (first t)
   line-row s t p e n =
       let h = and_parts (is_written (length names) p.line) (line_fits p.line) e in
       let k = no-copy names (length names) p.line h.0 in
-      ap (line_judged names (first s)) (piece-row p) ∙ rw (k.0, k.1, judged-row s t p e n) refl
+      ap (line_judged names (first s)) (piece-row p) ∙ plain-piece s t (row_words p) k.0 k.1 (judged-row s t p e n)
 
   -- ---- all lines
 
