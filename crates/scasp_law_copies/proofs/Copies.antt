@@ -3,7 +3,7 @@ use Rattle.std.proofs.Common.{◌≡◌, ◌∙◌, ℕ, ◌+◌, ◌-◌, ◌�
 use Rattle.std.specs.Prelude.{if◌then◌else◌, nat_le}
 use Rattle.std.specs.List.{list_all}
 use Rattle.std.specs.Option.{option_map}
-use Rattle.std.proofs.lemmas.Bool.{and_parts, le-leb}
+use Rattle.std.proofs.lemmas.Bool.{and_parts, le-leb, not-true}
 use Rattle.std.proofs.lemmas.List.Folds.{list_all-append}
 use Rattle.std.proofs.lemmas.Grind.{flat_map-append}
 use Rattle.scasp_list.specs.Each.{Each}
@@ -26,10 +26,6 @@ abbrev pub two : State → List Piece → ℕ → Versioned
 two s told room = record { state = s; version = version.Two; told = told; room = room }
 
 -- ---- a line of version 1
-
-not-true : (b : Bool) → not b ≡ true → b ≡ false
-not-true true h = cc
-not-true false h = refl
 
 first-parts : (p : Piece) → is_of_first p ≡ true → (is_copy_line p ≡ false) × (is_second p.words ≡ false)
 first-parts p h =

@@ -75,7 +75,7 @@ digits-clean : (ds : List ℕ) → list_all is_digit ds ≡ true → IsClean ds
 digits-clean [] e = refl
 digits-clean (d ∷ ds) e = let p = and_parts (is_digit d) (list_all is_digit ds) e in and_from (is_of_line d) (list_all is_of_line ds) (digit-clean d p.0) (digits-clean ds p.1)
 
-clean-decimal : (n : ℕ) → n < 2 ^ 128 → IsClean (decimal n)
+pub clean-decimal : (n : ℕ) → n < 2 ^ 128 → IsClean (decimal n)
 clean-decimal n h = digits-clean (decimal n) (spells n (wide n h)).0
 
 clean-count : (n : ℕ) → is_count n ≡ true → IsClean (decimal n)

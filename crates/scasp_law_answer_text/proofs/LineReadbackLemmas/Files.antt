@@ -18,7 +18,8 @@ use Rattle.scasp_answers_terms.specs.Tokens.Lines.{Line, header_line, ending_lin
 use Rattle.scasp_answers.specs.Blocks.Blocks.{Placed, at, placed_text, block_lines}
 use Rattle.scasp_answers.specs.Blocks.States.{Entry, State, first_state, next_state}
 use Rattle.scasp_copies.specs.Pieces.{Piece as Words, piece_of}
-use Rattle.scasp_answers.specs.Blocks.Files.{Reading, fault, with_byte, split_lines, is_remark, indent, in_order, judged, Versioned, first_versioned, line_judged, fault_place, proceeds, is_between, read_lines, byte_limit, file_in}
+use Rattle.scasp_copies.specs.Writing.{is_copy_line}
+use Rattle.scasp_answers.specs.Blocks.Files.{Reading, fault, with_byte, split_lines, is_remark, indent, in_order, judged, Versioned, first_versioned, is_second, line_judged, fault_place, proceeds, is_between, read_lines, byte_limit, file_in}
 use Rattle.scasp_answers.specs.declared.blocks.version.Version.TheVariants as version
 use Rattle.scasp_answers.specs.declared.blocks.fault.AnswerKind.{AnswerKind}
 use Rattle.scasp_answers.specs.declared.blocks.fault.AnswerKind.TheVariants as kind
@@ -35,28 +36,28 @@ use Rattle.scasp_law_answer_text.proofs.LineReadbackLemmas.Feeds.{IsClean, clean
 -- ---- rows: the lines of a file, remarks among them
 
 -- a line that is written, or the text of a remark behind `%`
-data Row : Type 0 where
+pub data Row : Type 0 where
   comment : List ℕ → Row
   written : Placed → Row
 
-abbrev row_bytes : List (List ℕ) → Row → List ℕ
+abbrev pub row_bytes : List (List ℕ) → Row → List ℕ
 row_bytes names (comment text) = 37 ∷ text
 row_bytes names (written p) = replicate p.depth 32 ++ words_of names p.line
 
-abbrev row_text : List (List ℕ) → Row → List ℕ
+abbrev pub row_text : List (List ℕ) → Row → List ℕ
 row_text names r = row_bytes names r ++ codes "\n"
 
-abbrev row_lines : Row → List Placed
+abbrev pub row_lines : Row → List Placed
 row_lines (comment text) = []
 row_lines (written p) = p ∷ []
 
-abbrev is_row_fine : ℕ → Row → Bool
+abbrev pub is_row_fine : ℕ → Row → Bool
 is_row_fine count (comment text) = list_all is_of_line text
 is_row_fine count (written p) = is_written count p.line && line_fits p.line
 
 -- ---- splitting into lines
 
-split-line : (line rest : List ℕ) → IsClean line → split_lines (line ++ (10 ∷ rest)) ≡ record { lines = line ∷ (split_lines rest).lines; rest = (split_lines rest).rest }
+pub split-line : (line rest : List ℕ) → IsClean line → split_lines (line ++ (10 ∷ rest)) ≡ record { lines = line ∷ (split_lines rest).lines; rest = (split_lines rest).rest }
 split-line [] rest e = refl
 split-line (b ∷ line) rest e =
     let p = and_parts (is_of_line b) (list_all is_of_line line) e in
@@ -67,7 +68,7 @@ split-line (b ∷ line) rest e =
     not-feed : (b : ℕ) → is_of_line b ≡ true → (b == 10) ≡ false
     not-feed b e = grind (arith, nat_tests)
 
-clean-blanks : (d : ℕ) → IsClean (replicate d 32)
+pub clean-blanks : (d : ℕ) → IsClean (replicate d 32)
 clean-blanks zero = refl
 clean-blanks (suc d) = clean-blanks d
 
@@ -97,17 +98,17 @@ module _ (names : List (List ℕ)) (table : IsTable names) where
   lower-no_percent : (b : ℕ) → is_lower b ≡ true → (b == 37) ≡ false
   lower-no_percent b e = grind (arith, nat_tests)
 
-  indent-words : (d : ℕ) (w : List ℕ) → begins_lower w ≡ true → indent (replicate d 32 ++ w) ≡ d
+  pub indent-words : (d : ℕ) (w : List ℕ) → begins_lower w ≡ true → indent (replicate d 32 ++ w) ≡ d
   indent-words zero [] e = absurd (false≢true e)
   indent-words zero (b ∷ w) e =
       ap length (take_while-cons (λ b. b == 32) b w) ∙ ap (λ t. length (cond t (b ∷ take_while (λ b. b == 32) w) [])) (lower-no_blank b e)
   indent-words (suc d) w e = ap length (take_while-cons (λ b. b == 32) 32 (replicate d 32 ++ w)) ∙ ap suc (indent-words d w e)
 
-  drop-words : (d : ℕ) (w : List ℕ) → drop d (replicate d 32 ++ w) ≡ w
+  pub drop-words : (d : ℕ) (w : List ℕ) → drop d (replicate d 32 ++ w) ≡ w
   drop-words zero w = refl
   drop-words (suc d) w = drop-words d w
 
-  no-remark : (d : ℕ) (w : List ℕ) → begins_lower w ≡ true → is_remark (replicate d 32 ++ w) ≡ false
+  pub no-remark : (d : ℕ) (w : List ℕ) → begins_lower w ≡ true → is_remark (replicate d 32 ++ w) ≡ false
   no-remark zero [] e = absurd (false≢true e)
   no-remark zero (b ∷ w) e = lower-no_percent b e
   no-remark (suc d) w e = refl
@@ -116,7 +117,7 @@ module _ (names : List (List ℕ)) (table : IsTable names) where
   judge s depth o = elim o [ None ↦ Err kind.Line | Some l ↦ if line_fits l then in_order (next_state s (at depth l)) else Err kind.NumberTooLarge ]
 
   -- the words of a row
-  abbrev row_words : Placed → Words
+  abbrev pub row_words : Placed → Words
   row_words p = record { depth = p.depth; words = words_of names p.line }
 
   piece-row : (p : Placed) → piece_of (row_bytes names (written p)) ≡ row_words p
@@ -136,13 +137,16 @@ module _ (names : List (List ℕ)) (table : IsTable names) where
   abbrev first : State → Versioned
   first s = record first_versioned { state = s }
 
+  plain-piece : (s t : State) (p : Words) → is_copy_line p ≡ false → is_second p.words ≡ false → judged names s p ≡ Ok t → line_judged names (first s) p ≡ Ok (first t)
+  plain-piece s t p copy second j = rw (copy, second, j) refl
+
   -- a line that is neither a copy nor the header of version 2 leads to the state that it has by itself
   line-row : (s t : State) (p : Placed) → is_row_fine (length names) (written p) ≡ true → next_state s p ≡ Some t
       → line_judged names (first s) (piece_of (row_bytes names (written p))) ≡ Ok (first t)
   line-row s t p e n =
       let h = and_parts (is_written (length names) p.line) (line_fits p.line) e in
       let k = no-copy names (length names) p.line h.0 in
-      ap (line_judged names (first s)) (piece-row p) ∙ rw (k.0, k.1, judged-row s t p e n) refl
+      ap (line_judged names (first s)) (piece-row p) ∙ plain-piece s t (row_words p) k.0 k.1 (judged-row s t p e n)
 
   -- ---- all lines
 
@@ -174,16 +178,16 @@ module _ (names : List (List ℕ)) (table : IsTable names) where
 module _ (names : List (List ℕ)) (table : IsTable names) (blocks : (c : Certificate) (n : ℕ) → block_text names c n ≡ flat_map (placed_text names) (block_lines c n)) where
   -- ---- a file as rows
 
-  abbrev rows_of : Piece → List Row
+  abbrev pub rows_of : Piece → List Row
   rows_of (remark text) = comment text ∷ []
   rows_of (answer n c) = map written (block_lines c n)
   rows_of (ending e q) = written (at 0 (ending_line e q)) ∷ []
   rows_of (rejection q n at_line reason) = written (at 0 (rejected_line q n at_line reason)) ∷ []
 
-  abbrev header : Row
+  abbrev pub header : Row
   header = written (at 0 (header_line 1))
 
-  placed-rows : (ps : List Placed) → flat_map (placed_text names) ps ≡ flat_map (row_text names) (map written ps)
+  pub placed-rows : (ps : List Placed) → flat_map (placed_text names) ps ≡ flat_map (row_text names) (map written ps)
   unfolding line_text
   placed-rows [] = refl
   placed-rows (p ∷ ps) = ap (λ text. (replicate p.depth 32 ++ words_of names p.line ++ codes "\n") ++ text) (placed-rows ps)
@@ -192,7 +196,7 @@ module _ (names : List (List ℕ)) (table : IsTable names) (blocks : (c : Certif
   rows-append [] ys = refl
   rows-append (x ∷ xs) ys = ap (λ r. row_text names x ++ r) (rows-append xs ys) ∙ sym (append_assoc (row_text names x) (flat_map (row_text names) xs) (flat_map (row_text names) ys))
 
-  piece-rows : (p : Piece) → piece_text names p ≡ flat_map (row_text names) (rows_of p)
+  pub piece-rows : (p : Piece) → piece_text names p ≡ flat_map (row_text names) (rows_of p)
   piece-rows (remark text) = sym (append-nil (37 ∷ (text ++ codes "\n")))
   piece-rows (answer n c) = blocks c n ∙ placed-rows (block_lines c n)
   piece-rows (ending e q) = sym (append-nil (words_of names (ending_line e q) ++ codes "\n"))
@@ -206,7 +210,7 @@ module _ (names : List (List ℕ)) (table : IsTable names) (blocks : (c : Certif
   unfolding words_of
   header-row = ap (λ ds. codes "scasp " ++ ds ++ codes "\n") (sym one_text)
 
-  file-rows : (ps : List Piece) → file_text names ps ≡ flat_map (row_text names) (header ∷ flat_map rows_of ps)
+  pub file-rows : (ps : List Piece) → file_text names ps ≡ flat_map (row_text names) (header ∷ flat_map rows_of ps)
   file-rows ps = λ i. header-row i ++ pieces-rows ps i
 
   -- ---- its lines
@@ -236,20 +240,20 @@ module _ (names : List (List ℕ)) (table : IsTable names) (blocks : (c : Certif
       let h = and_parts (is_written (length names) p.line && line_fits p.line) (are_printable (length names) ps) e in
       and_from (is_row_fine (length names) (written p)) (list_all (is_row_fine (length names)) (map written ps)) h.0 (fine-written ps h.1)
 
-  piece-fine : (p : Piece) → is_printable (length names) p ≡ true → list_all (is_row_fine (length names)) (rows_of p) ≡ true
+  pub piece-fine : (p : Piece) → is_printable (length names) p ≡ true → list_all (is_row_fine (length names)) (rows_of p) ≡ true
   piece-fine (remark text) e = and_from (list_all is_of_line text) true e refl
   piece-fine (answer n c) e = fine-written (block_lines c n) e
   piece-fine (ending q n) e = e
   piece-fine (rejection q n at_line reason) e = e
 
-  pieces-fine : (ps : List Piece) → list_all (is_printable (length names)) ps ≡ true → list_all (is_row_fine (length names)) (flat_map rows_of ps) ≡ true
+  pub pieces-fine : (ps : List Piece) → list_all (is_printable (length names)) ps ≡ true → list_all (is_row_fine (length names)) (flat_map rows_of ps) ≡ true
   pieces-fine [] e = refl
   pieces-fine (p ∷ ps) e =
       let h = and_parts (is_printable (length names) p) (list_all (is_printable (length names)) ps) e in
       list_all-append (is_row_fine (length names)) (rows_of p) (flat_map rows_of ps)
       ∙ and_from (list_all (is_row_fine (length names)) (rows_of p)) (list_all (is_row_fine (length names)) (flat_map rows_of ps)) (piece-fine p h.0) (pieces-fine ps h.1)
 
-  header-fine : is_row_fine (length names) header ≡ true
+  pub header-fine : is_row_fine (length names) header ≡ true
   unfolding is_written line_fits
   header-fine = refl
 

@@ -1,10 +1,10 @@
 -- No line is written as a copy, or as the header of version 2.
-use Rattle.std.proofs.Common.{◌≡◌, ℕ, ◌+◌, ◌==◌, Bool, true, false, List, [], ◌∷◌, ◌++◌, codes, decimal, None, refl, sym, ap, ◌∙◌, arith, lit<}
+use Rattle.std.proofs.Common.{◌≡◌, ℕ, ◌+◌, ◌==◌, Bool, true, false, List, [], ◌∷◌, ◌++◌, codes, decimal, refl, sym, ap, ◌∙◌, arith, lit<}
 use Rattle.std.proofs.lemmas.Bool.{eqb-true}
 use Rattle.std.proofs.lemmas.Fmt.{decimal_by_steps_wide}
 use Rattle.scasp_copies.specs.Copies.{begins}
 use Rattle.scasp_answers_terms.specs.Tokens.Lines.{ended, stopped, spent, overflow, Line, header_line, ending_line, rejected_line, answer_line, given_line, sample_line, tree_line, check_line, clash_line, map_line, end_line, pos_line, neg_line, loop_line, seen_line, test_line, rule_line, split_line, void_line, leaf_line, head_line, words_of}
-use Rattle.scasp_answers.specs.Blocks.Files.{is_second, copy_in}
+use Rattle.scasp_answers.specs.Blocks.Files.{is_second}
 use Rattle.scasp_law_answer_text.specs.LineReadback.Writable.{is_written}
 
 pub one_text : decimal 1 ≡ codes "1"
@@ -12,7 +12,7 @@ one_text = decimal_by_steps_wide (λ n ds. n ≡ 1 → ds ≡ codes "1") (λ n h
 
 -- neither a copy nor the header of version 2
 abbrev IsPlain : List ℕ → Type 0
-IsPlain words = (copy_in words ≡ None) × (is_second words ≡ false)
+IsPlain words = (begins (codes "copy ") words ≡ false) × (is_second words ≡ false)
 
 pub no-copy : (names : List (List ℕ)) (count : ℕ) (l : Line) → is_written count l ≡ true → IsPlain (words_of names l)
 unfolding words_of is_written

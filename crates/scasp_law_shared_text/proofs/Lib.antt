@@ -1,0 +1,4 @@
+pub mod Items
+pub mod Blocks
+pub mod NoTrees
+pub mod Printed
