@@ -1,0 +1,52 @@
+-- Which lists the steps of a search ask, and that they are sorted.
+use Rattle.std.specs.Prelude.{◌≡◌, ◌↔◌, Bool, true, false, List, []}
+use Rattle.std.specs.List.{Contains, list_any}
+use Rattle.scasp_hint.specs.Satisfying.{sat}
+use Rattle.scasp_list.specs.Each.{Each}
+use Rattle.scasp_search_rules.specs.declared.states.state.State.{State}
+use Rattle.scasp_search_rules.specs.Successors.Problems.{Problem}
+use Rattle.scasp_search_rules.specs.Successors.Regions.{asked_with, context}
+use Rattle.scasp_search_rules.specs.Successors.Search.{search_for, start, step}
+use Rattle.scasp_search_rules.specs.Successors.Variables.{is_kind_universal}
+use Rattle.scasp_syntax.specs.Constraints.{Sat}
+use Rattle.scasp_syntax.specs.WellFormed.{is_query_well_formed}
+use Rattle.scasp_syntax.specs.declared.clause.Query.{Query}
+use Rattle.scasp_syntax.specs.declared.con.Con.{Con}
+use Rattle.scasp_unify.specs.Sorted.{Sorted}
+use Rattle.scasp_law_first_event.specs.Events.{IsReachable}
+use Rattle.scasp_law_first_event.specs.Positive.{is_positive}
+
+-- some variable of the state is universal
+abbrev pub has_universal_made : State → Bool
+has_universal_made s = list_any (λ m. is_kind_universal m.kind) s.made
+
+-- the lists that the next step asks
+abbrev pub asked_next : Problem → State → List (List Con)
+asked_next p s = (step p.program p.sat s).asked
+
+-- the state comes of the start by steps from states without universal variables
+pub data ComesPlainly (p : Problem) (q : Query) : State → Type 0 where
+  begins : ComesPlainly p q (start q p.checks)
+  goes_on : (t u : State) → ComesPlainly p q t → has_universal_made t ≡ false → Contains ((search_for p q).next t) u → ComesPlainly p q u
+
+-- In such a state the bindings with the given constraints are sorted.
+abbrev pub GivenAreSorted : Type 0
+GivenAreSorted = (p : Problem) (q : Query) (s : State) → is_query_well_formed q ≡ true → p.sat ≡ sat → ComesPlainly p q s → Sorted (asked_with s s.given)
+
+-- And each list that the next step asks is, if the state itself has no universal variable.
+abbrev pub AskedAreSorted : Type 0
+AskedAreSorted =
+    (p : Problem) (q : Query) (s : State) → is_query_well_formed q ≡ true → p.sat ≡ sat → ComesPlainly p q s → has_universal_made s ≡ false
+    → Each Sorted (asked_next p s)
+
+-- So there the test says of each list that is asked whether the list has a valuation.
+abbrev pub TestsDecide : Type 0
+TestsDecide =
+    (p : Problem) (q : Query) (s : State) → is_query_well_formed q ≡ true → p.sat ≡ sat → ComesPlainly p q s → has_universal_made s ≡ false
+    → Each (λ cs. p.sat cs ≡ true ↔ Sat cs) (asked_next p s)
+
+-- Where neither the query nor a clause has a negated literal, and no clause is checked, so it is of all states that come of the start.
+abbrev pub PositivesComePlainly : Type 0
+PositivesComePlainly =
+    (p : Problem) (q : Query) (s : State) → is_query_well_formed q ≡ true → is_positive p q ≡ true → p.sat ≡ sat → IsReachable p q s
+    → ComesPlainly p q s × (has_universal_made s ≡ false)
