@@ -59,7 +59,7 @@ plain-parts c (Some []) h = h
 plain-parts c (Some (p ∷ [])) h = plain-part p p.term
 plain-parts c (Some (p ∷ q ∷ ps)) h = tt
 
-plain-simple : (c : Con) → NoRow c → NoRow (simple c)
+pub plain-simple : (c : Con) → NoRow c → NoRow (simple c)
 plain-simple (con.Row r) h = absurd h
 plain-simple (con.Neq t u) h = plain-parts (con.Neq t u) (parts (tm_of t) (tm_of u)) tt
 plain-simple (con.Eq t u) h = tt
@@ -67,7 +67,7 @@ plain-simple (con.NotShape x f n) h = tt
 plain-simple (con.Num t) h = tt
 plain-simple (con.NotNum t) h = tt
 
-plain-shaped : (t : Tm) (f n : ℕ) → NoRow (not_shaped t f n)
+pub plain-shaped : (t : Tm) (f n : ℕ) → NoRow (not_shaped t f n)
 plain-shaped (var x) f n = tt
 plain-shaped (num q) f n = tt
 plain-shaped (app g us) f n = by (has_shape f n (app g us))
@@ -76,7 +76,7 @@ plain-shaped (app g us) f n = by (has_shape f n (app g us))
     by true = tt
     by false = tt
 
-plain-read : (s : State) (c : Con) → NoRow c → NoRow (as_read s c)
+pub plain-read : (s : State) (c : Con) → NoRow c → NoRow (as_read s c)
 plain-read s (con.Row r) h = absurd h
 plain-read s (con.Eq t u) h = tt
 plain-read s (con.Neq t u) h = plain-simple (con_under (meaning s) (con.Neq t u)) tt

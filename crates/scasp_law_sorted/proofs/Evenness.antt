@@ -64,11 +64,11 @@ tame-lowered d (x ∷ xs) made h = tame-lowered d xs (slice_set made x (lower d 
 
 none-left : (f : ℕ → Bool) → ((x : ℕ) → f x ≡ false) → (xs : List ℕ) → is_empty (filter f xs) ≡ true
 none-left f h [] = refl
-none-left f h (x ∷ xs) = by (f x) (h x)
+none-left f h (x ∷ xs) = by (f x) (h x) (none-left f h xs)
   where
-    by : (b : Bool) → b ≡ false → is_empty (if b then x ∷ filter f xs else filter f xs) ≡ true
-    by true e = absurd (true≢false e)
-    by false e = none-left f h xs
+    by : (b : Bool) → b ≡ false → is_empty (filter f xs) ≡ true → is_empty (if b then x ∷ filter f xs else filter f xs) ≡ true
+    by true e rest = absurd (true≢false e)
+    by false e rest = rest
 
 -- ---- states
 

@@ -3,5 +3,8 @@ mod Evenness
 mod Lists
 mod Numbers
 mod Reaching
+mod Rowless
+mod RowlessReaching
+mod RowlessSteps
 mod Rows
 mod Walking

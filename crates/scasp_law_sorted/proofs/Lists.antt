@@ -40,7 +40,7 @@ typed-more cs ds (con.NotShape x g n) i e f = refl
 typed-more cs ds (con.Num t) i e f = refl
 typed-more cs ds (con.NotNum t) i e f = refl
 
-typed-plain : (ds : List Con) (c : Con) → NoRow c → is_typed_con ds c ≡ true
+pub typed-plain : (ds : List Con) (c : Con) → NoRow c → is_typed_con ds c ≡ true
 typed-plain ds (con.Row r) h = absurd h
 typed-plain ds (con.Eq t u) h = refl
 typed-plain ds (con.Neq t u) h = refl

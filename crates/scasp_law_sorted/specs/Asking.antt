@@ -1,15 +1,18 @@
 -- Which lists the steps of a search ask, and that they are sorted.
-use Rattle.std.specs.Prelude.{◌≡◌, ◌↔◌, Bool, true, false, List, []}
-use Rattle.std.specs.List.{Contains, list_any}
+use Rattle.std.specs.Prelude.{◌≡◌, ◌↔◌, ℕ, Bool, true, false, ◌&&◌, List}
+use Rattle.std.specs.List.{Contains, list_all, list_any}
 use Rattle.scasp_hint.specs.Satisfying.{sat}
 use Rattle.scasp_list.specs.Each.{Each}
 use Rattle.scasp_search_rules.specs.declared.states.state.State.{State}
+use Rattle.scasp_search_rules.specs.Successors.Answers.{certificate_at}
 use Rattle.scasp_search_rules.specs.Successors.Problems.{Problem}
-use Rattle.scasp_search_rules.specs.Successors.Regions.{asked_with, context}
+use Rattle.scasp_search_rules.specs.Successors.Regions.{asked_with}
 use Rattle.scasp_search_rules.specs.Successors.Search.{search_for, start, step}
 use Rattle.scasp_search_rules.specs.Successors.Variables.{is_kind_universal}
 use Rattle.scasp_syntax.specs.Constraints.{Sat}
 use Rattle.scasp_syntax.specs.WellFormed.{is_query_well_formed}
+use Rattle.scasp_syntax.specs.declared.clause.Item.{Item}
+use Rattle.scasp_syntax.specs.declared.clause.Item.TheVariants as item
 use Rattle.scasp_syntax.specs.declared.clause.Query.{Query}
 use Rattle.scasp_syntax.specs.declared.con.Con.{Con}
 use Rattle.scasp_unify.specs.Sorted.{Sorted}
@@ -50,3 +53,23 @@ abbrev pub PositivesComePlainly : Type 0
 PositivesComePlainly =
     (p : Problem) (q : Query) (s : State) → is_query_well_formed q ≡ true → is_positive p q ≡ true → p.sat ≡ sat → IsReachable p q s
     → ComesPlainly p q s × (has_universal_made s ≡ false)
+
+-- ---- programs without rows
+
+abbrev pub is_item_rowless : Item → Bool
+is_item_rowless (item.Call l) = true
+is_item_rowless (item.Equal t u) = true
+is_item_rowless (item.Differ t u) = true
+is_item_rowless (item.Linear l) = false
+
+-- neither the query nor a clause has a linear item
+abbrev pub is_rowless : Problem → Query → Bool
+is_rowless p q = list_all is_item_rowless q.body && list_all (λ c. list_all is_item_rowless c.body) p.program.clauses
+
+-- Each list that is asked is sorted then, from whatever state that comes of the start, and whatever the test is.
+abbrev pub RowlessAskSorted : Type 0
+RowlessAskSorted = (p : Problem) (q : Query) (s : State) → is_rowless p q ≡ true → IsReachable p q s → Each Sorted (asked_next p s)
+
+-- So are the given constraints of the certificate of each such state, where so many variables are those of the query.
+abbrev pub RowlessGiveSorted : Type 0
+RowlessGiveSorted = (p : Problem) (q : Query) (s : State) (queried : ℕ) → is_rowless p q ≡ true → IsReachable p q s → Sorted (certificate_at p s queried).given
