@@ -60,7 +60,7 @@ use Rattle.scasp_law_no_circle.proofs.Tasks.{NoRow}
 use Rattle.scasp_law_sorted.specs.Asking.{is_item_rowless}
 use Rattle.scasp_law_sorted.proofs.Assuming.{plain-negated}
 use Rattle.scasp_law_sorted.proofs.Evenness.{Asks, asks-goes, asks-fails, asks-gives, asks-each, asks-followed}
-use Rattle.scasp_law_sorted.proofs.Rowless.{CoverRowless, ItemRowless, TaskRowless, Rowless, RowlessAt, front, rowless-sorted, context-rowless, split-at-rowless, rowless-asked, rowless-assumed, all-rowless}
+use Rattle.scasp_law_sorted.proofs.Rowless.{CoverRowless, GivenPlain, ItemRowless, all-no_row, TaskRowless, Rowless, RowlessAt, front, rowless-sorted, context-rowless, split-at-rowless, rowless-asked, rowless-assumed, all-rowless}
 
 -- ---- tasks
 
@@ -130,7 +130,7 @@ module _ (sat : List Con → Bool) (s : State) (e : Rowless s) where
   -- whatever it is bound to
   bound-rowless : (x : ℕ) (t : Tm) → Asks Rowless (bound_if sat (bind s x t))
   bound-rowless x t = record {
-    asked = (rowless-sorted (bind s x t).bound s.given e.given, tt);
+    asked = (rowless-sorted (bind s x t).bound s.given (all-no_row s.given e.given), tt);
     states = each_only_if Rowless (sat (asked_with (bind s x t) s.given)) (bind s x t) e;
   }
 
@@ -218,7 +218,7 @@ module _ (sat : List Con → Bool) (s : State) (e : Rowless s) where
   apart-rowless aims.Test = tt
   apart-rowless (aims.Head k first) = (tt, tt)
 
-  part-rowless : (c : Con) → NoRow c → (aim : Aim) (other : List Task) → Each TaskRowless other → Asks Rowless (at_part sat s c aim other)
+  part-rowless : (c : Con) → GivenPlain c → (aim : Aim) (other : List Task) → Each TaskRowless other → Asks Rowless (at_part sat s c aim other)
   part-rowless c n aim other h = record { asked = rowless-asked sat s e c n; states = by (status sat s c) }
     where
       one : Rowless (before (task.Assume c ∷ when_apart aim) s)
@@ -347,7 +347,7 @@ module _ (p : Program) (all : AllRowless p) where
     left-rowless [] = e
     left-rowless (a ∷ rest) = moved-rowless a rest (at_number a.number finished s.literals)
 
-  all-plain : (l : Lit) (ls : List Literal) → Each NoRow (map (differing l) ls)
+  all-plain : (l : Lit) (ls : List Literal) → Each GivenPlain (map (differing l) ls)
   all-plain l [] = tt
   all-plain l (a ∷ ls) = (tt, all-plain l ls)
 

@@ -1,8 +1,10 @@
 -- Which lists the steps of a search ask, and that they are sorted.
 use Rattle.std.specs.Prelude.{◌≡◌, ◌↔◌, ℕ, Bool, true, false, ◌&&◌, List}
 use Rattle.std.specs.List.{Contains, list_all, list_any}
+use Rattle.scasp_hint.specs.AskedRows.{RowsNormal}
 use Rattle.scasp_hint.specs.Satisfying.{sat}
 use Rattle.scasp_list.specs.Each.{Each}
+use Rattle.scasp_project.specs.Meaning.{IsNoEquation}
 use Rattle.scasp_search_rules.specs.declared.states.state.State.{State}
 use Rattle.scasp_search_rules.specs.Successors.Answers.{certificate_at}
 use Rattle.scasp_search_rules.specs.Successors.Problems.{Problem}
@@ -70,6 +72,12 @@ is_rowless p q = list_all is_item_rowless q.body && list_all (λ c. list_all is_
 abbrev pub RowlessAskSorted : Type 0
 RowlessAskSorted = (p : Problem) (q : Query) (s : State) → is_rowless p q ≡ true → IsReachable p q s → Each Sorted (asked_next p s)
 
--- So are the given constraints of the certificate of each such state, where so many variables are those of the query.
+-- what the laws on projections ask of a list: its rows are in normal form, it has no equations, and it is sorted
+pub record CanBeProjected (cs : List Con) : Type 0 where
+  pub normal : RowsNormal cs
+  pub plain : Each IsNoEquation cs
+  pub sorted : Sorted cs
+
+-- So it is with the given constraints of the certificate of each such state, where so many variables are those of the query.
 abbrev pub RowlessGiveSorted : Type 0
-RowlessGiveSorted = (p : Problem) (q : Query) (s : State) (queried : ℕ) → is_rowless p q ≡ true → IsReachable p q s → Sorted (certificate_at p s queried).given
+RowlessGiveSorted = (p : Problem) (q : Query) (s : State) (queried : ℕ) → is_rowless p q ≡ true → IsReachable p q s → CanBeProjected (certificate_at p s queried).given

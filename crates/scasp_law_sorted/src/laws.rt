@@ -26,7 +26,7 @@ pub fn rowless_ask_sorted()
     ensures { RowlessAskSorted }
 {}
 
-/// And so are the given constraints of each certificate.
+/// And so are the given constraints of each certificate, which have no equation.
 pub fn rowless_give_sorted()
     ensures { RowlessGiveSorted }
 {}
