@@ -348,7 +348,7 @@ module _ (p : Problem) (q : Query) (positive : is_positive p q ≡ true) where
       (none-checked p.checks
       (and_parts (is_unchecked p.checks) (list_all is_item_positive q.body && list_all (λ c. list_all is_item_positive c.body) p.program.clauses) positive).0)
 
-  follows : (u : State) → IsReachable p q u → Plainly u
+  pub follows : (u : State) → IsReachable p q u → Plainly u
   follows _ itself = begun
   follows _ (after t u f i) = each-state Plainly ((search_for p q).next t) u (work-plain p.program p.sat clauses t t.work (follows t f)) i
 

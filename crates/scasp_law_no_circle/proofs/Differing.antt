@@ -46,7 +46,7 @@ use Rattle.scasp_law_no_circle.proofs.Growing.{Fits, still-unbound, pushed-sound
 use Rattle.scasp_law_no_circle.proofs.Meeting.{met-good, each-occurs}
 use Rattle.scasp_law_no_circle.proofs.Places.{entry, owns}
 use Rattle.scasp_law_no_circle.proofs.Scope.{Good, Scoped, good-made, Sound}
-use Rattle.scasp_law_no_circle.proofs.Tasks.{Either, PairScoped, Frees, StandsFirst, Assumed, AimScoped, BecomesScoped, First, Front, plain, assumes, numbers, differs, becomes, avoids, shapes, begins, Owning, scoped-kept, either-kept, pairs-kept, aim-kept, work-kept, waiting-more}
+use Rattle.scasp_law_no_circle.proofs.Tasks.{Either, PairScoped, Frees, StandsFirst, Assumed, NoRow, AimScoped, BecomesScoped, First, Front, plain, assumes, numbers, differs, becomes, avoids, shapes, begins, Owning, scoped-kept, either-kept, pairs-kept, aim-kept, work-kept, waiting-more}
 
 -- free, and in scope; or of a head, and free
 abbrev RightFree : State → ℕ → Type 0
@@ -130,11 +130,11 @@ module _ (p : Program) (sat : List Con → Bool) (s : State) (h : Sound p s.made
   apart-owns aim = in-front (when_apart aim) (plain (when_apart aim ++ s.work) (apart-work aim))
 
   module _ (rest : List Pair) (aim : Aim) (pf : Pairs-at s rest) (af : AimScoped p s.made s.covers s.bound (length s.covers) aim) where
-    part-owns : (c : Con) → Assumed s.made s.covers s.bound (length s.covers) c → (other : List Task) → Front p s.made s.covers s.bound (length s.covers) (other ++ s.work) → EachState (Owning p) (at_part sat s c aim other).states
-    part-owns c a other f = by (status sat s c)
+    part-owns : (c : Con) → NoRow c → Assumed s.made s.covers s.bound (length s.covers) c → (other : List Task) → Front p s.made s.covers s.bound (length s.covers) (other ++ s.work) → EachState (Owning p) (at_part sat s c aim other).states
+    part-owns c n a other f = by (status sat s c)
       where
         one : Owning p (before (task.Assume c ∷ when_apart aim) s)
-        one = in-front (task.Assume c ∷ when_apart aim) (assumes c (when_apart aim ++ s.work) a (apart-work aim))
+        one = in-front (task.Assume c ∷ when_apart aim) (assumes c (when_apart aim ++ s.work) n a (apart-work aim))
 
         two : Owning p (before other s)
         two = in-front other f
@@ -166,21 +166,21 @@ module _ (p : Program) (sat : List Con → Bool) (s : State) (h : Sound p s.made
 
         by : (c : Bool) → stands_first s x y ≡ c → EachState (Owning p) (if c then part_of_variables sat s x y rest aim else part_of_variables sat s y x rest aim).states
         by true k =
-            part-owns (con.Neq (Var x) (Var y)) (a, b, (λ e. d (sym e)), first (or_cases (not (is_universal s y)) (is_universal s x && is_inside s x y) k)) (task.Become x (Var y) rest aim ∷ [])
+            part-owns (con.Neq (Var x) (Var y)) tt (a, b, (λ e. d (sym e)), first (or_cases (not (is_universal s y)) (is_universal s x && is_inside s x y) k)) (task.Become x (Var y) rest aim ∷ [])
             (becomes x (Var y) rest aim s.work a (b, d) pf af w)
         by false k =
-            part-owns (con.Neq (Var y) (Var x)) (b, a, d, second (is_universal s x) (is_universal s y) refl refl k) (task.Become y (Var x) rest aim ∷ [])
+            part-owns (con.Neq (Var y) (Var x)) tt (b, a, d, second (is_universal s x) (is_universal s y) refl refl k) (task.Become y (Var x) rest aim ∷ [])
             (becomes y (Var x) rest aim s.work b (a, (λ e. d (sym e))) pf af w)
 
     number-owns : (x : ℕ) (v : Number) → Frees-at s x → EachState (Owning p) (differ_number sat s x v rest aim).states
-    number-owns x v a = part-owns (con.NotNum (Var x)) tt (task.Assume (con.Num (Var x)) ∷ task.Avoid x v rest aim ∷ []) (numbers x v rest aim s.work a pf af w)
+    number-owns x v a = part-owns (con.NotNum (Var x)) tt tt (task.Assume (con.Num (Var x)) ∷ task.Avoid x v rest aim ∷ []) (numbers x v rest aim s.work a pf af w)
 
     shape-owns : (x f : ℕ) (ts : Tms) → Frees-at s x → EachVars (Either s.made s.covers s.bound (length s.covers)) ts → EachState (Owning p) (differ_shape sat s x f ts rest aim).states
     shape-owns x f ts a b = by (occurs_among x ts)
       where
         by : (c : Bool) → EachState (Owning p) (if c then goes (before (when_apart aim) s) else at_part sat s (con.NotShape x f (length (items ts))) aim (task.Shape x f ts rest aim ∷ [])).states
         by true = (apart-owns aim, tt)
-        by false = part-owns (con.NotShape x f (length (items ts))) a.0 (task.Shape x f ts rest aim ∷ []) (shapes x f ts rest aim s.work a b pf af w)
+        by false = part-owns (con.NotShape x f (length (items ts))) tt a.0 (task.Shape x f ts rest aim ∷ []) (shapes x f ts rest aim s.work a b pf af w)
 
     frees-either : (ts : Tms) → EachVars (Frees-at s) ts → EachVars (Either s.made s.covers s.bound (length s.covers)) ts
     frees-either ts k = all-weaker (Frees-at s) (Either s.made s.covers s.bound (length s.covers)) (λ z f. inr f.0) ts k
@@ -300,7 +300,7 @@ module _ (p : Program) (sat : List Con → Bool) (s : State) (h : Sound p s.made
     value-owns x (App f ts) a b = absurd b
 
     pub avoid-owns : (x : ℕ) (v : Number) → Frees-at s x → EachState (Owning p) (differ_value sat s x v rest aim).states
-    avoid-owns x v a = part-owns (con.Neq (Var x) (Num v)) a.0 (task.Become x (Num v) rest aim ∷ []) (becomes x (Num v) rest aim s.work a tt pf af w)
+    avoid-owns x v a = part-owns (con.Neq (Var x) (Num v)) tt a.0 (task.Become x (Num v) rest aim ∷ []) (becomes x (Num v) rest aim s.work a tt pf af w)
 
     pub name-owns : (x f : ℕ) (us : Tms) → Frees-at s x → EachVars (Either s.made s.covers s.bound (length s.covers)) us → EachState (Owning p) (same_shape sat s x f us rest aim).states
     name-owns x f us a b =

@@ -325,7 +325,7 @@ module _ (p : Program) (sat : List Con → Bool) (s : State) (h : Sound p s.made
   pub step-owns : (ts : List Task) → Front p s.made s.covers s.bound (length s.covers) ts → EachState (Owning p) (step_at p sat s ts).states
   step-owns _ (plain [] w) = tt
   step-owns _ (plain (t ∷ ts) w) = plain-owns t ts w
-  step-owns _ (assumes c ts a w) = assumed-owns p sat (record s { work = ts }) h solved w c a
+  step-owns _ (assumes c ts n a w) = assumed-owns p sat (record s { work = ts }) h solved w c a
   step-owns _ (numbers x q ps aim ts a pf af w) = numbers-own p sat (record s { work = task.Avoid x q ps aim ∷ ts }) h solved x q ps aim ts refl a pf af w
   step-owns _ (differs ps aim ts pf af w) = differ-owns p sat (record s { work = ts }) h solved w ps aim pf af
   step-owns _ (becomes x t ps aim ts a b pf af w) = value-owns p sat (record s { work = ts }) h solved w ps aim pf af x t a b
@@ -352,7 +352,7 @@ module _ (p : Program) (sat : List Con → Bool) (s : State) (h : Sound p s.made
       by (task.Begin k first checks_head) v = refl
       by task.Void v = refl
       by task.Leave v = refl
-  step-absent _ (assumes c ts a w) = refl
+  step-absent _ (assumes c ts n a w) = refl
   step-absent _ (numbers x q ps aim ts a pf af w) = refl
   step-absent _ (differs ps aim ts pf af w) = refl
   step-absent _ (becomes x t ps aim ts a b pf af w) = refl

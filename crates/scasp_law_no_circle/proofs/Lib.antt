@@ -8,8 +8,8 @@ mod Equating
 mod Growing
 mod Meeting
 mod Places
-mod Reaching
-mod Scope
+pub mod Reaching
+pub mod Scope
 mod Sides
 mod Splitting
-mod Tasks
+pub mod Tasks

@@ -130,6 +130,15 @@ Assumed made cs bs n (con.Num t) = ⊤
 Assumed made cs bs n (con.NotNum t) = ⊤
 Assumed made cs bs n (con.Row r) = ⊤
 
+-- no row
+abbrev pub NoRow : Con → Type 0
+NoRow (con.Row r) = ⊥
+NoRow (con.Eq t u) = ⊤
+NoRow (con.Neq t u) = ⊤
+NoRow (con.NotShape x f k) = ⊤
+NoRow (con.Num t) = ⊤
+NoRow (con.NotNum t) = ⊤
+
 module _ (p : Program) (made : List Made) (cs : List Cover) (bs : List Binding) (n : ℕ) where
   -- the variables of the head's clause
   abbrev pub Heads : ℕ → ℕ → Type 0
@@ -150,7 +159,7 @@ First made cs bs n ts = Waiting (Scoped made cs bs) n ts
 
 pub data Front (p : Program) (made : List Made) (cs : List Cover) (bs : List Binding) (n : ℕ) : List Task → Type 0 where
   plain : (ts : List Task) → First made cs bs n ts → Front p made cs bs n ts
-  assumes : (c : Con) (ts : List Task) → Assumed made cs bs n c → First made cs bs n ts → Front p made cs bs n (task.Assume c ∷ ts)
+  assumes : (c : Con) (ts : List Task) → NoRow c → Assumed made cs bs n c → First made cs bs n ts → Front p made cs bs n (task.Assume c ∷ ts)
   numbers : (x : ℕ) (q : Number) (ps : List Pair) (aim : Aim) (ts : List Task) → Frees made cs bs n x → Each (PairScoped made cs bs n) ps → AimScoped p made cs bs n aim → First made cs bs n ts
       → Front p made cs bs n (task.Assume (con.Num (Var x)) ∷ task.Avoid x q ps aim ∷ ts)
   differs : (ps : List Pair) (aim : Aim) (ts : List Task) → Each (PairScoped made cs bs n) ps → AimScoped p made cs bs n aim → First made cs bs n ts → Front p made cs bs n (task.Differ ps aim ∷ ts)

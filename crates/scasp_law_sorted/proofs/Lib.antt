@@ -1,0 +1,10 @@
+mod Assuming
+mod Evenness
+mod Lists
+mod Numbers
+mod Reaching
+mod Rowless
+mod RowlessReaching
+mod RowlessSteps
+mod Rows
+mod Walking
