@@ -1,5 +1,5 @@
 -- States without rows: what is assumed, and what a case is parted by, makes none.
-use Rattle.std.specs.Prelude.{◌≡◌, ℕ, zero, suc, nat_eq, Bool, true, false, not, if◌then◌else◌, Option, Some, None, List, [], ◌∷◌, ◌++◌, length, map, reverse, ⊤}
+use Rattle.std.specs.Prelude.{◌≡◌, ℕ, zero, suc, nat_eq, Bool, true, false, not, if◌then◌else◌, Option, Some, None, List, [], ◌∷◌, ◌++◌, map, reverse, ⊤}
 use Rattle.std.specs.List.{Contains, flat_map}
 use Rattle.std.proofs.Common.{refl, sym, subst, ◌∙◌, inl, inr, ◌⊎◌}
 use Rattle.std.proofs.lemmas.Bool.{true≢false}
@@ -9,7 +9,6 @@ use Rattle.scasp_list.specs.Each.{Each}
 use Rattle.scasp_list.proofs.EachLemmas.{Each-append, Each-map}
 use Rattle.scasp_list.proofs.MemberLemmas.{Contains-from_map, list_all-from}
 use Rattle.scasp_search_rules.specs.declared.states.covers.Cover.{Cover}
-use Rattle.scasp_search_rules.specs.declared.states.covers.Remainder.{Remainder}
 use Rattle.scasp_search_rules.specs.declared.states.lines.Line.{Line}
 use Rattle.scasp_search_rules.specs.declared.states.lines.Line.TheVariants as line
 use Rattle.scasp_search_rules.specs.declared.states.outcomes.Parting.{Parting}
@@ -21,7 +20,7 @@ use Rattle.scasp_search_rules.specs.declared.states.tasks.Task.TheVariants as ta
 use Rattle.scasp_search_rules.specs.Successors.Assumptions.{against, along, as_read, asked_for, assume, assume_all, judges, performed, status}
 use Rattle.scasp_search_rules.specs.Successors.Falls.{EachState}
 use Rattle.scasp_search_rules.specs.Successors.Reading.{con_under, holds_always, not_shaped, term_under}
-use Rattle.scasp_search_rules.specs.Successors.Regions.{asked_with, context, equation, regions}
+use Rattle.scasp_search_rules.specs.Successors.Regions.{context, equation, regions}
 use Rattle.scasp_search_rules.specs.Successors.Splits.{at_depth, cover_parted, equation_parting, owner, parted, shape_line, split, split_at}
 use Rattle.scasp_search_rules.specs.Successors.Variables.{is_empty, meaning, next_variable, universals_of}
 use Rattle.scasp_syntax.specs.Constraints.{has_shape}

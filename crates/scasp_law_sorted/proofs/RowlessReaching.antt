@@ -1,7 +1,7 @@
 -- Without linear items each state that comes of the start is without rows, and so is what is given in its certificate.
-use Rattle.std.specs.Prelude.{◌≡◌, ℕ, ◌+◌, max, Bool, true, false, not, Option, Some, None, List, [], ◌∷◌, ◌++◌, filter, if◌then◌else◌, map}
-use Rattle.std.specs.List.{Contains, flat_map, list_all}
-use Rattle.std.proofs.Common.{refl, sym}
+use Rattle.std.specs.Prelude.{◌≡◌, ℕ, ◌+◌, max, Bool, true, false, not, List, [], ◌∷◌, ◌++◌, filter, if◌then◌else◌, map}
+use Rattle.std.specs.List.{flat_map, list_all}
+use Rattle.std.proofs.Common.{refl}
 use Rattle.std.proofs.lemmas.Bool.{and_parts}
 use Rattle.scasp_cert.specs.Certificate.{Certificate}
 use Rattle.scasp_cert.specs.Lines.{lines_below}
@@ -16,7 +16,7 @@ use Rattle.scasp_lines.specs.Lines.{free_of, lines, query_walk, setting}
 use Rattle.scasp_lines.specs.Opened.{Opened}
 use Rattle.scasp_lines.specs.Places.{Place, start as place}
 use Rattle.scasp_lines.specs.Walk.{Part, of_node, of_rule, of_check, of_case, Setting, Line as Walked}
-use Rattle.scasp_lines.specs.Determined.{determined, not_shape}
+use Rattle.scasp_lines.specs.Determined.{not_shape}
 use Rattle.scasp_hint.specs.AskedRows.{RowsNormal}
 use Rattle.scasp_list.specs.Each.{Each}
 use Rattle.scasp_list.proofs.EachLemmas.{Each-append, Each-filter, Each-from_test, Each-map}
@@ -52,7 +52,6 @@ use Rattle.scasp_unify.specs.SimpleForm.{differ, simple, term_with}
 use Rattle.scasp_unify.specs.Sorted.{Sorted}
 use Rattle.scasp_law_first_event.specs.Events.{IsReachable, itself, after}
 use Rattle.scasp_law_first_event.proofs.EachStates.{each-state}
-use Rattle.scasp_law_first_event.proofs.Raising.{Each-mapped}
 use Rattle.scasp_law_sorted.specs.Asking.{CanBeProjected, is_item_rowless, is_rowless}
 use Rattle.scasp_law_no_circle.proofs.Tasks.{NoRow}
 use Rattle.scasp_law_sorted.proofs.Assuming.{plain-negated, plain-simple}

@@ -1,7 +1,7 @@
 -- Each step from a state without rows asks lists without rows, and gives states without rows.
-use Rattle.std.specs.Prelude.{◌≡◌, ℕ, zero, suc, Bool, true, false, ◌&&◌, not, max, min, nat_le, if◌then◌else◌, Option, Some, None, List, [], ◌∷◌, ◌++◌, length, map, filter, ⊤}
+use Rattle.std.specs.Prelude.{◌≡◌, ℕ, zero, suc, Bool, true, false, ◌&&◌, not, max, min, nat_le, if◌then◌else◌, Option, Some, None, List, [], ◌∷◌, ◌++◌, length, map, filter}
 use Rattle.std.specs.List.{list_all}
-use Rattle.std.proofs.Common.{refl, sym, subst}
+use Rattle.std.proofs.Common.{refl, sym}
 use Rattle.scasp_list.specs.Each.{Each}
 use Rattle.scasp_list.proofs.EachLemmas.{Each-append, Each-at}
 use Rattle.scasp_num.specs.Number.{Number}
@@ -24,9 +24,9 @@ use Rattle.scasp_search_rules.specs.Successors.Assumptions.{assume, assume_all, 
 use Rattle.scasp_search_rules.specs.Successors.Calls.{ancestors, at_number, by_no_rule, by_rule, call, can_be_seen, differing, entered, finished, head_args, judged, left, looped, marked, moved, nearest, opposites, unrepeated, vars_of_clause}
 use Rattle.scasp_search_rules.specs.Successors.Cases.{after_case, begin_cases, cases_of, cases_where, close_case, cover_for, ended_case, failing_at, head_call, leaf_at, line_under, remaining, taken_up, unbound_of, with_cover, with_head, with_items}
 use Rattle.scasp_search_rules.specs.Successors.Differences.{alternatives, at_part, differ_first, differ_number, differ_pair, differ_pairs, differ_shape, differ_variables, is_matched, part_of_variables, stands_first, take_up, when_apart, when_same}
-use Rattle.scasp_search_rules.specs.Successors.Equations.{becomes_number, becomes_shape, bound_if, equate_pairs, equated, equations, equations_of, is_inside, mixed, replaced_if, two_existentials, two_universals, two_variables, variable_app, variable_number}
+use Rattle.scasp_search_rules.specs.Successors.Equations.{becomes_number, becomes_shape, bound_if, equate_pairs, equated, equations, equations_of, is_inside, mixed, replaced_if, two_universals, two_variables, variable_app, variable_number}
 use Rattle.scasp_search_rules.specs.Successors.Falls.{EachState}
-use Rattle.scasp_search_rules.specs.Successors.Items.{body_of, item_raised, items_of, number_tests, opposite_item, test_item, with_line}
+use Rattle.scasp_search_rules.specs.Successors.Items.{body_of, item_raised, items_of, opposite_item, test_item, with_line}
 use Rattle.scasp_search_rules.specs.Successors.Pairs.{from_first, pairs, pairs_of}
 use Rattle.scasp_search_rules.specs.Successors.Reading.{con_under, count_from}
 use Rattle.scasp_search_rules.specs.Successors.Regions.{asked_with, before, context, is_constrained}
@@ -53,7 +53,6 @@ use Rattle.scasp_syntax.specs.declared.term.Term.TheVariants.{Var}
 use Rattle.scasp_unify.specs.Negations.{new_parts}
 use Rattle.scasp_unify.specs.Parts.{occurs_among}
 use Rattle.scasp_unify.specs.SimpleForm.{differ, term_with}
-use Rattle.scasp_unify.specs.Sorted.{Sorted}
 use Rattle.scasp_law_first_event.proofs.Calls.{each-of}
 use Rattle.scasp_law_first_event.proofs.EachStates.{each_append, each_only_if}
 use Rattle.scasp_law_no_circle.proofs.Tasks.{NoRow}

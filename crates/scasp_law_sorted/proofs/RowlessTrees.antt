@@ -1,19 +1,17 @@
 -- Certificates without rows: their trees, and what opens on the way to their lines.
-use Rattle.std.specs.Prelude.{◌≡◌, ℕ, zero, suc, ◌+◌, nat_eq, nat_lt, Bool, true, false, ◌&&◌, if◌then◌else◌, Option, Some, None, List, [], ◌∷◌, ◌++◌, length, map, filter, take, drop, ⊤}
-use Rattle.std.specs.List.{Contains, flat_map}
-use Rattle.std.proofs.Common.{refl}
+use Rattle.std.specs.Prelude.{ℕ, zero, suc, ◌+◌, nat_eq, Bool, true, false, ◌&&◌, if◌then◌else◌, Option, Some, None, List, [], ◌∷◌, length, take, drop, ⊤}
 use Rattle.scasp_list.specs.Each.{Each}
-use Rattle.scasp_list.proofs.EachLemmas.{Each-append, Each-filter, Each-map}
+use Rattle.scasp_list.proofs.EachLemmas.{Each-append}
 use Rattle.scasp_cert.specs.Trees.{Tree, Trees, Branch, Branches, pos_tree, neg_tree, loop_tree, seen_tree, test_tree, no_tree, tree, split, void, leaf, head, no_branch, branch, listed, covering}
-use Rattle.scasp_lines.specs.Bodies.{Body, inside, inside_rule, inside_check, open_head, split_body}
+use Rattle.scasp_lines.specs.Bodies.{Body, inside_rule, inside_check, open_head, split_body}
 use Rattle.scasp_lines.specs.Contexts.{constraints_of, context}
 use Rattle.scasp_lines.specs.Covers.{Cover, cover_from, with_universal, with_universals}
 use Rattle.scasp_lines.specs.Dues.{Due, first_due, other_dues, rule_dues, leaf_dues, head_dues}
 use Rattle.scasp_lines.specs.Opened.{Opened, ranges, shaped, assumed}
-use Rattle.scasp_lines.specs.Openings.{Opening, bound_to, open_number, open_term, open_terms, open_variable, unopened, with_assumed, with_bound, with_clash, with_shape, equal}
+use Rattle.scasp_lines.specs.Openings.{Opening, bound_to, open_number, open_term, open_terms, open_variable, unopened, with_clash, with_shape}
 use Rattle.scasp_lines.specs.Places.{Place, below_literal, within_case}
 use Rattle.scasp_lines.specs.Sides.{Shape, Sides, shape_of, shape_sides, sides, sides_by}
-use Rattle.scasp_lines.specs.Walk.{Part, of_node, of_rule, of_check, of_case, Line, Setting, Walked, node_walk, nodes_walk, branch_walk, covers_walk, checks_walk}
+use Rattle.scasp_lines.specs.Walk.{Part, of_node, of_rule, of_check, of_case, Line, Setting, node_walk, nodes_walk, branch_walk, covers_walk, checks_walk}
 use Rattle.scasp_cert.specs.Lines.{lines_of, lines_at}
 use Rattle.scasp_num.specs.Number.{Number}
 use Rattle.scasp_search_rules.specs.declared.states.lines.Line.{Line as Told}
@@ -26,7 +24,7 @@ use Rattle.scasp_syntax.specs.declared.atom.Atom.{Atom}
 use Rattle.scasp_syntax.specs.declared.clause.Clause.{Clause}
 use Rattle.scasp_syntax.specs.declared.con.Con.{Con}
 use Rattle.scasp_syntax.specs.declared.con.Con.TheVariants as con
-use Rattle.scasp_unify.specs.Negations.{negated, new_parts}
+use Rattle.scasp_unify.specs.Negations.{new_parts}
 use Rattle.scasp_law_no_circle.proofs.Tasks.{NoRow}
 use Rattle.scasp_law_sorted.proofs.Assuming.{plain-negated}
 use Rattle.scasp_law_sorted.proofs.Rowless.{LineRowless}
