@@ -8,10 +8,9 @@ use Rattle.scasp_list.specs.Each.{Each}
 use Rattle.scasp_list.proofs.MemberLemmas.{Contains-cases, Contains-none}
 use Rattle.scasp_num.specs.Linear.{Linear, negation}
 use Rattle.scasp_num.specs.declared.linear.Coeff.{Coeff}
-use Rattle.scasp_search_rules.specs.declared.states.outcomes.Status.{Status}
 use Rattle.scasp_search_rules.specs.declared.states.outcomes.Status.TheVariants.{Entailed, Impossible, Added, Parts as Parted}
 use Rattle.scasp_search_rules.specs.declared.states.state.State.{State}
-use Rattle.scasp_search_rules.specs.Successors.Assumptions.{against, along, as_read, asked_for, assume, assume_all, judges, performed, status}
+use Rattle.scasp_search_rules.specs.Successors.Assumptions.{against, along, as_read, asked_for, assume, assume_all, judges, performed}
 use Rattle.scasp_search_rules.specs.Successors.Falls.{EachState}
 use Rattle.scasp_search_rules.specs.Successors.Reading.{con_under, holds_always, not_shaped, row_under}
 use Rattle.scasp_search_rules.specs.Successors.Regions.{asked_with, context, equation, with_given}
@@ -21,7 +20,6 @@ use Rattle.scasp_syntax.specs.Tm.{Tm, var, num, app, nil, cons}
 use Rattle.scasp_syntax.specs.View.{tm_of}
 use Rattle.scasp_syntax.specs.declared.con.Con.{Con}
 use Rattle.scasp_syntax.specs.declared.con.Con.TheVariants as con
-use Rattle.scasp_syntax.specs.declared.term.Term.{Term}
 use Rattle.scasp_syntax.specs.declared.term.Term.TheVariants.{Var}
 use Rattle.scasp_unify.specs.Negations.{negated}
 use Rattle.scasp_unify.specs.Parts.{Part, parts}
@@ -31,7 +29,7 @@ use Rattle.scasp_unify.specs.Sorted.{Sorted}
 use Rattle.scasp_unify.proofs.Members.{Each-from}
 use Rattle.scasp_unify.proofs.SimpleLemmas.{viewed}
 use Rattle.scasp_hint.specs.Satisfying.{sat}
-use Rattle.scasp_law_sorted.proofs.Evenness.{Even, quiet, even-given, Asks, asks-goes, asks-followed, asks-weaker}
+use Rattle.scasp_law_sorted.proofs.Evenness.{Even, quiet, even-given, Asks, asks-goes, asks-followed}
 use Rattle.scasp_law_no_circle.proofs.Tasks.{NoRow}
 use Rattle.scasp_law_sorted.proofs.Lists.{entails-more, list-within, sorted-one, sorted-row}
 use Rattle.scasp_law_sorted.proofs.Numbers.{IsNumberBy, number-read, number-of, number-said, number-entailed}

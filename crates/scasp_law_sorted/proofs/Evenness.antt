@@ -1,12 +1,12 @@
 -- States in which no variable is universal, no region has a constraint, and the bindings with the given constraints are sorted; and steps that
 -- ask sorted lists.
-use Rattle.std.specs.Prelude.{◌≡◌, ◌⊎◌, ℕ, zero, suc, Bool, true, false, min, if◌then◌else◌, Option, Some, None, List, [], ◌∷◌, ◌++◌, filter, map, replicate, slice_get, slice_set}
-use Rattle.std.specs.List.{Contains, flat_map}
-use Rattle.std.proofs.Common.{refl, ap, sym, subst, ◌∙◌, inl, inr}
+use Rattle.std.specs.Prelude.{◌≡◌, ℕ, zero, suc, Bool, true, false, min, if◌then◌else◌, Option, Some, None, List, [], ◌∷◌, ◌++◌, filter, map, replicate, slice_get, slice_set}
+use Rattle.std.specs.List.{flat_map}
+use Rattle.std.proofs.Common.{refl, sym, inl}
 use Rattle.std.proofs.lemmas.Bool.{true≢false}
 use Rattle.std.proofs.lemmas.List.Elements.{Contains-append_left}
 use Rattle.scasp_list.specs.Each.{Each}
-use Rattle.scasp_list.proofs.EachLemmas.{Each-append, Each-at, Each-map}
+use Rattle.scasp_list.proofs.EachLemmas.{Each-append, Each-at}
 use Rattle.scasp_search_rules.specs.declared.states.covers.Cover.{Cover}
 use Rattle.scasp_search_rules.specs.declared.states.state.Kind.{Kind}
 use Rattle.scasp_search_rules.specs.declared.states.state.Made.{Made}

@@ -6,5 +6,6 @@ mod Reaching
 mod Rowless
 mod RowlessReaching
 mod RowlessSteps
+mod RowlessTrees
 mod Rows
 mod Walking

@@ -1,19 +1,17 @@
 -- Lists that stay sorted: with more bindings and with more constraints than rows, and with rows whose variables are numbers.
-use Rattle.std.specs.Prelude.{◌≡◌, ◌⊎◌, Bool, true, false, List, [], ◌∷◌, ◌++◌, map, ⊤}
+use Rattle.std.specs.Prelude.{◌≡◌, ◌⊎◌, Bool, true, false, List, [], ◌∷◌, ◌++◌, map}
 use Rattle.std.specs.List.{Contains}
-use Rattle.std.proofs.Common.{refl, ap, sym, subst, ◌∙◌, inl, inr}
+use Rattle.std.proofs.Common.{refl, sym, subst, ◌∙◌, inl, inr}
 use Rattle.std.proofs.lemmas.Bool.{true≢false}
 use Rattle.std.proofs.lemmas.List.{append_assoc}
 use Rattle.std.proofs.lemmas.List.Elements.{Contains-append_cases, Contains-append_left, Contains-append_right}
-use Rattle.std.specs.List.{list_all}
 use Rattle.scasp_list.specs.Each.{Each}
 use Rattle.scasp_list.proofs.EachLemmas.{Each-map}
 use Rattle.scasp_list.proofs.MemberLemmas.{Contains-map, Contains-from_map, Contains-single, list_all-from, list_all-member}
 use Rattle.scasp_num.specs.Linear.{Linear, negation}
 use Rattle.scasp_num.specs.declared.linear.Coeff.{Coeff}
 use Rattle.scasp_search_rules.specs.Successors.Regions.{equation}
-use Rattle.scasp_syntax.specs.Constraints.{Entails, Meets, holds}
-use Rattle.scasp_syntax.specs.Values.{Sub}
+use Rattle.scasp_syntax.specs.Constraints.{Entails, holds}
 use Rattle.scasp_syntax.specs.declared.con.Con.{Con}
 use Rattle.scasp_syntax.specs.declared.con.Con.TheVariants as con
 use Rattle.scasp_syntax.specs.declared.term.Term.TheVariants.{Var}

@@ -5,12 +5,12 @@ use Rattle.std.proofs.Common.{refl, ap, sym, subst, ◌∙◌, inl, inr, ◌⊎�
 use Rattle.std.proofs.lemmas.Bool.{true≢false, and_parts}
 use Rattle.std.proofs.lemmas.List.Elements.{Contains-append_cases, Contains-append_left, Contains-append_right}
 use Rattle.scasp_list.specs.Each.{Each}
-use Rattle.scasp_list.proofs.MemberLemmas.{Contains-here, Contains-single, list_all-from, list_all-member}
+use Rattle.scasp_list.proofs.MemberLemmas.{Contains-single, list_all-from, list_all-member}
 use Rattle.scasp_search_rules.specs.Successors.Regions.{equation}
-use Rattle.scasp_syntax.specs.Constraints.{Entails, Meets, Sat, holds, is_number}
+use Rattle.scasp_syntax.specs.Constraints.{Entails, holds, is_number}
 use Rattle.scasp_syntax.specs.Same.{same_tm}
 use Rattle.scasp_syntax.specs.Tm.{Tm, var, num, app}
-use Rattle.scasp_syntax.specs.Values.{Sub, Valuation, under}
+use Rattle.scasp_syntax.specs.Values.{Sub, under}
 use Rattle.scasp_syntax.specs.View.{tm_of}
 use Rattle.scasp_syntax.specs.declared.con.Con.{Con}
 use Rattle.scasp_syntax.specs.declared.con.Con.TheVariants as con

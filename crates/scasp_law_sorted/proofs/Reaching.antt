@@ -1,20 +1,18 @@
 -- States that come of the start by states without universal variables.
-use Rattle.std.specs.Prelude.{◌≡◌, ◌↔◌, ◌⊎◌, ℕ, Bool, true, false, List, [], ◌∷◌, ◌++◌, length, map, replicate, ⊤}
-use Rattle.std.specs.List.{Contains, list_any}
+use Rattle.std.specs.Prelude.{◌≡◌, ◌↔◌, ℕ, Bool, true, false, List, [], ◌∷◌, length}
 use Rattle.std.proofs.Common.{refl, ap, sym, subst, ◌∙◌}
 use Rattle.std.proofs.lemmas.Bool.{true≢false}
 use Rattle.scasp_hint.specs.Satisfying.{sat}
 use Rattle.scasp_hint.proofs.SatisfyingLemmas.{sat-sorted}
 use Rattle.scasp_list.specs.Each.{Each}
 use Rattle.scasp_list.proofs.EachLemmas.{Each-map}
-use Rattle.scasp_list.proofs.MemberLemmas.{Contains-here, list_any-none_from, list_any-none_member}
+use Rattle.scasp_list.proofs.MemberLemmas.{list_any-none_from, list_any-none_member}
 use Rattle.scasp_search_rules.specs.declared.states.covers.Cover.{Cover}
 use Rattle.scasp_search_rules.specs.declared.states.state.Made.{Made}
 use Rattle.scasp_search_rules.specs.declared.states.state.State.{State}
 use Rattle.scasp_search_rules.specs.declared.states.tasks.Task.{Task}
 use Rattle.scasp_search_rules.specs.declared.states.tasks.Task.TheVariants as task
 use Rattle.scasp_search_rules.specs.Successors.Problems.{Problem}
-use Rattle.scasp_search_rules.specs.Successors.Regions.{asked_with}
 use Rattle.scasp_search_rules.specs.declared.states.state.Kind.TheVariants.{Existential}
 use Rattle.scasp_search_rules.specs.Successors.Reading.{among}
 use Rattle.scasp_search_rules.specs.Successors.Search.{nothing, search_for, start, step}
@@ -33,10 +31,10 @@ use Rattle.scasp_law_first_event.proofs.EachStates.{each-state}
 use Rattle.scasp_law_first_event.proofs.Unnegated.{Plain, follows}
 use Rattle.scasp_law_no_circle.proofs.Reaching.{Known, known}
 use Rattle.scasp_law_no_circle.proofs.Scope.{Holds, Scoped}
-use Rattle.scasp_law_no_circle.proofs.Tasks.{Waiting, Front, plain, assumes, numbers, differs, becomes, avoids, shapes, begins, NoRow}
+use Rattle.scasp_law_no_circle.proofs.Tasks.{Waiting, Front, plain, assumes, numbers, differs, becomes, avoids, shapes, begins}
 use Rattle.scasp_law_sorted.specs.Asking.{ComesPlainly, begins as at_start, goes_on, has_universal_made, asked_next}
 use Rattle.scasp_law_sorted.proofs.Evenness.{Tame, tame-at, Even, even-new, Settled, Asks}
-use Rattle.scasp_law_sorted.proofs.Walking.{Unowned, FirstTested, FirstNoBeginning, NoBeginning, step-settled, step-even}
+use Rattle.scasp_law_sorted.proofs.Walking.{Unowned, FirstTested, FirstNoBeginning, step-settled, step-even}
 
 -- ---- what the first task is
 

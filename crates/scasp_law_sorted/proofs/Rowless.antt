@@ -1,5 +1,5 @@
 -- States without rows: what is assumed, and what a case is parted by, makes none.
-use Rattle.std.specs.Prelude.{◌≡◌, ℕ, suc, nat_eq, Bool, true, false, not, if◌then◌else◌, Option, Some, None, List, [], ◌∷◌, ◌++◌, length, map, reverse, ⊤}
+use Rattle.std.specs.Prelude.{◌≡◌, ℕ, zero, suc, nat_eq, Bool, true, false, not, if◌then◌else◌, Option, Some, None, List, [], ◌∷◌, ◌++◌, map, reverse, ⊤}
 use Rattle.std.specs.List.{Contains, flat_map}
 use Rattle.std.proofs.Common.{refl, sym, subst, ◌∙◌, inl, inr, ◌⊎◌}
 use Rattle.std.proofs.lemmas.Bool.{true≢false}
@@ -9,7 +9,8 @@ use Rattle.scasp_list.specs.Each.{Each}
 use Rattle.scasp_list.proofs.EachLemmas.{Each-append, Each-map}
 use Rattle.scasp_list.proofs.MemberLemmas.{Contains-from_map, list_all-from}
 use Rattle.scasp_search_rules.specs.declared.states.covers.Cover.{Cover}
-use Rattle.scasp_search_rules.specs.declared.states.covers.Remainder.{Remainder}
+use Rattle.scasp_search_rules.specs.declared.states.lines.Line.{Line}
+use Rattle.scasp_search_rules.specs.declared.states.lines.Line.TheVariants as line
 use Rattle.scasp_search_rules.specs.declared.states.outcomes.Parting.{Parting}
 use Rattle.scasp_search_rules.specs.declared.states.outcomes.Status.{Status}
 use Rattle.scasp_search_rules.specs.declared.states.outcomes.Status.TheVariants.{Entailed, Impossible, Added, Parts}
@@ -19,12 +20,12 @@ use Rattle.scasp_search_rules.specs.declared.states.tasks.Task.TheVariants as ta
 use Rattle.scasp_search_rules.specs.Successors.Assumptions.{against, along, as_read, asked_for, assume, assume_all, judges, performed, status}
 use Rattle.scasp_search_rules.specs.Successors.Falls.{EachState}
 use Rattle.scasp_search_rules.specs.Successors.Reading.{con_under, holds_always, not_shaped, term_under}
-use Rattle.scasp_search_rules.specs.Successors.Regions.{asked_with, context, equation, regions}
-use Rattle.scasp_search_rules.specs.Successors.Splits.{at_depth, cover_parted, equation_parting, owner, parted, split, split_at}
+use Rattle.scasp_search_rules.specs.Successors.Regions.{context, equation, regions}
+use Rattle.scasp_search_rules.specs.Successors.Splits.{at_depth, cover_parted, equation_parting, owner, parted, shape_line, split, split_at}
 use Rattle.scasp_search_rules.specs.Successors.Variables.{is_empty, meaning, next_variable, universals_of}
 use Rattle.scasp_syntax.specs.Constraints.{has_shape}
 use Rattle.scasp_syntax.specs.Same.{same_tm}
-use Rattle.scasp_syntax.specs.Tm.{Tm, var, num, app, nil, cons}
+use Rattle.scasp_syntax.specs.Tm.{Tm, Tms, var, num, app, nil, cons}
 use Rattle.scasp_syntax.specs.Values.{Sub}
 use Rattle.scasp_syntax.specs.View.{tm_of}
 use Rattle.scasp_syntax.specs.declared.clause.FlatItem.{FlatItem}
@@ -34,7 +35,7 @@ use Rattle.scasp_syntax.specs.declared.con.Con.TheVariants as con
 use Rattle.scasp_syntax.specs.declared.term.Term.{Term}
 use Rattle.scasp_syntax.specs.declared.term.Term.TheVariants.{Var, Num, App}
 use Rattle.scasp_syntax.proofs.SameLemmas.{tm_decided}
-use Rattle.scasp_unify.specs.Negations.{negated}
+use Rattle.scasp_unify.specs.Negations.{negated, new_parts}
 use Rattle.scasp_unify.specs.Parts.{Part, parts}
 use Rattle.scasp_unify.specs.SimpleForm.{by_parts, one_part, simple, term_with}
 use Rattle.scasp_unify.specs.Sorted.{Sorted, typed, is_typed_con}
@@ -67,8 +68,21 @@ given-no_row (con.NotNum t) h = tt
 pub all-no_row : (gs : List Con) → Each GivenPlain gs → Each NoRow gs
 all-no_row gs h = Each-map GivenPlain NoRow given-no_row gs h
 
+abbrev pub LineRowless : Line → Type 0
+LineRowless (line.Test c) = NoRow c
+LineRowless (line.Split c parts) = NoRow c
+LineRowless (line.Pos a k ts n) = ⊤
+LineRowless (line.Neg a n) = ⊤
+LineRowless (line.Loop l at) = ⊤
+LineRowless (line.Seen l at) = ⊤
+LineRowless (line.Rule a k first) = ⊤
+LineRowless (line.Check k first) = ⊤
+LineRowless line.Void = ⊤
+LineRowless (line.Leaf k) = ⊤
+LineRowless (line.Head n) = ⊤
+
 abbrev pub CoverRowless : Cover → Type 0
-CoverRowless c = Each NoRow c.region × Each (λ r. Each NoRow r.region) c.waiting
+CoverRowless c = Each NoRow c.region × Each (λ r. Each NoRow r.region) c.waiting × Each LineRowless c.before
 
 abbrev pub ItemRowless : FlatItem → Type 0
 ItemRowless (flat.Call l) = ⊤
@@ -89,17 +103,21 @@ TaskRowless task.Void = ⊤
 TaskRowless task.Leave = ⊤
 TaskRowless task.Close = ⊤
 
-pub record RowlessAt (gs : List Con) (cs : List Cover) (ws : List Task) : Type 0 where
+pub record RowlessAt (gs : List Con) (cs : List Cover) (ws : List Task) (ls : List Line) : Type 0 where
   pub given : Each GivenPlain gs
   pub covers : Each CoverRowless cs
   pub work : Each TaskRowless ws
+  pub lines : Each LineRowless ls
 
 -- nothing that is given, that holds in a case or waits, and nothing that is to be shown, is a row; and nothing that is given is an equation
 abbrev pub Rowless : State → Type 0
-Rowless s = RowlessAt s.given s.covers s.work
+Rowless s = RowlessAt s.given s.covers s.work s.lines
 
-pub front : (ts : List Task) → Each TaskRowless ts → (gs : List Con) (cs : List Cover) (ws : List Task) → RowlessAt gs cs ws → RowlessAt gs cs (ts ++ ws)
-front ts h gs cs ws e = record { given = e.given; covers = e.covers; work = Each-append TaskRowless ts ws h e.work }
+pub front : (ts : List Task) → Each TaskRowless ts → (gs : List Con) (cs : List Cover) (ws : List Task) (ls : List Line) → RowlessAt gs cs ws ls → RowlessAt gs cs (ts ++ ws) ls
+front ts h gs cs ws ls e = record { given = e.given; covers = e.covers; work = Each-append TaskRowless ts ws h e.work; lines = e.lines }
+
+pub lined : (l : Line) → LineRowless l → (gs : List Con) (cs : List Cover) (ws : List Task) (ls : List Line) → RowlessAt gs cs ws ls → RowlessAt gs cs ws (ls ++ l ∷ [])
+lined l h gs cs ws ls e = record { given = e.given; covers = e.covers; work = e.work; lines = Each-append LineRowless ls (l ∷ []) e.lines (h, tt) }
 
 -- ---- lists
 
@@ -128,33 +146,41 @@ context-rowless s e = Each-append NoRow s.given (regions s.covers) (all-no_row s
 -- ---- splits
 
 abbrev PartingRowless : Parting → Type 0
-PartingRowless p = NoRow p.here × NoRow p.there
+PartingRowless p = NoRow p.here × NoRow p.there × NoRow p.line
 
 equation-parted : (t u : Term) → PartingRowless (equation_parting t u)
-equation-parted (Var x) (App f ts) = (tt, tt)
-equation-parted (Var x) (Var y) = (tt, tt)
-equation-parted (Var x) (Num q) = (tt, tt)
-equation-parted (Num q) t = (tt, tt)
-equation-parted (App f ts) t = (tt, tt)
+equation-parted (Var x) (App f ts) = (tt, tt, tt)
+equation-parted (Var x) (Var y) = (tt, tt, tt)
+equation-parted (Var x) (Num q) = (tt, tt, tt)
+equation-parted (Num q) t = (tt, tt, tt)
+equation-parted (App f ts) t = (tt, tt, tt)
+
+shape-lined : (x f n : ℕ) (ts : Tms) → NoRow (shape_line x f n ts)
+shape-lined x f zero ts = tt
+shape-lined x f (suc n) ts = tt
 
 parted-rowless : (k : ℕ) (c : Con) → NoRow c → PartingRowless (parted k c)
 parted-rowless k (con.Row r) n = absurd n
 parted-rowless k (con.Eq t u) n = equation-parted t u
-parted-rowless k (con.NotShape x f j) n = (tt, tt)
-parted-rowless k (con.Neq t u) n = (tt, tt)
-parted-rowless k (con.Num t) n = (tt, tt)
-parted-rowless k (con.NotNum t) n = (tt, tt)
+parted-rowless k (con.NotShape x f j) n = (tt, tt, shape-lined x f j (new_parts k j))
+parted-rowless k (con.Neq t u) n = (tt, tt, tt)
+parted-rowless k (con.Num t) n = (tt, tt, tt)
+parted-rowless k (con.NotNum t) n = (tt, tt, tt)
 
 parted-covers : (p : Parting) → PartingRowless p → (bound : List Binding) (d : ℕ) (cs : List Cover) → Each CoverRowless cs → Each CoverRowless (at_depth d (cover_parted p bound) cs)
 parted-covers p n bound d [] h = tt
 parted-covers p n bound d (c ∷ cs) h = (by (nat_eq c.depth d), parted-covers p n bound d cs h.1)
   where
     by : (b : Bool) → CoverRowless (if b then cover_parted p bound c else c)
-    by true = (Each-append NoRow c.region (p.here ∷ []) h.0.0 (n.0, tt), (Each-append NoRow c.region (p.there ∷ []) h.0.0 (n.1, tt), h.0.1))
+    by true = (
+      Each-append NoRow c.region (p.here ∷ []) h.0.0 (n.0, tt),
+      (Each-append NoRow c.region (p.there ∷ []) h.0.0 (n.1, tt), h.0.1),
+      Each-append LineRowless c.before (line.Split p.line (p.parts_here ++ p.parts_there) ∷ []) h.0.2 (n.2, tt),
+    )
     by false = h.0
 
 pub split-at-rowless : (s : State) (d : ℕ) (c : Con) → NoRow c → Rowless s → Rowless (split_at s d c)
-split-at-rowless s d c n e = record { given = e.given; covers = parted-covers (parted (next_variable s) c) (parted-rowless (next_variable s) c n) s.bound d s.covers e.covers; work = e.work }
+split-at-rowless s d c n e = record { given = e.given; covers = parted-covers (parted (next_variable s) c) (parted-rowless (next_variable s) c n) s.bound d s.covers e.covers; work = e.work; lines = e.lines }
 
 split-rowless : (s : State) (c : Con) → NoRow c → Rowless s → Rowless (split s c)
 split-rowless s (con.Row r) n e = absurd n
@@ -237,7 +263,7 @@ module _ (sat : List Con → Bool) (s : State) (e : Rowless s) (c : Con) (n : Gi
       by : (o : Status) → status sat s c ≡ o → EachState Rowless (performed s (as_read s c) o)
       by Entailed f = (e, tt)
       by Impossible f = tt
-      by Added f = (record { given = Each-append GivenPlain s.given (as_read s c ∷ []) e.given (read f, tt); covers = e.covers; work = e.work }, tt)
+      by Added f = (record { given = Each-append GivenPlain s.given (as_read s c ∷ []) e.given (read f, tt); covers = e.covers; work = e.work; lines = e.lines }, tt)
       by Parts f = (split-rowless s (as_read s c) (plain-read s c (given-no_row c n)) e, tt)
 
 pub all-rowless : (sat : List Con → Bool) (cs : List Con) → Each GivenPlain cs → (s : State) → Rowless s → Asks Rowless (assume_all sat cs s)

@@ -1,7 +1,7 @@
 -- Each step from a state without rows asks lists without rows, and gives states without rows.
-use Rattle.std.specs.Prelude.{◌≡◌, ℕ, zero, suc, Bool, true, false, ◌&&◌, not, max, min, nat_le, if◌then◌else◌, Option, Some, None, List, [], ◌∷◌, ◌++◌, length, map, filter, ⊤}
+use Rattle.std.specs.Prelude.{◌≡◌, ℕ, zero, suc, Bool, true, false, ◌&&◌, not, max, min, nat_le, if◌then◌else◌, Option, Some, None, List, [], ◌∷◌, ◌++◌, length, map, filter}
 use Rattle.std.specs.List.{list_all}
-use Rattle.std.proofs.Common.{refl, sym, subst}
+use Rattle.std.proofs.Common.{refl, sym}
 use Rattle.scasp_list.specs.Each.{Each}
 use Rattle.scasp_list.proofs.EachLemmas.{Each-append, Each-at}
 use Rattle.scasp_num.specs.Number.{Number}
@@ -22,13 +22,13 @@ use Rattle.scasp_search_rules.specs.declared.states.tasks.Task.{Task}
 use Rattle.scasp_search_rules.specs.declared.states.tasks.Task.TheVariants as task
 use Rattle.scasp_search_rules.specs.Successors.Assumptions.{assume, assume_all, status}
 use Rattle.scasp_search_rules.specs.Successors.Calls.{ancestors, at_number, by_no_rule, by_rule, call, can_be_seen, differing, entered, finished, head_args, judged, left, looped, marked, moved, nearest, opposites, unrepeated, vars_of_clause}
-use Rattle.scasp_search_rules.specs.Successors.Cases.{after_case, begin_cases, cases_of, cases_where, close_case, cover_for, ended_case, failing_at, head_call, leaf_at, remaining, taken_up, unbound_of, with_cover, with_head, with_items}
+use Rattle.scasp_search_rules.specs.Successors.Cases.{after_case, begin_cases, cases_of, cases_where, close_case, cover_for, ended_case, failing_at, head_call, leaf_at, line_under, remaining, taken_up, unbound_of, with_cover, with_head, with_items}
 use Rattle.scasp_search_rules.specs.Successors.Differences.{alternatives, at_part, differ_first, differ_number, differ_pair, differ_pairs, differ_shape, differ_variables, is_matched, part_of_variables, stands_first, take_up, when_apart, when_same}
-use Rattle.scasp_search_rules.specs.Successors.Equations.{becomes_number, becomes_shape, bound_if, equate_pairs, equated, equations, equations_of, is_inside, mixed, replaced_if, two_existentials, two_universals, two_variables, variable_app, variable_number}
+use Rattle.scasp_search_rules.specs.Successors.Equations.{becomes_number, becomes_shape, bound_if, equate_pairs, equated, equations, equations_of, is_inside, mixed, replaced_if, two_universals, two_variables, variable_app, variable_number}
 use Rattle.scasp_search_rules.specs.Successors.Falls.{EachState}
-use Rattle.scasp_search_rules.specs.Successors.Items.{body_of, item_raised, items_of, number_tests, opposite_item, test_item, with_line}
+use Rattle.scasp_search_rules.specs.Successors.Items.{body_of, item_raised, items_of, opposite_item, test_item, with_line}
 use Rattle.scasp_search_rules.specs.Successors.Pairs.{from_first, pairs, pairs_of}
-use Rattle.scasp_search_rules.specs.Successors.Reading.{count_from}
+use Rattle.scasp_search_rules.specs.Successors.Reading.{con_under, count_from}
 use Rattle.scasp_search_rules.specs.Successors.Regions.{asked_with, before, context, is_constrained}
 use Rattle.scasp_search_rules.specs.Successors.Search.{done, step_at}
 use Rattle.scasp_search_rules.specs.Successors.Splits.{split_at}
@@ -37,7 +37,7 @@ use Rattle.scasp_search_rules.specs.Successors.Variables.{bind, depth_of, is_emp
 use Rattle.scasp_syntax.specs.Flat.{flat_after, flat_body}
 use Rattle.scasp_syntax.specs.Programs.{numbered, rules_of, pred_of}
 use Rattle.scasp_syntax.specs.Tm.{Tm, Tms, var, num, app, items}
-use Rattle.scasp_syntax.specs.Values.{under}
+use Rattle.scasp_syntax.specs.Values.{Sub, under}
 use Rattle.scasp_syntax.specs.View.{tm_of}
 use Rattle.scasp_syntax.specs.declared.atom.Atom.{Atom}
 use Rattle.scasp_syntax.specs.declared.atom.Lit.{Lit}
@@ -53,14 +53,13 @@ use Rattle.scasp_syntax.specs.declared.term.Term.TheVariants.{Var}
 use Rattle.scasp_unify.specs.Negations.{new_parts}
 use Rattle.scasp_unify.specs.Parts.{occurs_among}
 use Rattle.scasp_unify.specs.SimpleForm.{differ, term_with}
-use Rattle.scasp_unify.specs.Sorted.{Sorted}
 use Rattle.scasp_law_first_event.proofs.Calls.{each-of}
 use Rattle.scasp_law_first_event.proofs.EachStates.{each_append, each_only_if}
 use Rattle.scasp_law_no_circle.proofs.Tasks.{NoRow}
 use Rattle.scasp_law_sorted.specs.Asking.{is_item_rowless}
-use Rattle.scasp_law_sorted.proofs.Assuming.{plain-negated}
+use Rattle.scasp_law_sorted.proofs.Assuming.{plain-negated, plain-shaped}
 use Rattle.scasp_law_sorted.proofs.Evenness.{Asks, asks-goes, asks-fails, asks-gives, asks-each, asks-followed}
-use Rattle.scasp_law_sorted.proofs.Rowless.{CoverRowless, GivenPlain, ItemRowless, all-no_row, TaskRowless, Rowless, RowlessAt, front, rowless-sorted, context-rowless, split-at-rowless, rowless-asked, rowless-assumed, all-rowless}
+use Rattle.scasp_law_sorted.proofs.Rowless.{CoverRowless, GivenPlain, ItemRowless, LineRowless, all-no_row, lined, TaskRowless, Rowless, RowlessAt, front, rowless-sorted, context-rowless, split-at-rowless, rowless-asked, rowless-assumed, all-rowless}
 
 -- ---- tasks
 
@@ -123,6 +122,33 @@ head-rowless (Some c) first = by c.head
     by : (o : Option Atom) → Each ItemRowless (head_call (Some (record c { head = o })) first)
     by None = tt
     by (Some a) = (tt, tt)
+
+-- ---- lines
+
+pub plain-under : (v : Sub) (c : Con) → NoRow c → NoRow (con_under v c)
+plain-under v (con.Row r) n = absurd n
+plain-under v (con.Eq t u) n = tt
+plain-under v (con.Neq t u) n = tt
+plain-under v (con.NotShape x f k) n = plain-shaped (v x) f k
+plain-under v (con.Num t) n = tt
+plain-under v (con.NotNum t) n = tt
+
+line-under : (s : State) (l : Line) → LineRowless l → LineRowless (line_under s l)
+line-under s (line.Test c) h = plain-under (meaning s) c h
+line-under s (line.Split c parts) h = plain-under (meaning s) c h
+line-under s (line.Pos a k ts n) h = tt
+line-under s (line.Neg a n) h = tt
+line-under s (line.Loop l at) h = tt
+line-under s (line.Seen l at) h = tt
+line-under s (line.Rule a k first) h = tt
+line-under s (line.Check k first) h = tt
+line-under s line.Void h = tt
+line-under s (line.Leaf k) h = tt
+line-under s (line.Head n) h = tt
+
+pub lines-under : (s : State) (ls : List Line) → Each LineRowless ls → Each LineRowless (map (line_under s) ls)
+lines-under s [] h = tt
+lines-under s (l ∷ ls) h = (line-under s l h.0, lines-under s ls h.1)
 
 -- ---- equations
 
@@ -191,7 +217,7 @@ module _ (sat : List Con → Bool) (s : State) (e : Rowless s) where
       by true = asks-fails Rowless
       by false =
           asks-each Rowless Rowless (before (equations parts ts)) (becomes_shape sat s x f (length (items ts)))
-          (λ r k. front (equations parts ts) (equations-rowless (pairs parts ts)) r.given r.covers r.work k) (shape-rowless x f (length (items ts)))
+          (λ r k. front (equations parts ts) (equations-rowless (pairs parts ts)) r.given r.covers r.work r.lines k) (shape-rowless x f (length (items ts)))
 
   terms-rowless : (t u : Tm) → Asks Rowless (equated sat s t u)
   terms-rowless (var x) (var y) = variables-rowless sat s e x y (is_universal s x) (is_universal s y)
@@ -206,13 +232,13 @@ module _ (sat : List Con → Bool) (s : State) (e : Rowless s) where
 
 pairs-rowless : (sat : List Con → Bool) (s : State) → Rowless s → (ps : List Pair) → Asks Rowless (equate_pairs sat s ps)
 pairs-rowless sat s e [] = asks-goes Rowless s e
-pairs-rowless sat s e (o ∷ ps) = terms-rowless sat (before (equations_of ps) s) (front (equations_of ps) (equations-rowless ps) s.given s.covers s.work e) (tm_of o.left) (tm_of o.right)
+pairs-rowless sat s e (o ∷ ps) = terms-rowless sat (before (equations_of ps) s) (front (equations_of ps) (equations-rowless ps) s.given s.covers s.work s.lines e) (tm_of o.left) (tm_of o.right)
 
 -- ---- telling apart
 
 module _ (sat : List Con → Bool) (s : State) (e : Rowless s) where
   ahead : (ts : List Task) → Each TaskRowless ts → Rowless (before ts s)
-  ahead ts h = front ts h s.given s.covers s.work e
+  ahead ts h = front ts h s.given s.covers s.work s.lines e
 
   apart-rowless : (aim : Aim) → Each TaskRowless (when_apart aim)
   apart-rowless aims.Test = tt
@@ -309,12 +335,13 @@ module _ (p : Program) (all : AllRowless p) where
         (Each-append TaskRowless (equations l.atom.args (head_args p k (next_variable s)) ++ map task.Show (body_of p k (next_variable s))) (task.Leave ∷ [])
         (Each-append TaskRowless (equations l.atom.args (head_args p k (next_variable s))) (map task.Show (body_of p k (next_variable s))) (equations-rowless (pairs l.atom.args (head_args p k (next_variable s))))
         (shows-rowless (body_of p k (next_variable s)) (body-rowless k (next_variable s))))
-        (tt, tt)) s.given s.covers s.work e
+        (tt, tt)) s.given s.covers s.work (s.lines ++ line.Pos l.atom k (new_parts (next_variable s) (vars_of_clause p k)) (length (body_of p k (next_variable s))) ∷ [])
+        (lined (line.Pos l.atom k (new_parts (next_variable s) (vars_of_clause p k)) (length (body_of p k (next_variable s)))) tt s.given s.covers s.work s.lines e)
 
     no-rule-rowless : (l : Lit) → Rowless (by_no_rule p s l)
     no-rule-rowless l =
         front (map (task.Cover l.atom) (rules_of p (pred_of l.atom)) ++ task.Leave ∷ [])
-        (Each-append TaskRowless (map (task.Cover l.atom) (rules_of p (pred_of l.atom))) (task.Leave ∷ []) (covers-rowless l.atom (rules_of p (pred_of l.atom))) (tt, tt)) s.given s.covers s.work e
+        (Each-append TaskRowless (map (task.Cover l.atom) (rules_of p (pred_of l.atom))) (task.Leave ∷ []) (covers-rowless l.atom (rules_of p (pred_of l.atom))) (tt, tt)) s.given s.covers s.work (s.lines ++ line.Neg l.atom (length (rules_of p (pred_of l.atom))) ∷ []) (lined (line.Neg l.atom (length (rules_of p (pred_of l.atom)))) tt s.given s.covers s.work s.lines e)
 
     entered-rowless : (l : Lit) → EachState Rowless (entered p s l)
     entered-rowless l = by l.positive
@@ -326,12 +353,15 @@ module _ (p : Program) (all : AllRowless p) where
     looped-rowless : (l : Lit) (r : Repeated) → EachState Rowless (looped s l r)
     looped-rowless l r = by (not l.positive) r.is_behind_negation
       where
+        told : Rowless (with_line s (line.Loop l r.number))
+        told = lined (line.Loop l r.number) tt s.given s.covers s.work s.lines e
+
         marks : (as_open : List Literal) → Rowless (marked as_open (with_line s (line.Loop l r.number)))
-        marks [] = e
-        marks (a ∷ rest) = e
+        marks [] = lined (line.Loop l r.number) tt s.given s.covers s.work s.lines e
+        marks (a ∷ rest) = lined (line.Loop l r.number) tt s.given s.covers s.work s.lines e
 
         by : (a b : Bool) → EachState Rowless (if a then with_line s (line.Loop l r.number) ∷ [] else (if b then marked (ancestors s) (with_line s (line.Loop l r.number)) ∷ [] else []))
-        by true b = (e, tt)
+        by true b = (told, tt)
         by false true = (marks (ancestors s), tt)
         by false false = tt
 
@@ -359,7 +389,7 @@ module _ (p : Program) (all : AllRowless p) where
         fresh [] =
             asks-followed Rowless Rowless (assume_all sat (map (differing l) (opposites s l)) s) (λ t. gives (entered p t l)) (all-rowless sat (map (differing l) (opposites s l)) (all-plain l (opposites s l)) s e)
             (λ t k. asks-gives Rowless (entered p t l) (entered-rowless t k l))
-        fresh (a ∷ ls) = asks-goes Rowless (with_line s (line.Seen l a.number)) e
+        fresh (a ∷ ls) = asks-goes Rowless (with_line s (line.Seen l a.number)) (lined (line.Seen l a.number) tt s.given s.covers s.work s.lines e)
 
         by : (o : Option Repeated) → Asks Rowless (judged p sat s l o)
         by (Some r) = asks-gives Rowless (looped s l r) (looped-rowless s e l r)
@@ -367,12 +397,14 @@ module _ (p : Program) (all : AllRowless p) where
 
     -- ---- cases
 
-    items-shown : (l : Line) (is : List FlatItem) → Each ItemRowless is → Rowless (with_items s l is)
-    items-shown l is h = front (map task.Show is ++ task.Close ∷ []) (Each-append TaskRowless (map task.Show is) (task.Close ∷ []) (shows-rowless is h) (tt, tt)) s.given s.covers s.work e
+    items-shown : (l : Line) → LineRowless l → (is : List FlatItem) → Each ItemRowless is → Rowless (with_items s l is)
+    items-shown l n is h =
+        front (map task.Show is ++ task.Close ∷ []) (Each-append TaskRowless (map task.Show is) (task.Close ∷ []) (shows-rowless is h) (tt, tt)) s.given s.covers s.work (s.lines ++ l ∷ [])
+        (lined l n s.given s.covers s.work s.lines e)
 
     head-shown : (body is : List FlatItem) → Each ItemRowless body → Each ItemRowless is → EachState Rowless (with_head s body is)
     head-shown body [] b h = tt
-    head-shown body (i ∷ is) b h = (items-shown (line.Head (suc (length body))) (body ++ i ∷ []) (Each-append ItemRowless body (i ∷ []) b (h.0, tt)), tt)
+    head-shown body (i ∷ is) b h = (items-shown (line.Head (suc (length body))) tt (body ++ i ∷ []) (Each-append ItemRowless body (i ∷ []) b (h.0, tt)), tt)
 
     cases-rowless : (c : Cover) → Asks Rowless (cases_of p sat s c)
     cases-rowless c = record { asked = (rowless-sorted s.bound (context s) (context-rowless s e), tt); states = by (sat (asked_with s (context s))) }
@@ -387,14 +419,14 @@ module _ (p : Program) (all : AllRowless p) where
         by : (d : Bool) → EachState Rowless (cases_where d p s c)
         by true =
             each_append Rowless (map (leaf_at s (body_of p c.clause c.first)) (count_from 0 (length (body_of p c.clause c.first)))) _
-            (each-of Rowless (leaf_at s (body_of p c.clause c.first)) (λ k. items-shown (line.Leaf (suc k)) (failing_at k (body_of p c.clause c.first)) (failing-rowless k (body_of p c.clause c.first) b))
+            (each-of Rowless (leaf_at s (body_of p c.clause c.first)) (λ k. items-shown (line.Leaf (suc k)) tt (failing_at k (body_of p c.clause c.first)) (failing-rowless k (body_of p c.clause c.first) b))
             (count_from 0 (length (body_of p c.clause c.first)))) (last c.checks_head)
-        by false = (front (task.Close ∷ []) (tt, tt) s.given s.covers s.work e, tt)
+        by false = (front (task.Close ∷ []) (tt, tt) s.given s.covers s.work (s.lines ++ line.Void ∷ []) (lined line.Void tt s.given s.covers s.work s.lines e), tt)
 
   begin-rowless : (sat : List Con → Bool) (s : State) → Rowless s → (k first : ℕ) (checks_head : Bool) → Asks Rowless (begin_cases p sat s k first checks_head)
   begin-rowless sat s e k first checks_head =
       let c : Cover = cover_for p s k first checks_head (unbound_of s first (vars_of_clause p k)) in
-      cases-rowless sat (with_cover s c) (record { given = e.given; covers = ((tt, tt), e.covers); work = e.work }) c
+      cases-rowless sat (with_cover s c) (record { given = e.given; covers = ((tt, tt, e.lines), e.covers); work = e.work; lines = tt }) c
 
   close-rowless : (sat : List Con → Bool) (s : State) → Rowless s → Asks Rowless (close_case p sat s s.covers)
   close-rowless sat s e = by s.covers e.covers
@@ -403,35 +435,40 @@ module _ (p : Program) (all : AllRowless p) where
       by [] h = asks-fails Rowless
       by (c ∷ cs) h = after c.waiting h.0.1
         where
+          kept : Each LineRowless (c.before ++ map (line_under s) s.lines)
+          kept = Each-append LineRowless c.before (map (line_under s) s.lines) h.0.2 (lines-under s s.lines e.lines)
+
           after : (rs : List Remainder) → Each (λ r. Each NoRow r.region) rs → Asks Rowless (after_case p sat s c cs rs)
-          after [] k = asks-goes Rowless (record (ended_case s c []) { covers = cs }) record { given = e.given; covers = h.1; work = e.work }
+          after [] k = asks-goes Rowless (record (ended_case s c []) { covers = cs }) record { given = e.given; covers = h.1; work = e.work; lines = kept }
           after (r ∷ rs) k =
               let t : State = ended_case s c r.replaced in
               let d : Cover = remaining c r rs t.cases t.lines in
-              cases-rowless sat (taken_up t r d cs) (record { given = e.given; covers = ((k.0, k.1), h.1); work = e.work }) d
+              cases-rowless sat (taken_up t r d cs) (record { given = e.given; covers = ((k.0, k.1, kept), h.1); work = e.work; lines = tt }) d
 
   -- ---- tasks
 
   done-rowless : (sat : List Con → Bool) (s : State) → Rowless s → (t : Task) → TaskRowless t → Asks Rowless (done p sat s t)
   done-rowless sat s e (task.Show (flat.Call l)) n = call-rowless sat s e l
-  done-rowless sat s e (task.Show (flat.Test c)) n = item-rowless sat (with_line s (line.Test c)) e c n
+  done-rowless sat s e (task.Show (flat.Test c)) n = item-rowless sat (with_line s (line.Test c)) (lined (line.Test c) n s.given s.covers s.work s.lines e) c n
   done-rowless sat s e (task.Equate t u) n = pairs-rowless sat s e (pairs_of (under (meaning s) (tm_of t)) (under (meaning s) (tm_of u)))
   done-rowless sat s e (task.Assume c) n = rowless-assumed sat s e c n
   done-rowless sat s e (task.Differ ps aim) n = differ-rowless sat s e (from_first (meaning s) ps) aim
   done-rowless sat s e (task.Become x t ps aim) n =
-      asks-each Rowless Rowless (before (task.Differ ps aim ∷ [])) (equated sat s (var x) (tm_of t)) (λ r k. front (task.Differ ps aim ∷ []) (tt, tt) r.given r.covers r.work k) (terms-rowless sat s e (var x) (tm_of t))
+      asks-each Rowless Rowless (before (task.Differ ps aim ∷ [])) (equated sat s (var x) (tm_of t)) (λ r k. front (task.Differ ps aim ∷ []) (tt, tt) r.given r.covers r.work r.lines k) (terms-rowless sat s e (var x) (tm_of t))
   done-rowless sat s e (task.Avoid x q ps aim) n = part-rowless sat s e (differ (var x) (num q)) tt aim (task.Become x (term_with (num q)) ps aim ∷ []) (tt, tt)
   done-rowless sat s e (task.Shape x f ts ps aim) n =
       asks-each Rowless Rowless (before (task.Differ (pairs (new_parts (next_variable s) (length (items ts))) ts ++ ps) aim ∷ [])) (becomes_shape sat s x f (length (items ts)))
-      (λ r k. front (task.Differ (pairs (new_parts (next_variable s) (length (items ts))) ts ++ ps) aim ∷ []) (tt, tt) r.given r.covers r.work k) (shape-rowless sat s e x f (length (items ts)))
+      (λ r k. front (task.Differ (pairs (new_parts (next_variable s) (length (items ts))) ts ++ ps) aim ∷ []) (tt, tt) r.given r.covers r.work r.lines k) (shape-rowless sat s e x f (length (items ts)))
   done-rowless sat s e (task.Cover a k) n =
-      asks-goes Rowless _ (front (task.Differ (pairs a.args (head_args p k (next_variable s))) (aims.Head k (next_variable s)) ∷ []) (tt, tt) s.given s.covers s.work e)
-  done-rowless sat s e (task.Check k checks_head) n = begin-rowless sat (with_line (with_new s Matched 0 (vars_of_clause p k)) (line.Check k (next_variable s))) e k (next_variable s) checks_head
+      asks-goes Rowless _
+      (front (task.Differ (pairs a.args (head_args p k (next_variable s))) (aims.Head k (next_variable s)) ∷ []) (tt, tt) s.given s.covers s.work (s.lines ++ line.Rule a k (next_variable s) ∷ [])
+      (lined (line.Rule a k (next_variable s)) tt s.given s.covers s.work s.lines e))
+  done-rowless sat s e (task.Check k checks_head) n = begin-rowless sat (with_line (with_new s Matched 0 (vars_of_clause p k)) (line.Check k (next_variable s))) (lined (line.Check k (next_variable s)) tt s.given s.covers s.work s.lines e) k (next_variable s) checks_head
   done-rowless sat s e (task.Begin k first checks_head) n = begin-rowless sat s e k first checks_head
-  done-rowless sat s e task.Void n = asks-goes Rowless (with_line s line.Void) e
+  done-rowless sat s e task.Void n = asks-goes Rowless (with_line s line.Void) (lined line.Void tt s.given s.covers s.work s.lines e)
   done-rowless sat s e task.Leave n = asks-goes Rowless (left (ancestors s) s) (left-rowless s e (ancestors s))
   done-rowless sat s e task.Close n = close-rowless sat s e
 
-  pub step-rowless : (sat : List Con → Bool) (s : State) (ts : List Task) → RowlessAt s.given s.covers ts → Asks Rowless (step_at p sat s ts)
+  pub step-rowless : (sat : List Con → Bool) (s : State) (ts : List Task) → RowlessAt s.given s.covers ts s.lines → Asks Rowless (step_at p sat s ts)
   step-rowless sat s [] e = asks-fails Rowless
-  step-rowless sat s (t ∷ ts) e = done-rowless sat (record s { work = ts }) (record { given = e.given; covers = e.covers; work = e.work.1 }) t e.work.0
+  step-rowless sat s (t ∷ ts) e = done-rowless sat (record s { work = ts }) (record { given = e.given; covers = e.covers; work = e.work.1; lines = e.lines }) t e.work.0

@@ -1,13 +1,12 @@
 -- Each step from a state in which no variable is universal asks sorted lists, and what is given stays sorted.
 use Rattle.std.specs.Prelude.{◌≡◌, ℕ, Bool, true, false, ◌&&◌, ◌||◌, not, max, min, if◌then◌else◌, Option, Some, None, List, [], ◌∷◌, ◌++◌, length, map, filter, reverse, ⊤}
-use Rattle.std.specs.List.{Contains, flat_map}
-use Rattle.std.proofs.Common.{refl, ap, sym, subst, ◌∙◌, inl, inr}
+use Rattle.std.specs.List.{flat_map}
+use Rattle.std.proofs.Common.{refl, ap, sym, subst, ◌∙◌, inl}
 use Rattle.std.proofs.lemmas.Bool.{true≢false}
 use Rattle.std.proofs.lemmas.List.{append-nil, reverse-append}
 use Rattle.scasp_list.specs.Each.{Each}
 use Rattle.scasp_list.proofs.EachLemmas.{Each-append}
 use Rattle.scasp_num.specs.Number.{Number}
-use Rattle.scasp_num.specs.Linear.{Linear}
 use Rattle.scasp_search_rules.specs.declared.states.covers.Cover.{Cover}
 use Rattle.scasp_search_rules.specs.declared.states.covers.Remainder.{Remainder}
 use Rattle.scasp_search_rules.specs.declared.states.lines.Line.TheVariants as line
@@ -22,19 +21,19 @@ use Rattle.scasp_search_rules.specs.declared.states.tasks.Aim.TheVariants as aim
 use Rattle.scasp_search_rules.specs.declared.states.tasks.Pair.{Pair}
 use Rattle.scasp_search_rules.specs.declared.states.tasks.Task.{Task}
 use Rattle.scasp_search_rules.specs.declared.states.tasks.Task.TheVariants as task
-use Rattle.scasp_search_rules.specs.Successors.Assumptions.{assume, assume_all, asked_for, status}
-use Rattle.scasp_search_rules.specs.Successors.Calls.{ancestors, at_number, by_no_rule, by_rule, call, can_be_seen, differing, entered, finished, judged, leave_literal, left, looped, looping, marked, moved, nearest, opposites, unrepeated, vars_of_clause}
-use Rattle.scasp_search_rules.specs.Successors.Cases.{after_case, begin_cases, begin_cover, cases_of, cases_where, check_clause, close_case, cover_for, ended_case, head_call, leaf_at, unbound, unbound_of, with_cover, with_head}
-use Rattle.scasp_search_rules.specs.Successors.Differences.{alternatives, at_part, differ_first, differ_number, differ_pair, differ_pairs, differ_shape, differ_terms, differ_value, differ_variables, is_matched, part_of_variables, same_shape, same_value, stands_first, take_up, when_apart, when_same}
-use Rattle.scasp_search_rules.specs.Successors.Equations.{becomes_number, becomes_shape, bound_if, equate_pairs, equate_terms, equated, equations, equations_of, mixed, replaced_if, two_existentials, two_universals, two_variables, variable_app, variable_number}
+use Rattle.scasp_search_rules.specs.Successors.Assumptions.{assume, assume_all, status}
+use Rattle.scasp_search_rules.specs.Successors.Calls.{ancestors, at_number, by_no_rule, by_rule, call, can_be_seen, differing, entered, finished, judged, leave_literal, left, looped, marked, moved, nearest, opposites, unrepeated, vars_of_clause}
+use Rattle.scasp_search_rules.specs.Successors.Cases.{after_case, begin_cases, cases_of, cases_where, close_case, cover_for, ended_case, head_call, leaf_at, unbound, unbound_of, with_cover, with_head}
+use Rattle.scasp_search_rules.specs.Successors.Differences.{alternatives, at_part, differ_first, differ_number, differ_pair, differ_pairs, differ_shape, differ_variables, is_matched, part_of_variables, stands_first, take_up, when_apart, when_same}
+use Rattle.scasp_search_rules.specs.Successors.Equations.{becomes_number, becomes_shape, bound_if, equate_pairs, equated, equations, equations_of, replaced_if, two_variables, variable_app, variable_number}
 use Rattle.scasp_search_rules.specs.Successors.Falls.{EachState}
-use Rattle.scasp_search_rules.specs.Successors.Items.{body_of, number_tests, show_test, test_item, with_line}
+use Rattle.scasp_search_rules.specs.Successors.Items.{body_of, number_tests, test_item, with_line}
 use Rattle.scasp_search_rules.specs.Successors.Pairs.{from_first, pairs, pairs_of}
 use Rattle.scasp_search_rules.specs.Successors.Reading.{among, count_from}
-use Rattle.scasp_search_rules.specs.Successors.Regions.{asked_with, before, context, equation, regions}
+use Rattle.scasp_search_rules.specs.Successors.Regions.{asked_with, before, context}
 use Rattle.scasp_search_rules.specs.Successors.Search.{done, step_at}
-use Rattle.scasp_search_rules.specs.Successors.Steps.{Step, each, fails, followed, gives, goes}
-use Rattle.scasp_search_rules.specs.Successors.Variables.{bind, depth_of, is_empty, is_universal, meaning, next_variable, universals_of, with_binding, with_new}
+use Rattle.scasp_search_rules.specs.Successors.Steps.{each, fails, gives, goes}
+use Rattle.scasp_search_rules.specs.Successors.Variables.{bind, depth_of, is_empty, is_universal, meaning, next_variable, universals_of, with_new}
 use Rattle.scasp_syntax.specs.Programs.{numbered, rules_of, pred_of}
 use Rattle.scasp_syntax.specs.Tm.{Tm, Tms, var, num, app, items}
 use Rattle.scasp_syntax.specs.Values.{under}

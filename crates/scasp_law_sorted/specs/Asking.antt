@@ -9,7 +9,7 @@ use Rattle.scasp_search_rules.specs.declared.states.state.State.{State}
 use Rattle.scasp_search_rules.specs.Successors.Answers.{certificate_at}
 use Rattle.scasp_search_rules.specs.Successors.Problems.{Problem}
 use Rattle.scasp_search_rules.specs.Successors.Regions.{asked_with}
-use Rattle.scasp_search_rules.specs.Successors.Search.{search_for, start, step}
+use Rattle.scasp_search_rules.specs.Successors.Search.{asked_by, search_for, start, step}
 use Rattle.scasp_search_rules.specs.Successors.Variables.{is_kind_universal}
 use Rattle.scasp_syntax.specs.Constraints.{Sat}
 use Rattle.scasp_syntax.specs.WellFormed.{is_query_well_formed}
@@ -68,9 +68,11 @@ is_item_rowless (item.Linear l) = false
 abbrev pub is_rowless : Problem → Query → Bool
 is_rowless p q = list_all is_item_rowless q.body && list_all (λ c. list_all is_item_rowless c.body) p.program.clauses
 
--- Each list that is asked is sorted then, from whatever state that comes of the start, and whatever the test is.
+-- Each list that is asked is sorted then, from whatever state that comes of the start, and whatever the test is. So are the lists about the
+-- certificate of a state with nothing left to do.
 abbrev pub RowlessAskSorted : Type 0
-RowlessAskSorted = (p : Problem) (q : Query) (s : State) → is_rowless p q ≡ true → IsReachable p q s → Each Sorted (asked_next p s)
+RowlessAskSorted =
+    (p : Problem) (q : Query) (s : State) (queried : ℕ) → is_rowless p q ≡ true → IsReachable p q s → Each Sorted (asked_by p s queried s.work)
 
 -- what the laws on projections ask of a list: its rows are in normal form, it has no equations, and it is sorted
 pub record CanBeProjected (cs : List Con) : Type 0 where

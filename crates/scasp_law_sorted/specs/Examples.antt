@@ -15,7 +15,7 @@ use Rattle.scasp_search_rules.specs.declared.states.state.State.{State}
 use Rattle.scasp_search_rules.specs.Successors.ExampleWords.{problem}
 use Rattle.scasp_search_rules.specs.Successors.Problems.{Problem}
 use Rattle.scasp_search_rules.specs.Successors.Search.{search_for, start}
-use Rattle.scasp_syntax.specs.Tm.{Tm, Tms, var, num, app, nil, cons}
+use Rattle.scasp_syntax.specs.Tm.{Tm, var, num, app}
 use Rattle.scasp_syntax.specs.declared.atom.Atom.{Atom}
 use Rattle.scasp_syntax.specs.declared.clause.Item.{Item}
 use Rattle.scasp_syntax.specs.declared.clause.Item.TheVariants.{Call, Linear as LinearItem}
