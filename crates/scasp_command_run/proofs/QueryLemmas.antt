@@ -23,6 +23,7 @@ use Rattle.scasp_command_run.specs.Texts.{answer_text, end_line, shown_from}
 use Rattle.scasp_command_run.specs.declared.ends.QueryEnd.{QueryEnd}
 use Rattle.scasp_command_run.specs.declared.ends.QueryEnd.TheVariants.{Ended, Stopped, Spent, Overflow}
 use Rattle.scasp_command_run.specs.declared.queries.Queried.{Queried}
+use Rattle.scasp_command_words.specs.declared.format.Format.{Format}
 use Rattle.scasp_print_samples.specs.declared.tables.Table.{Table}
 use Rattle.scasp_written.specs.Written.Rests.{Opens, Rest}
 use Rattle.scasp_search_rules.specs.Successors.Machine.{answered}
@@ -81,76 +82,84 @@ module _ (p : Program) (names : List (List ℕ)) (query : ℕ) where
   -- the answer that is printed next
   pub answer-continues : (old new : Standing) (c : Certificate) (one : Printed) (text : List ℕ)
       → MeetsRight p old.rest c new.rest → old.asked ≢ Some 0 → one.certificate ≡ c → NamesSample names one.names c
-      → new.asked ≡ fewer old.asked → new.printed ≡ suc old.printed → text ≡ answer_text p (suc old.printed) one
+      → new.asked ≡ fewer old.asked → new.printed ≡ suc old.printed → new.format ≡ old.format → text ≡ answer_text old.format p (suc old.printed) one
       → Continues p names query old text new
-  answer-continues old new c one text comes asks is named asked printed text_is more has end r =
+  answer-continues old new c one text comes asks is named asked printed format text_is more has end r =
       let completes : Completes p comes.tree one.certificate = subst (Completes p comes.tree) (sym is) comes.completes in
       let has_names : NamesSample names one.names one.certificate = subst (NamesSample names one.names) (sym is) named in
       let later : Prints p names (fewer old.asked) new.rest r.all end = subst (λ (o : Option ℕ). Prints p names o new.rest r.all end) asked r.prints in
-      let tail : more ≡ shown_from p query (suc (suc old.printed)) r.all end = r.text_is ∙ ap (λ n. shown_from p query (suc n) r.all end) printed in
+      let tail : more ≡ shown_from old.format p query (suc (suc old.printed)) r.all end =
+      r.text_is ∙ ap (λ n. shown_from new.format p query (suc n) r.all end) printed ∙ ap (λ (f : Format). shown_from f p query (suc (suc old.printed)) r.all end) format in
       let true_now : has ≡ true =
       r.has_is ∙ ap (λ n. nat_lt 0 n || has_any r.all) printed ∙ ap (λ b. b || has_any r.all) (lt-ltb 0 (suc old.printed) (omega arith)) in
       record {
         all = one ∷ r.all;
         prints = prints old.asked old.rest new.rest comes.tree one r.all end asks comes.meets completes has_names later;
-        text_is = ap (λ (t : List ℕ). t ++ more) text_is ∙ ap (λ (t : List ℕ). answer_text p (suc old.printed) one ++ t) tail;
+        text_is = ap (λ (t : List ℕ). t ++ more) text_is ∙ ap (λ (t : List ℕ). answer_text old.format p (suc old.printed) one ++ t) tail;
         has_is = true_now ∙ sym (or-true (nat_lt 0 old.printed));
       }
 
   -- it may be cut off behind the answer
   answer-cut : (old next new : Standing) (c : Certificate) (one : Printed) (text : List ℕ) (r : Option Unit) {all : List ℕ}
       → MeetsRight p old.rest c next.rest → old.asked ≢ Some 0 → one.certificate ≡ c → NamesSample names one.names c
-      → next.asked ≡ fewer old.asked → next.printed ≡ suc old.printed → all ≡ answer_text p (suc old.printed) one
+      → next.asked ≡ fewer old.asked → next.printed ≡ suc old.printed → next.format ≡ old.format → all ≡ answer_text old.format p (suc old.printed) one
       → IsText all text r → (s : Option (Option QueryEnd)) × Steps p names query old new text s
-  answer-cut old next new c one text None comes asks is named asked printed text_is t = (None, (nat_lt 0 old.printed, remains-cut old text t))
-  answer-cut old next new c one text (Some done) comes asks is named asked printed text_is t =
+  answer-cut old next new c one text None comes asks is named asked printed format text_is t = (None, (nat_lt 0 old.printed, remains-cut old text t))
+  answer-cut old next new c one text (Some done) comes asks is named asked printed format text_is t =
       let k : Remains p names query old (text ++ []) (nat_lt 0 next.printed) None =
-      answer-continues old next c one text comes asks is named asked printed (t ∙ text_is) [] (nat_lt 0 next.printed) None (remains-cut next [] refl) in
+      answer-continues old next c one text comes asks is named asked printed format (t ∙ text_is) [] (nat_lt 0 next.printed) None (remains-cut next [] refl) in
       (None, (nat_lt 0 next.printed, subst (λ (x : List ℕ). Remains p names query old x (nat_lt 0 next.printed) None) (append-nil text) k))
 
+  -- the text of the answer, as the first standing has it
+  text-numbered : (first now : Standing) (c : Certificate) (table : List (List ℕ)) (number : ℕ) → number ≡ suc first.printed → now.format ≡ first.format
+      → answer_text now.format p number (record { names = table; certificate = c }) ≡ answer_text first.format p (suc first.printed) (record { names = table; certificate = c })
+  text-numbered first now c table number n format =
+      ap (λ k. answer_text now.format p k (record { names = table; certificate = c })) n
+      ∙ ap (λ (f : Format). answer_text f p (suc first.printed) (record { names = table; certificate = c })) format
+
   pub answer-written : (first now new : Standing) (c : Certificate) (table : List (List ℕ)) (number : ℕ) (before after : Option (List ℕ)) → IsAnswered p first c now
-      → NamesSample names table c → number ≡ now.printed + 1 → new.rest ≡ now.rest → new.asked ≡ fewer now.asked → new.printed ≡ number
-      → Writes (IsText (answer_text p number (record { names = table; certificate = c }))) before after (Ok tt)
+      → NamesSample names table c → number ≡ now.printed + 1 → new.rest ≡ now.rest → new.asked ≡ fewer now.asked → new.printed ≡ number → new.format ≡ now.format
+      → Writes (IsText (answer_text now.format p number (record { names = table; certificate = c }))) before after (Ok tt)
       → Writes (Steps p names query first new) before after (Ok None)
-  answer-written first now new c table number before after is named number_is rest asked printed w =
+  answer-written first now new c table number before after is named number_is rest asked printed format w =
       let n : number ≡ suc first.printed = number_is ∙ add-one now.printed ∙ ap suc is.printed in
       record {
         text = w.text;
         may =
             answer-continues first new c (record { names = table; certificate = c }) w.text
             (subst (MeetsRight p first.rest c) (sym rest) is.comes) is.more refl named
-            (asked ∙ ap fewer is.asked) (printed ∙ n)
-            (w.may ∙ ap (λ k. answer_text p k (record { names = table; certificate = c })) n);
+            (asked ∙ ap fewer is.asked) (printed ∙ n) (format ∙ is.format)
+            (w.may ∙ text-numbered first now c table number n is.format);
         taken = w.taken;
       }
 
   pub answer-failed : (first now new : Standing) (c : Certificate) (table : List (List ℕ)) (number : ℕ) (before after : Option (List ℕ)) (e : OutputErr) → IsAnswered p first c now
       → NamesSample names table c → number ≡ now.printed + 1
-      → Writes (IsText (answer_text p number (record { names = table; certificate = c }))) before after (Err e)
+      → Writes (IsText (answer_text now.format p number (record { names = table; certificate = c }))) before after (Err e)
       → Writes (Steps p names query first new) before after (Err e)
   answer-failed first now new c table number before after e is named number_is w =
-      let next : Standing = record { rest = now.rest; asked = fewer now.asked; printed = suc now.printed } in
+      let next : Standing = record { rest = now.rest; asked = fewer now.asked; printed = suc now.printed; format = now.format } in
       let n : number ≡ suc first.printed = number_is ∙ add-one now.printed ∙ ap suc is.printed in
-      err-behind (IsText (answer_text p number (record { names = table; certificate = c }))) (Steps p names query first new) [] before before after e (behind-nil before)
+      err-behind (IsText (answer_text now.format p number (record { names = table; certificate = c }))) (Steps p names query first new) [] before before after e (behind-nil before)
       (λ text t. (nat_lt 0 first.printed, remains-cut first text t))
       (λ text r t. answer-cut first next new c (record { names = table; certificate = c }) text r is.comes is.more refl named (ap fewer is.asked) (ap suc is.printed)
-      (ap (λ k. answer_text p k (record { names = table; certificate = c })) n) t) w
+      is.format (text-numbered first now c table number n is.format) t) w
 
   -- a tree that is passed over
-  pub pass-continues : (old new : Standing) → MeetsNoAccepted p old.rest new.rest → old.asked ≢ Some 0 → new.asked ≡ old.asked → new.printed ≡ old.printed
+  pub pass-continues : (old new : Standing) → MeetsNoAccepted p old.rest new.rest → old.asked ≢ Some 0 → new.asked ≡ old.asked → new.printed ≡ old.printed → new.format ≡ old.format
       → Continues p names query old [] new
-  pass-continues old new comes asks asked printed more has end r =
+  pass-continues old new comes asks asked printed format more has end r =
       let later : Prints p names old.asked new.rest r.all end = subst (λ (o : Option ℕ). Prints p names o new.rest r.all end) asked r.prints in
       record {
         all = r.all;
         prints = passes old.asked old.rest new.rest comes.tree r.all end asks comes.meets comes.none later;
-        text_is = r.text_is ∙ ap (λ n. shown_from p query (suc n) r.all end) printed;
+        text_is = r.text_is ∙ ap (λ n. shown_from new.format p query (suc n) r.all end) printed ∙ ap (λ (f : Format). shown_from f p query (suc old.printed) r.all end) format;
         has_is = r.has_is ∙ ap (λ n. nat_lt 0 n || has_any r.all) printed;
       }
 
-  pub pass-written : (old new : Standing) (before : Option (List ℕ)) → MeetsNoAccepted p old.rest new.rest → old.asked ≢ Some 0 → new.asked ≡ old.asked → new.printed ≡ old.printed
+  pub pass-written : (old new : Standing) (before : Option (List ℕ)) → MeetsNoAccepted p old.rest new.rest → old.asked ≢ Some 0 → new.asked ≡ old.asked → new.printed ≡ old.printed → new.format ≡ old.format
       → Writes (Steps p names query old new) before before (Ok None)
-  pass-written old new before comes asks asked printed = record { text = []; may = pass-continues old new comes asks asked printed; taken = behind-nil before }
+  pass-written old new before comes asks asked printed format = record { text = []; may = pass-continues old new comes asks asked printed format; taken = behind-nil before }
 
   -- ---- events one after the other
 
@@ -180,7 +189,7 @@ module _ (p : Program) (names : List (List ℕ)) (query : ℕ) where
 
 module _ (job : Job) (number : ℕ) (q : Query) (rest : Rest) (opens : Opens job.program number job.budget (length job.names) q rest) where
   abbrev beginning : Standing
-  beginning = record { rest = rest; asked = job.answers; printed = 0 }
+  beginning = record { rest = rest; asked = job.answers; printed = 0; format = job.format }
 
   whole : (text : List ℕ) (has : Bool) (r : Option Queried) → Remains job.program job.names number beginning text has (option_map (λ x. x.end) r)
       → IfSome r (λ x. x.answered ≡ has) → IsQueryRun job number q text r

@@ -27,22 +27,22 @@ module _ (job : Job) where
   rests-none : (number : ℕ) (qs : List Query) (answered : Bool) → Rests job number qs answered [] (end_from answered qs [])
   rests-none number qs answered = record { all = []; runs = tt; text_is = refl; end_is = refl }
 
-  run-text : (text : List ℕ) (end : Option RunEnd) → text ≡ header_line → end ≡ end_from false job.program.queries [] → IsRun job text end
-  run-text text end e is = record { all = []; runs = tt; text_is = e ∙ sym (append-nil header_line); end_is = is }
+  run-text : (text : List ℕ) (end : Option RunEnd) → text ≡ header_line job.format → end ≡ end_from false job.program.queries [] → IsRun job text end
+  run-text text end e is = record { all = []; runs = tt; text_is = e ∙ sym (append-nil (header_line job.format)); end_is = is }
 
   -- ---- the first line
 
-  pub header-before : (old new : Option (List ℕ)) → new ≡ behind old header_line → IsBefore job 1 job.program.queries false old new
+  pub header-before : (old new : Option (List ℕ)) → new ≡ behind old (header_line job.format) → IsBefore job 1 job.program.queries false old new
   header-before old new taken = record {
-    text = header_line;
+    text = header_line job.format;
     taken = taken;
-    whole = λ more end r. record { all = r.all; runs = r.runs; text_is = ap (λ (t : List ℕ). header_line ++ t) r.text_is; end_is = r.end_is };
+    whole = λ more end r. record { all = r.all; runs = r.runs; text_is = ap (λ (t : List ℕ). header_line job.format ++ t) r.text_is; end_is = r.end_is };
   }
 
-  pub header-broken : (old new : Option (List ℕ)) → TakesPrefix old new header_line → Writes (IsRun job) old new (Err Write)
+  pub header-broken : (old new : Option (List ℕ)) → TakesPrefix old new (header_line job.format) → Writes (IsRun job) old new (Err Write)
   header-broken old new part = record {
-    text = header_line;
-    may = (end_from false job.program.queries [], run-text header_line (end_from false job.program.queries []) refl refl);
+    text = header_line job.format;
+    may = (end_from false job.program.queries [], run-text (header_line job.format) (end_from false job.program.queries []) refl refl);
     part = part;
   }
 
@@ -66,7 +66,7 @@ module _ (job : Job) where
         record {
           all = record { answers = h.remains.all; end = Some x.end } ∷ r.all;
           runs = (runs-shown text (Some x) h, follows);
-          text_is = ap (λ (t : List ℕ). t ++ more) h.remains.text_is ∙ ap (λ (t : List ℕ). shown_from job.program number 1 h.remains.all (Some x.end) ++ t) r.text_is;
+          text_is = ap (λ (t : List ℕ). t ++ more) h.remains.text_is ∙ ap (λ (t : List ℕ). shown_from job.format job.program number 1 h.remains.all (Some x.end) ++ t) r.text_is;
           end_is = sym is ∙ ap (end_with (Some x.end)) r.end_is ∙ ap (λ b. end_with (Some x.end) (end_from (answered || b) qs r.all)) has;
         }
 
@@ -78,7 +78,7 @@ module _ (job : Job) where
     rests-last text r h end follows is = record {
       all = record { answers = h.remains.all; end = option_map (λ x. x.end) r } ∷ [];
       runs = (runs-shown text r h, follows);
-      text_is = h.remains.text_is ∙ sym (append-nil (shown_from job.program number 1 h.remains.all (option_map (λ x. x.end) r)));
+      text_is = h.remains.text_is ∙ sym (append-nil (shown_from job.format job.program number 1 h.remains.all (option_map (λ x. x.end) r)));
       end_is = is;
     }
 

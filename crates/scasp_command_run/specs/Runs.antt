@@ -46,5 +46,5 @@ end_from answered (q ∷ qs) (one ∷ more) = end_with one.end (end_from (answer
 pub record IsRun (job : Job) (text : List ℕ) (end : Option RunEnd) : Type 0 where
   pub all : List Shown
   pub runs : RunsFrom job 1 job.program.queries all
-  pub text_is : text ≡ run_text job.program all
+  pub text_is : text ≡ run_text job.format job.program all
   pub end_is : end ≡ end_from false job.program.queries all

@@ -6,8 +6,10 @@ mod events;
 pub mod laws;
 mod printing;
 mod queries;
+mod requests;
 mod runs;
 
 pub use ends::{QueryEnd, RunEnd};
 pub use events::SLICE;
+pub use requests::Request;
 pub use runs::run;

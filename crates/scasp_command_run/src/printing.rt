@@ -9,11 +9,13 @@ ghost use Rattle.scasp_command_run.specs.Texts as spec;
 use crate::ends::QueryEnd;
 use itoa::Buffer;
 use scasp_cert::Cert;
+use scasp_command_words::Format;
 use scasp_io::{OutputErr, Sink, write_all};
 use scasp_list::Memory;
 use scasp_name::{NameId, Names};
 use scasp_print::print_cert;
 use scasp_print_remarks::put_remarks;
+use scasp_print_shared::print_shared;
 use scasp_syntax::Program;
 use std::alloc::Global;
 
@@ -27,37 +29,56 @@ fn variables_of(program: &Program, query: u64) -> &[Option<NameId>]
     }
 }
 
+/// The block of the answer of this number.
+fn answer_block(
+    alloc: Global,
+    names: &Names,
+    number: u64,
+    cert: &Cert,
+    format: Format,
+) -> Result<Vec<u8>, Memory>
+    ensures { IfOk result (λ text. text.items ≡ spec.answer_block format number (record { names = names.now; certificate = certificate_of cert.now })) }
+{
+    match format {
+        Format::Whole => print_cert(alloc, names, cert, number),
+        Format::Shared => print_shared(alloc, names, cert, number),
+    }
+}
+
 /// The block of the answer of this number, and the remarks on it.
-fn answer_text(
+pub(crate) fn answer_text(
     alloc: Global,
     program: &Program,
     names: &Names,
     number: u64,
     cert: &Cert,
+    format: Format,
 ) -> Result<Vec<u8>, Memory>
-    ensures { IfOk result (λ text. text.items ≡ spec.answer_text program.now number (record { names = names.now; certificate = certificate_of cert.now })) }
+    ensures { IfOk result (λ text. text.items ≡ spec.answer_text format program.now number (record { names = names.now; certificate = certificate_of cert.now })) }
 {
-    let mut text = print_cert(alloc, names, cert, number)?;
+    let mut text = answer_block(alloc, names, number, cert, format)?;
     put_remarks(&mut text, names, variables_of(program, cert.query), cert)?;
     Ok(text)
 }
 
-/// Writes the block of the answer of this number, and the remarks on it.
-pub(crate) fn write_answer<K: Sink>(
-    alloc: Global,
-    program: &Program,
-    names: &Names,
-    number: u64,
-    cert: &Cert,
-    out: &mut K,
-) -> Result<(), OutputErr>
-    ensures output { Writes (IsText (spec.answer_text program.now number (record { names = names.now; certificate = certificate_of cert.now }))) (K.taken out.old) (K.taken out.new) result }
+/// Writes the text of an answer.
+pub(crate) fn write_answer<K: Sink>(text: &[u8], out: &mut K) -> Result<(), OutputErr>
+    ensures output { Writes (IsText text.now) (K.taken out.old) (K.taken out.new) result }
     ensures write { IsErrOf result OutputErr.Write → Rose (K.faults out.old) (K.faults out.new) }
     ensures counts { K.faults out.old ≤ K.faults out.new }
 {
-    let text = answer_text(alloc, program, names, number, cert)?;
-    write_all(out, text.as_slice())?;
+    write_all(out, text)?;
     Ok(())
+}
+
+/// The first line of a run.
+pub(crate) fn header_line(format: Format) -> &'static [u8]
+    ensures { result.now ≡ spec.header_line format }
+{
+    match format {
+        Format::Whole => b"scasp 1\n",
+        Format::Shared => b"scasp 2\n",
+    }
 }
 
 /// The word of how a query ended.

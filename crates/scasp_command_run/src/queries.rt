@@ -15,8 +15,10 @@ ghost use Rattle.scasp_syntax.specs.declared.program.Program.{Program as ThisPro
 
 use crate::ends::QueryEnd;
 use crate::events::{Next, next_event};
-use crate::printing::{write_answer, write_end};
+use crate::printing::{answer_text, write_answer, write_end};
+use crate::requests::Request;
 use scasp_cert::Cert;
+use scasp_command_words::Format;
 use scasp_io::{OutputErr, Sink};
 use scasp_list::Memory;
 use scasp_print_samples::{Table, name_sample};
@@ -39,6 +41,8 @@ pub(crate) struct Progress {
     pub asked: Option<u64>,
     /// How many answers were printed.
     pub printed: u64,
+    /// How the answers are written.
+    pub format: Format,
 }
 
 /// Whether no more answer is asked for.
@@ -86,7 +90,8 @@ fn print_next<K: Sink>(
 {
     let number = one_more(progress.printed)?;
     name_sample(alloc, table, cert)?;
-    write_answer(alloc, program, &table.names, number, cert, out)?;
+    let text = answer_text(alloc, program, &table.names, number, cert, progress.format)?;
+    write_answer(text.as_slice(), out)?;
     progress.asked = fewer(progress.asked);
     progress.printed = number;
     Ok(None)
@@ -136,28 +141,28 @@ fn step<K: Sink>(
     }
 }
 
-/// Runs the query of this number: up to so many answers, or to all where no number is given.
+/// Runs the query of this number, as is asked.
 pub(crate) fn run_query<K: Sink>(
     alloc: Global,
     program: &Program,
     table: &mut Table,
     query: u64,
-    budget: u64,
-    answers: Option<u64>,
+    request: Request,
     out: &mut K,
 ) -> Result<Queried, OutputErr>
     requires { IsSome (numbered program.now.queries query) }
     ensures output { (names : List (List ℕ)) → IsTable names table.old → IfSome (numbered program.now.queries query)
-        (λ q. Writes (QueryText (job program.now names budget answers) query q) (K.taken out.old) (K.taken out.new) result) }
+        (λ q. Writes (QueryText (job program.now names request) query q) (K.taken out.old) (K.taken out.new) result) }
     ensures table { OnOk result ((names : List (List ℕ)) → IsTable names table.old → IsTable names table.new) }
     ensures write { IsErrOf result OutputErr.Write → Rose (K.faults out.old) (K.faults out.new) }
     ensures counts { K.faults out.old ≤ K.faults out.new }
 {
-    let search = Search::open(alloc, program, query, budget, table.program)?;
+    let search = Search::open(alloc, program, query, request.budget, table.program)?;
     let mut progress = Progress {
         search,
-        asked: answers,
+        asked: request.answers,
         printed: 0,
+        format: request.format,
     };
     for _event in 0..u64::MAX {
         let answered = progress.printed > 0;

@@ -7,7 +7,9 @@ ghost use Rattle.scasp_command_run.specs.Jobs.{job};
 ghost use Rattle.scasp_command_run.specs.Runs.{IsRun};
 
 use crate::ends::{QueryEnd, RunEnd};
+use crate::printing::header_line;
 use crate::queries::run_query;
+use crate::requests::Request;
 use scasp_io::{OutputErr, Sink, write_all};
 use scasp_name::Names;
 use scasp_print_samples::table_of;
@@ -28,20 +30,19 @@ pub fn run<K: Sink>(
     alloc: Global,
     program: &Program,
     names: Names,
-    budget: u64,
-    answers: Option<u64>,
+    request: Request,
     out: &mut K,
 ) -> Result<RunEnd, OutputErr>
-    ensures output { Writes (IsRun (job program.now names budget answers)) (K.taken out.old) (K.taken out.new) result }
+    ensures output { Writes (IsRun (job program.now names request)) (K.taken out.old) (K.taken out.new) result }
     ensures write { IsErrOf result OutputErr.Write → Rose (K.faults out.old) (K.faults out.new) }
     ensures counts { K.faults out.old ≤ K.faults out.new }
 {
-    write_all(out, b"scasp 1\n")?;
+    write_all(out, header_line(request.format))?;
     let mut table = table_of(names);
     let mut answered = false;
     for place in 0..program.queries.len() {
         let number = place as u64 + 1;
-        let queried = run_query(alloc, program, &mut table, number, budget, answers, out)?;
+        let queried = run_query(alloc, program, &mut table, number, request, out)?;
         answered = either(answered, queried.answered);
         match last_end(queried.end) {
             Some(end) => return Ok(end),

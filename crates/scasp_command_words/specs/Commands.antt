@@ -5,15 +5,15 @@ use Rattle.scasp_command_words.specs.Numbers.{number_between}
 use Rattle.scasp_command_words.specs.Options.{with_options}
 use Rattle.scasp_command_words.specs.declared.command.Command.{Command}
 use Rattle.scasp_command_words.specs.declared.command.Command.TheVariants.{Run, Check, Trial, Extend, Recheck}
-use Rattle.scasp_command_words.specs.declared.command.TheConstants.{DEFAULT_BUDGET, DEFAULT_ANSWERS, FEWEST_PROGRAMS, MOST_NODES, MOST_PROGRAMS}
+use Rattle.scasp_command_words.specs.declared.command.TheConstants.{DEFAULT_BUDGET, DEFAULT_ANSWERS, DEFAULT_FORMAT, FEWEST_PROGRAMS, MOST_NODES, MOST_PROGRAMS}
 use Rattle.scasp_command_words.specs.declared.options.Options.{Options}
 
 -- behind `run`: FILE, and options
 abbrev pub run_of : List (List ℕ) → Option Command
 run_of [] = None
 run_of (file ∷ options) =
-    option_map (λ (o : Options). Run file (unwrap_or o.budget DEFAULT_BUDGET) (unwrap_or o.answers DEFAULT_ANSWERS))
-    (with_options (record { budget = None; answers = None }) options)
+    option_map (λ (o : Options). Run file (unwrap_or o.budget DEFAULT_BUDGET) (unwrap_or o.answers DEFAULT_ANSWERS) (unwrap_or o.format DEFAULT_FORMAT))
+    (with_options (record { budget = None; answers = None; format = None }) options)
 
 -- behind `check`: PROGRAM ANSWERS
 abbrev pub check_of : List (List ℕ) → Option Command

@@ -2,18 +2,25 @@
 use Rattle.std.specs.Prelude.{◌≡◌, ℕ, None, Some, List, [], ◌∷◌, codes, replicate, refl}
 use Rattle.scasp_command_words.specs.Commands.{command_of}
 use Rattle.scasp_command_words.specs.declared.command.Command.TheVariants.{Run, Check, Trial, Extend, Recheck}
+use Rattle.scasp_command_words.specs.declared.format.Format.TheVariants.{Whole, Shared}
 
 abbrev run_p : List (List ℕ) → List (List ℕ)
 run_p options = codes "run" ∷ codes "p" ∷ options
 
-defaults : command_of (run_p []) ≡ Some (Run (codes "p") 50000 1)
+defaults : command_of (run_p []) ≡ Some (Run (codes "p") 50000 1 Whole)
 defaults = refl
 
-both : command_of (run_p (codes "--budget" ∷ codes "20" ∷ codes "--answers" ∷ codes "0" ∷ [])) ≡ Some (Run (codes "p") 20 0)
+both : command_of (run_p (codes "--budget" ∷ codes "20" ∷ codes "--answers" ∷ codes "0" ∷ [])) ≡ Some (Run (codes "p") 20 0 Whole)
 both = refl
 
-other_order : command_of (run_p (codes "--answers" ∷ codes "1000000000" ∷ codes "--budget" ∷ codes "1" ∷ [])) ≡ Some (Run (codes "p") 1 1000000000)
+other_order : command_of (run_p (codes "--answers" ∷ codes "1000000000" ∷ codes "--budget" ∷ codes "1" ∷ [])) ≡ Some (Run (codes "p") 1 1000000000 Whole)
 other_order = refl
+
+all_three : command_of (run_p (codes "--format" ∷ codes "2" ∷ codes "--answers" ∷ codes "3" ∷ codes "--budget" ∷ codes "20" ∷ [])) ≡ Some (Run (codes "p") 20 3 Shared)
+all_three = refl
+
+first_format : command_of (run_p (codes "--format" ∷ codes "1" ∷ [])) ≡ Some (Run (codes "p") 50000 1 Whole)
+first_format = refl
 
 check_two : command_of (codes "check" ∷ codes "p" ∷ codes "a" ∷ []) ≡ Some (Check (codes "p") (codes "a"))
 check_two = refl
@@ -40,7 +47,7 @@ most_programs : command_of (recheck_a (replicate 100 (codes "p"))) ≡ Some (Rec
 most_programs = refl
 
 -- a file may have any name
-named_as_an_option : command_of (codes "run" ∷ codes "--budget" ∷ []) ≡ Some (Run (codes "--budget") 50000 1)
+named_as_an_option : command_of (codes "run" ∷ codes "--budget" ∷ []) ≡ Some (Run (codes "--budget") 50000 1 Whole)
 named_as_an_option = refl
 
 -- ---- none
@@ -65,6 +72,21 @@ too_many_files = refl
 
 budget_twice : command_of (run_p (codes "--budget" ∷ codes "2" ∷ codes "--budget" ∷ codes "2" ∷ [])) ≡ None
 budget_twice = refl
+
+format_twice : command_of (run_p (codes "--format" ∷ codes "1" ∷ codes "--format" ∷ codes "2" ∷ [])) ≡ None
+format_twice = refl
+
+no_format : command_of (run_p (codes "--format" ∷ codes "0" ∷ [])) ≡ None
+no_format = refl
+
+third_format : command_of (run_p (codes "--format" ∷ codes "3" ∷ [])) ≡ None
+third_format = refl
+
+longer_format : command_of (run_p (codes "--format" ∷ codes "02" ∷ [])) ≡ None
+longer_format = refl
+
+format_of_a_check : command_of (codes "check" ∷ codes "p" ∷ codes "a" ∷ codes "--format" ∷ codes "2" ∷ []) ≡ None
+format_of_a_check = refl
 
 no_budget : command_of (run_p (codes "--budget" ∷ codes "0" ∷ [])) ≡ None
 no_budget = refl

@@ -3,6 +3,7 @@ ghost use Rattle.std.specs.Prelude.{◌≡◌, Some, None, IfOk, IsErrOf, map, s
 ghost use Rattle.scasp_command_words.specs.Commands.{command_of, run_of, check_of, trial_of, extend_of, recheck_of};
 
 use crate::error::WordErr;
+use crate::format::Format;
 use crate::number::number_between;
 use crate::options::{Options, with_options};
 use crate::word::{Word, Words};
@@ -13,6 +14,9 @@ pub const DEFAULT_BUDGET: u64 = 50_000;
 
 /// How many answers to a query are asked for where the words do not say.
 pub const DEFAULT_ANSWERS: u64 = 1;
+
+/// How answers are written where the words do not say.
+pub const DEFAULT_FORMAT: Format = Format::Whole;
 
 /// How many nodes a trial program may have.
 pub const MOST_NODES: u64 = 1_000;
@@ -33,6 +37,8 @@ pub enum Command {
         budget: u64,
         /// How many answers to each query are asked for; 0 asks for all.
         answers: u64,
+        /// How the answers are written.
+        format: Format,
     },
     /// Whether the answers in a file are right.
     Check {
@@ -68,6 +74,7 @@ fn run_command(alloc: Global, words: &[String]) -> Result<Command, WordErr>
     let none = Options {
         budget: None,
         answers: None,
+        format: None,
     };
     let Some(given) = with_options(none, options) else {
         return Err(WordErr::Usage);
@@ -76,6 +83,7 @@ fn run_command(alloc: Global, words: &[String]) -> Result<Command, WordErr>
         file: Word::from_text(alloc, file.as_str())?,
         budget: given.budget.unwrap_or(DEFAULT_BUDGET),
         answers: given.answers.unwrap_or(DEFAULT_ANSWERS),
+        format: given.format.unwrap_or(DEFAULT_FORMAT),
     })
 }
 

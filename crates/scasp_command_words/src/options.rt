@@ -2,6 +2,7 @@
 ghost use Rattle.std.specs.Prelude.{◌≡◌, map, string_bytes};
 ghost use Rattle.scasp_command_words.specs.Options as spec;
 
+use crate::format::{Format, format_of};
 use crate::number::number_between;
 
 /// The largest budget, and the most answers that are asked for by their number.
@@ -12,6 +13,7 @@ const MOST: u64 = 1_000_000_000;
 pub(crate) struct Options {
     pub budget: Option<u64>,
     pub answers: Option<u64>,
+    pub format: Option<Format>,
 }
 
 /// The options with this one, where it is one that has not been given yet.
@@ -25,6 +27,10 @@ fn with_option(given: Options, name: &str, number: &str) -> Option<Options>
     if name == "--answers" && given.answers.is_none() {
         let answers = Some(number_between(0, MOST, number)?);
         return Some(Options { answers, ..given });
+    }
+    if name == "--format" && given.format.is_none() {
+        let format = Some(format_of(number)?);
+        return Some(Options { format, ..given });
     }
     None
 }

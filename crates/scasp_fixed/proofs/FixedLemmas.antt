@@ -1,4 +1,4 @@
--- Lists say the same with the numbers put in that their equations fix.
+-- Lists say the same with the numbers put in that their rows fix.
 use Rattle.std.proofs.Common.{◌≡◌, ◌↔◌, ◌⊎◌, inl, inr, ℕ, ◌+◌, ◌==◌, nat_eq, Bool, true, false, not, ◌&&◌, ◌||◌, List, [], ◌∷◌, ◌++◌, length, map, Option, None, Some, refl, sym, ap, subst, ◌∙◌}
 use Rattle.std.specs.Prelude.{if◌then◌else◌, filter, is_some, nat_lt}
 use Rattle.std.specs.List.{list_all, list_any}
@@ -13,7 +13,7 @@ use Rattle.scasp_law_parts.specs.Questions.{IsReadable}
 use Rattle.scasp_law_parts.proofs.ReadLemmas.{con-read}
 use Rattle.scasp_project.specs.Meaning.{MeetsOne}
 use Rattle.scasp_search_rules.specs.Successors.Reading.{con_under}
-use Rattle.scasp_shorten.specs.Shortest.{follows, is_row_of, most_constraints}
+use Rattle.scasp_shorten.specs.Following.{follows, is_row_of}
 use Rattle.scasp_shorten.proofs.FollowingLemmas.{asked-meets}
 use Rattle.scasp_shorten.proofs.RowsLemmas.{IsNormalCon, each-normal, normal-each}
 use Rattle.scasp_shorten.proofs.ShorteningLemmas.{all-filter}
@@ -30,49 +30,49 @@ use Rattle.scasp_unify.specs.Solving.{sub_of}
 use Rattle.scasp_unify.specs.TermFailures.{is_compound}
 use Rattle.scasp_unify.specs.Unification.{Absorbs, single, then_by}
 use Rattle.scasp_unify.specs.declared.bindings.Binding.{Binding}
-use Rattle.scasp_fixed.specs.Fixed.{Telling, are_read, fixing, gives, gives_by, is_fixing, is_read, telling, telling_by, value_of, values_from}
+use Rattle.scasp_fixed.specs.Fixed.{Telling, are_read, fixing, gives, gives_by, is_fixing, is_read, most_constraints, numbers_from, telling, telling_by, value_of, values_found, values_from}
 
 -- ---- what a list gives
 
 -- what is fixed in a list is met where the list is, and its rows are normal
-fixing-met : (cs : List Con) (v : Sub) → list_all (holds v) cs ≡ true → list_all (holds v) (fixing cs) ≡ true
-fixing-met cs v m = by (nat_lt most_constraints (length cs)) refl
+fixing-met : (ns : List Binding) (cs : List Con) (v : Sub) → list_all (holds v) cs ≡ true → list_all (holds v) (fixing ns cs) ≡ true
+fixing-met ns cs v m = by (nat_lt most_constraints (length cs)) refl
   where
-    by : (b : Bool) → nat_lt most_constraints (length cs) ≡ b → list_all (holds v) (fixing cs) ≡ true
-    by true p = ap (λ b. list_all (holds v) (if b then [] else filter is_fixing cs)) p
-    by false p = ap (λ b. list_all (holds v) (if b then [] else filter is_fixing cs)) p ∙ all-filter (holds v) is_fixing cs m
+    by : (b : Bool) → nat_lt most_constraints (length cs) ≡ b → list_all (holds v) (fixing ns cs) ≡ true
+    by true p = ap (λ b. list_all (holds v) (if b then [] else filter (is_fixing ns) cs)) p
+    by false p = ap (λ b. list_all (holds v) (if b then [] else filter (is_fixing ns) cs)) p ∙ all-filter (holds v) (is_fixing ns) cs m
 
-fixing-normal : (cs : List Con) → RowsNormal cs → RowsNormal (fixing cs)
-fixing-normal cs n = by (nat_lt most_constraints (length cs)) refl
+fixing-normal : (ns : List Binding) (cs : List Con) → RowsNormal cs → RowsNormal (fixing ns cs)
+fixing-normal ns cs n = by (nat_lt most_constraints (length cs)) refl
   where
-    by : (b : Bool) → nat_lt most_constraints (length cs) ≡ b → RowsNormal (fixing cs)
-    by true p = subst (λ (b : Bool). RowsNormal (if b then [] else filter is_fixing cs)) (sym p) tt
+    by : (b : Bool) → nat_lt most_constraints (length cs) ≡ b → RowsNormal (fixing ns cs)
+    by true p = subst (λ (b : Bool). RowsNormal (if b then [] else filter (is_fixing ns) cs)) (sym p) tt
     by false p =
-        subst (λ (b : Bool). RowsNormal (if b then [] else filter is_fixing cs)) (sym p)
-        (normal-each (filter is_fixing cs) (Each-filter IsNormalCon is_fixing cs (each-normal cs n)))
+        subst (λ (b : Bool). RowsNormal (if b then [] else filter (is_fixing ns) cs)) (sym p)
+        (normal-each (filter (is_fixing ns) cs) (Each-filter IsNormalCon (is_fixing ns) cs (each-normal cs n)))
 
-gives-holds : (cs : List Con) (v : Valuation) (x : ℕ) (q : Number) → RowsNormal cs → list_all (holds v.of) cs ≡ true → gives (fixing cs) x q ≡ true → v.of x ≡ num q
-gives-holds cs v x q n m e = by (list_any (is_row_of x) (fixing cs)) refl
+gives-holds : (ns : List Binding) (cs : List Con) (v : Valuation) (x : ℕ) (q : Number) → RowsNormal cs → list_all (holds v.of) cs ≡ true → gives (fixing ns cs) x q ≡ true → v.of x ≡ num q
+gives-holds ns cs v x q n m e = by (list_any (is_row_of x) (fixing ns cs)) refl
   where
-    asked : follows (fixing cs) (con.Eq (term.Var x) (term.Num q)) ≡ true → v.of x ≡ num q
-    asked a = (tm_decided (v.of x) (num q)).0 (asked-meets (fixing cs) (con.Eq (term.Var x) (term.Num q)) v (fixing-normal cs n) tt tt a (fixing-met cs v.of m))
+    asked : follows (fixing ns cs) (con.Eq (term.Var x) (term.Num q)) ≡ true → v.of x ≡ num q
+    asked a = (tm_decided (v.of x) (num q)).0 (asked-meets (fixing ns cs) (con.Eq (term.Var x) (term.Num q)) v (fixing-normal ns cs n) tt tt a (fixing-met ns cs v.of m))
 
-    by : (b : Bool) → list_any (is_row_of x) (fixing cs) ≡ b → v.of x ≡ num q
-    by true p = asked (sym (ap (λ b. gives_by b (fixing cs) x q) p) ∙ e)
-    by false p = absurd (true≢false (sym e ∙ ap (λ b. gives_by b (fixing cs) x q) p))
+    by : (b : Bool) → list_any (is_row_of x) (fixing ns cs) ≡ b → v.of x ≡ num q
+    by true p = asked (sym (ap (λ b. gives_by b (fixing ns cs) x q) p) ∙ e)
+    by false p = absurd (true≢false (sym e ∙ ap (λ b. gives_by b (fixing ns cs) x q) p))
 
 -- what all lists give holds where one of them is met
-one-gives : (lists : List (List Con)) (v : Valuation) (x : ℕ) (q : Number) → Each RowsNormal lists → list_any (list_all (holds v.of)) lists ≡ true → list_all (λ cs. gives cs x q) (map fixing lists) ≡ true → v.of x ≡ num q
-one-gives [] v x q n m e = cc
-one-gives (cs ∷ lists) v x q n m e = by (list_all (holds v.of) cs) refl (one-gives lists v x q n.1)
+one-gives : (ns : List Binding) (lists : List (List Con)) (v : Valuation) (x : ℕ) (q : Number) → Each RowsNormal lists → list_any (list_all (holds v.of)) lists ≡ true → list_all (λ cs. gives cs x q) (map (fixing ns) lists) ≡ true → v.of x ≡ num q
+one-gives ns [] v x q n m e = cc
+one-gives ns (cs ∷ lists) v x q n m e = by (list_all (holds v.of) cs) refl (one-gives ns lists v x q n.1)
   where
-    all : (gives (fixing cs) x q ≡ true) × (list_all (λ ds. gives ds x q) (map fixing lists) ≡ true)
-    all = and_parts (gives (fixing cs) x q) (list_all (λ ds. gives ds x q) (map fixing lists)) e
+    all : (gives (fixing ns cs) x q ≡ true) × (list_all (λ ds. gives ds x q) (map (fixing ns) lists) ≡ true)
+    all = and_parts (gives (fixing ns cs) x q) (list_all (λ ds. gives ds x q) (map (fixing ns) lists)) e
 
     by : (b : Bool) → list_all (holds v.of) cs ≡ b
-        → (list_any (list_all (holds v.of)) lists ≡ true → list_all (λ ds. gives ds x q) (map fixing lists) ≡ true → v.of x ≡ num q)
+        → (list_any (list_all (holds v.of)) lists ≡ true → list_all (λ ds. gives ds x q) (map (fixing ns) lists) ≡ true → v.of x ≡ num q)
         → v.of x ≡ num q
-    by true p rest = gives-holds cs v x q n.0 p all.0
+    by true p rest = gives-holds ns cs v x q n.0 p all.0
     by false p rest = rest (sym (ap (λ b. b || list_any (list_all (holds v.of)) lists) p) ∙ m) all.1
 
 -- ---- the values
@@ -201,32 +201,29 @@ told-by P vs lists plain put = by (length vs == 0) (list_all (are_read (sub_of v
         subst (λ (k : Bool). P (if k || not (list_all (are_read (sub_of vs)) lists) then as_they_are lists else with_them vs lists)) (sym p)
         (subst (λ (k : Bool). P (if not k then as_they_are lists else with_them vs lists)) (sym q) (put q))
 
-abbrev found_values : List (List Con) → List Tm → List Binding
-found_values lists sample = values_from (map fixing lists) 0 sample
+values-number : (lists : List (List Con)) (sample : List Tm) → Numbers (sub_of (values_found lists sample))
+values-number lists sample = numbers-sub (values_found lists sample) (values-each IsNumber (map (fixing (numbers_from 0 sample)) lists) (λ x q e. (q, refl)) 0 sample)
 
-values-number : (lists : List (List Con)) (sample : List Tm) → Numbers (sub_of (found_values lists sample))
-values-number lists sample = numbers-sub (found_values lists sample) (values-each IsNumber (map fixing lists) (λ x q e. (q, refl)) 0 sample)
-
-values-had : (lists : List (List Con)) (sample : List Tm) (v : Valuation) → Each RowsNormal lists → MeetsOne v.of lists → Absorbs v.of (sub_of (found_values lists sample))
+values-had : (lists : List (List Con)) (sample : List Tm) (v : Valuation) → Each RowsNormal lists → MeetsOne v.of lists → Absorbs v.of (sub_of (values_found lists sample))
 values-had lists sample v n m =
-    had-absorbed v.of (found_values lists sample)
-    (values-each (IsHad v.of) (map fixing lists) (λ x q e. (q, refl, one-gives lists v x q n m e)) 0 sample)
+    had-absorbed v.of (values_found lists sample)
+    (values-each (IsHad v.of) (map (fixing (numbers_from 0 sample)) lists) (λ x q e. (q, refl, one-gives (numbers_from 0 sample) lists v x q n m e)) 0 sample)
 
 pub told-fills : (lists : List (List Con)) (sample : List Tm) (v : Valuation) → Each RowsNormal lists → Filled lists v (telling lists sample)
 told-fills lists sample v n =
-    told-by (Filled lists v) (found_values lists sample) lists
+    told-by (Filled lists v) (values_found lists sample) lists
     (λ m. sym (ap (λ (w : Sub). list_any (list_all (holds w)) lists) (absorbed-same v.of var (λ y. refl))) ∙ m)
-    (λ e m. sym (lists-same (sub_of (found_values lists sample)) v.of (values-number lists sample) lists n e) ∙ m)
+    (λ e m. sym (lists-same (sub_of (values_found lists sample)) v.of (values-number lists sample) lists n e) ∙ m)
 
 pub told-same : (lists : List (List Con)) (sample : List Tm) (v : Valuation) → Each RowsNormal lists → Same lists v (telling lists sample)
-told-same lists sample v n = told-by (Same lists v) (found_values lists sample) lists ((λ m. ((λ y. refl), m)), (λ k. k.1)) put
+told-same lists sample v n = told-by (Same lists v) (values_found lists sample) lists ((λ m. ((λ y. refl), m)), (λ k. k.1)) put
   where
     s : Sub
-    s = sub_of (found_values lists sample)
+    s = sub_of (values_found lists sample)
 
     same : list_all (are_read s) lists ≡ true → Absorbs v.of s → list_any (list_all (holds v.of)) (map (map (con_under s)) lists) ≡ list_any (list_all (holds v.of)) lists
     same e a = lists-same s v.of (values-number lists sample) lists n e ∙ ap (λ w. list_any (list_all (holds w)) lists) (absorbed-same v.of s a)
 
-    put : list_all (are_read s) lists ≡ true → Same lists v (with_them (found_values lists sample) lists)
+    put : list_all (are_read s) lists ≡ true → Same lists v (with_them (values_found lists sample) lists)
     put e =
         ((λ m. let a = values-had lists sample v n m in (a, same e a ∙ m)), (λ k. sym (same e k.0) ∙ k.1))

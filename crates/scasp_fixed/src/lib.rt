@@ -1,4 +1,4 @@
-//! The variables that equations fix to a number, and lists of constraints without them.
+//! The variables that rows fix to a number, and lists of constraints without them.
 #![tactic(auto)]
 
 pub mod laws;

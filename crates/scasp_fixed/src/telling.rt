@@ -1,4 +1,4 @@
-//! Lists of constraints with the values put in that their equations fix.
+//! Lists of constraints with the values put in that their rows fix.
 ghost use Rattle.std.specs.Prelude.{◌≡◌, IfOk, is_some, map};
 ghost use Rattle.std.specs.List.{list_all};
 ghost use Rattle.scasp_fixed.specs.Fixed.{are_read, is_read, telling, telling_by};
@@ -7,7 +7,7 @@ ghost use Rattle.scasp_syntax.specs.Tm.{items};
 ghost use Rattle.scasp_unify.specs.ResolvedRows.{resolved_row};
 ghost use Rattle.scasp_unify.specs.Solving.{sub_of};
 
-use crate::values::{fixing_of_each, values_of};
+use crate::values::values_found;
 use scasp_list::Memory;
 use scasp_num::{Row, RowErr};
 use scasp_search_terms::constraints::read_con;
@@ -18,7 +18,7 @@ use std::alloc::Global;
 /// What is told of lists of which one holds.
 #[derive(Drop)]
 pub struct Told {
-    /// The numbers that their equations fix.
+    /// The numbers that their rows fix.
     pub values: Vec<Binding>,
     /// What the lists say of the other variables.
     pub lists: ConLists,
@@ -106,15 +106,15 @@ fn told_by(alloc: Global, values: Vec<Binding>, lists: ConLists) -> Result<Told,
     Ok(Told { values, lists })
 }
 
-/// What is told of lists of which one holds, and of which this sample meets one: each number of the sample that the
-/// equations of every list fix, and the lists with these numbers put in. A list of more than 32 constraints fixes none.
-/// Where a number is put into a row and that overflows, no value is told and the lists are as they were.
+/// What is told of lists of which one holds, and of which this sample meets one: each number of the sample that is fixed
+/// in every list, by equations and by rows `=<` that are tight with the sample, and the lists with these numbers put in.
+/// A list of more than 32 constraints fixes none. Where a number is put into a row and that overflows, no value is told and the lists are as
+/// they were.
 pub fn tell(lists: ConLists, sample: &Terms) -> Result<Told, Memory>
     ensures told_values { IfOk result (λ t. t.values.items ≡ (telling lists (items sample.now)).values) }
     ensures told_lists { IfOk result (λ t. t.lists ≡ (telling lists (items sample.now)).lists) }
 {
     let alloc = lists.allocator();
-    let fixing = fixing_of_each(alloc, lists.as_slice())?;
-    let values = values_of(alloc, fixing.as_slice(), sample.as_slice())?;
+    let values = values_found(alloc, lists.as_slice(), sample.as_slice())?;
     told_by(alloc, values, lists)
 }

@@ -92,7 +92,7 @@ tasks-test : (p : Program) (n : ℕ) (bs : List Binding) (ts : List Task) → Fr
 tasks-test p n bs _ (later ts h) = test_from-Each (is_task_below n) (Later p n) (task-test p n) ts h
 tasks-test p n bs _ (becomes x y ps aim ts fx fy pb ab h) = test_from-Each (is_task_below n) (Later p n) (task-test p n) ts h
 
-orderly-solved : (p : Program) (s : State) → Orderly p s → is_solved s ≡ true
+pub orderly-solved : (p : Program) (s : State) → Orderly p s → is_solved s ≡ true
 orderly-solved p s o =
     let n : ℕ = length s.made in
     let tests = solved-tests n s.bound o.held.solved in
@@ -100,7 +100,7 @@ orderly-solved p s o =
     (and_from (are_bindings_below n s.bound) (list_all (is_task_below n) s.work) tests.1 (tasks-test p n s.bound s.work o.front))
 
 -- and it has no circle
-solved-whole : (n : ℕ) (bs : List Binding) → Solved n bs → has_circle bs ≡ false
+pub solved-whole : (n : ℕ) (bs : List Binding) → Solved n bs → has_circle bs ≡ false
 solved-whole n [] h = refl
 solved-whole n (b ∷ bs) h = or_from (occurs b.x (tm_of b.term)) (has_circle bs) (each-absent b.x (tm_of b.term) h.2.0) (solved-whole n bs h.3)
 
@@ -148,7 +148,7 @@ module _ (p : Problem) (q : Query) (fits : is_query_well_formed q ≡ true) wher
   checks-firm [] = tt
   checks-firm (i ∷ is) = (tt, checks-firm is)
 
-  begun : Neat p.program (start q p.checks)
+  pub begun : Neat p.program (start q p.checks)
   begun = record {
     orderly = begun-orderly;
     clear = record { bindings = tt; covers = tt; literals = tt };

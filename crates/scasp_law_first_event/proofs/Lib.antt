@@ -1,27 +1,27 @@
-mod Allowing
-mod Apart
-mod Bindings
-mod Calls
-mod Clearing
-mod Closing
-mod EachStates
-mod Ending
-mod Entering
-mod Firming
-mod Firmness
-mod Fitting
-mod Following
-mod Growing
-mod Keeping
-mod Loads
-mod Loose
-mod Moves
-mod Pairing
-mod Parting
-mod Pieces
-mod Raising
-mod Settling
-mod Steps
-mod Terms
-mod Turning
-mod Unnegated
+pub mod Allowing
+pub mod Apart
+pub mod Bindings
+pub mod Calls
+pub mod Clearing
+pub mod Closing
+pub mod EachStates
+pub mod Ending
+pub mod Entering
+pub mod Firming
+pub mod Firmness
+pub mod Fitting
+pub mod Following
+pub mod Growing
+pub mod Keeping
+pub mod Loads
+pub mod Loose
+pub mod Moves
+pub mod Pairing
+pub mod Parting
+pub mod Pieces
+pub mod Raising
+pub mod Settling
+pub mod Steps
+pub mod Terms
+pub mod Turning
+pub mod Unnegated

@@ -54,17 +54,17 @@ use Rattle.scasp_law_first_event.proofs.Terms.{EachVar, each-weaker}
 among-more : (x y : ℕ) (xs : List ℕ) → among x xs ≡ true → among x (y ∷ xs) ≡ true
 among-more x y xs e = or_right (nat_eq x y) (among x xs) e
 
-each-among : (xs : List ℕ) → Each (λ z. among z xs ≡ true) xs
+pub each-among : (xs : List ℕ) → Each (λ z. among z xs ≡ true) xs
 each-among [] = tt
 each-among (x ∷ xs) =
     (or_left (nat_eq x x) (among x xs) (eq-eqb x x refl), Each-map (λ (z : ℕ). among z xs ≡ true) (λ z. among z (x ∷ xs) ≡ true) (λ z e. among-more z x xs e) xs (each-among xs))
 
-each-under : (m k n : ℕ) → k + n ≤ m → Each (λ z. z < m) (count_from k n)
+pub each-under : (m k n : ℕ) → k + n ≤ m → Each (λ z. z < m) (count_from k n)
 each-under m k zero l = tt
 each-under m k (suc n) l = (omega (arith, l), each-under m (suc k) n (omega (arith, l)))
 
 -- what the test lets through is among what it keeps
-among-kept : (test : ℕ → Bool) (k n z : ℕ) → k ≤ z → z < k + n → test z ≡ true → among z (filter test (count_from k n)) ≡ true
+pub among-kept : (test : ℕ → Bool) (k n z : ℕ) → k ≤ z → z < k + n → test z ≡ true → among z (filter test (count_from k n)) ≡ true
 among-kept test k zero z l m e = absurd (omega (arith, l, m))
 among-kept test k (suc n) z l m e = by (cases_Bool (nat_eq z k)) (λ a. among-kept test (suc k) n z a (omega (arith, m)) e)
   where
@@ -86,7 +86,7 @@ among-kept test k (suc n) z l m e = by (cases_Bool (nat_eq z k)) (λ a. among-ke
     by (inl same) rest = first (test k) refl same
     by (inr d) rest = other (test k) (rest (later d))
 
-each-at : (P : ℕ → Type 0) (xs : List ℕ) (z : ℕ) → Each P xs → among z xs ≡ true → P z
+pub each-at : (P : ℕ → Type 0) (xs : List ℕ) (z : ℕ) → Each P xs → among z xs ≡ true → P z
 each-at P [] z k f = absurd (true≢false (sym f))
 each-at P (x ∷ xs) z k f = by (nat_eq z x) refl (λ g. each-at P xs z k.1 g) f
   where
@@ -96,7 +96,7 @@ each-at P (x ∷ xs) z k f = by (nat_eq z x) refl (λ g. each-at P xs z k.1 g) f
 
 -- ---- bindings that are taken out
 
-kept-bound : (test : Binding → Bool) (bs : List Binding) (z : ℕ) → ((b : Binding) → b.x ≡ z → test b ≡ true) → is_bound_in bs z ≡ true → is_bound_in (filter test bs) z ≡ true
+pub kept-bound : (test : Binding → Bool) (bs : List Binding) (z : ℕ) → ((b : Binding) → b.x ≡ z → test b ≡ true) → is_bound_in bs z ≡ true → is_bound_in (filter test bs) z ≡ true
 kept-bound test [] z f e = e
 kept-bound test (b ∷ bs) z f e = by (test b) refl (cases_Bool (nat_eq b.x z)) (λ g. kept-bound test bs z f g)
   where

@@ -66,7 +66,7 @@ abbrev pub alternatives_text : List (List ℕ) → List (List Con) → List ℕ
 alternatives_text names lists =
     if length lists == 0 then codes "% where false\n" else if has_empty lists then [] else alternative_lines names true lists
 
--- what is told by a sample of what the given constraints say of the variables: the numbers that equations fix
+-- what is told by a sample of what the given constraints say of the variables: the numbers that rows fix
 abbrev pub numbers_told : List Tm → Option Projected → List Binding
 numbers_told sample None = []
 numbers_told sample (Some projected.TooMany) = []

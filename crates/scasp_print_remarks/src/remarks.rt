@@ -21,7 +21,7 @@ fn domain_line(cert: &Cert) -> Result<&'static str, Memory>
 }
 
 /// Puts the remarks on an answer to a query with these variables at the end: a line `% NAME = TERM` for each of them that
-/// has a name, in which a variable that equations fix to a number is this number; what the given constraints say of the
+/// has a name, in which a variable that rows fix to a number is this number; what the given constraints say of the
 /// other variables in these terms, as `% where C, C` for the first alternative and `% or C, C` for each further one, as
 /// `% where false` where there is none, `% where more` where there are too many and `% where overflow` where their
 /// projection overflows, and no line where some alternative has no constraint; and `% domain any` or `% domain closed`. A

@@ -1,4 +1,6 @@
 pub mod AnswerLemmas
+pub mod BehindLemmas
+pub mod ClashLemmas
 pub mod PairLemmas
 pub mod SampleLemmas
 pub mod ValueLemmas

@@ -1,6 +1,7 @@
 //! The end of a branch of the written search: whether its literals are apart, and the sample of its answer.
 
 mod answers;
+mod behind;
 mod differing;
 mod pairs;
 mod plain;

@@ -19,7 +19,7 @@ use Rattle.scasp_hint.specs.AskedRows.{RowsNormal}
 use Rattle.scasp_hint.specs.Finding.{Found, found, hint, nothing, unknown_list}
 use Rattle.scasp_hint.proofs.FoundLemmas.{found-hint}
 use Rattle.scasp_hint.proofs.ShownLemmas.{shown-unsat}
-use Rattle.scasp_shorten.specs.Shortest.{follows, is_asked, is_number_by, is_row_of, is_shown, is_test_of, is_variable, tells_number}
+use Rattle.scasp_shorten.specs.Following.{follows, is_asked, is_number_by, is_row_of, is_shown, is_test_of, is_variable, tells_number}
 use Rattle.scasp_shorten.specs.Told.{tells, tells_all}
 use Rattle.scasp_shorten.proofs.RowsLemmas.{normal-append, normal-negated}
 
@@ -64,7 +64,7 @@ coefficient-told v (k ∷ ks) x m e = by (nat_eq x k.x) refl (coefficient-told v
     by true p rest = ap (λ z. is_number (v z)) (eqb-true x k.x p) ∙ all.0
     by false p rest = rest all.1 (sym (ap (λ b. b || list_any (λ j. nat_eq x j.x) ks) p) ∙ e)
 
-row-here : (v : Sub) (c : Con) (x : ℕ) → tells v c ≡ true → is_row_of x c ≡ true → is_number (v x) ≡ true
+pub row-here : (v : Sub) (c : Con) (x : ℕ) → tells v c ≡ true → is_row_of x c ≡ true → is_number (v x) ≡ true
 row-here v (con.Row r) x m e = coefficient-told v r.coeffs x (and_parts (list_all (λ k. is_number (v k.x)) r.coeffs) (row_holds v r) m).0 e
 row-here v (con.Eq t u) x m e = cc
 row-here v (con.Neq t u) x m e = cc
@@ -87,25 +87,25 @@ some-passes p P test h (c ∷ cs) m e = by (test c) refl (some-passes p P test h
 pub rows-told : (v : Sub) (cs : List Con) (x : ℕ) → tells_all v cs ≡ true → list_any (is_row_of x) cs ≡ true → is_number (v x) ≡ true
 rows-told v cs x m e = some-passes (tells v) (is_number (v x) ≡ true) (is_row_of x) (λ c. row-here v c x) cs m e
 
-number-told : (v : Sub) (cs : List Con) (x : ℕ) → tells_all v cs ≡ true → tells_number cs x ≡ true → is_number (v x) ≡ true
+pub number-told : (v : Sub) (cs : List Con) (x : ℕ) → tells_all v cs ≡ true → tells_number cs x ≡ true → is_number (v x) ≡ true
 number-told v cs x m e = by (list_any (is_test_of x) cs) refl
   where
     by : (b : Bool) → list_any (is_test_of x) cs ≡ b → is_number (v x) ≡ true
     by true p = some-passes (tells v) (is_number (v x) ≡ true) (is_test_of x) (λ c m e. test-holds v c x (tells-holds v c m) e) cs m p
     by false p = rows-told v cs x m (sym (ap (λ b. b || list_any (is_row_of x) cs) p) ∙ e)
 
-numbers-told : (v : Sub) (cs : List Con) (ks : List Coeff) → tells_all v cs ≡ true → list_all (λ k. tells_number cs k.x) ks ≡ true → list_all (λ k. is_number (v k.x)) ks ≡ true
+pub numbers-told : (v : Sub) (cs : List Con) (ks : List Coeff) → tells_all v cs ≡ true → list_all (λ k. tells_number cs k.x) ks ≡ true → list_all (λ k. is_number (v k.x)) ks ≡ true
 numbers-told v cs [] m e = refl
 numbers-told v cs (k ∷ ks) m e =
     let p = and_parts (tells_number cs k.x) (list_all (λ j. tells_number cs j.x) ks) e in
     and_from (is_number (v k.x)) (list_all (λ j. is_number (v j.x)) ks) (number-told v cs k.x m p.0) (numbers-told v cs ks m p.1)
 
-no-shape : (f n : ℕ) (t : Tm) → is_number t ≡ true → not (has_shape f n t) ≡ true
+pub no-shape : (f n : ℕ) (t : Tm) → is_number t ≡ true → not (has_shape f n t) ≡ true
 no-shape f n (var x) e = cc
 no-shape f n (num q) e = refl
 no-shape f n (app g ts) e = cc
 
-by-number : (v : Sub) (cs : List Con) (t : Term) → tells_all v cs ≡ true → is_number_by cs t ≡ true → holds v (con.Num t) ≡ true
+pub by-number : (v : Sub) (cs : List Con) (t : Term) → tells_all v cs ≡ true → is_number_by cs t ≡ true → holds v (con.Num t) ≡ true
 by-number v cs (term.Var x) m e = number-told v cs x m e
 by-number v cs (term.Num q) m e = refl
 by-number v cs (term.App f ts) m e = cc

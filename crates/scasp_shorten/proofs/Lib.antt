@@ -1,4 +1,5 @@
 pub mod ApartLemmas
+pub mod EvidentLemmas
 pub mod FollowingLemmas
 pub mod NeededLemmas
 pub mod OrderingLemmas

@@ -1,6 +1,6 @@
 -- What stays of a list is needed.
 use Rattle.std.proofs.Common.{◌≡◌, ◌≢◌, ◌⊎◌, inl, inr, ℕ, nat_eq, Bool, true, false, not, ◌&&◌, ◌||◌, List, [], ◌∷◌, ◌++◌, append_assoc, append-nil, refl, sym, ap, subst, ◌∙◌}
-use Rattle.std.specs.Prelude.{if◌then◌else◌}
+use Rattle.std.specs.Prelude.{if◌then◌else◌, nat_lt}
 use Rattle.std.specs.List.{list_all, list_any}
 use Rattle.std.proofs.lemmas.Bool.{and_from, and_parts, eqb-true, or_left, or_right, true≢false}
 use Rattle.std.proofs.lemmas.List.Folds.{list_all-append, list_any-append}
@@ -28,8 +28,11 @@ use Rattle.scasp_unify.specs.Resolver.{resolver}
 use Rattle.scasp_unify.specs.Sorted.{Sorted, is_typed, is_typed_con, typed}
 use Rattle.scasp_unify.proofs.PointLemmas.{negation-is}
 use Rattle.scasp_unify.proofs.SortedLemmas.{negation-added, one-more}
-use Rattle.scasp_shorten.specs.Needed.{EachNeeded, IsNeeded, OverflowsAt, Says, has_negation}
-use Rattle.scasp_shorten.specs.Shortest.{follows, is_asked, is_row_of, is_shown, is_test, is_test_of, is_variable, shortened, tells_number}
+use Rattle.scasp_shorten.specs.Following.{follows, has_negation, is_asked, is_row_of, is_shown, is_test_of, is_variable, questions, tells_number}
+use Rattle.scasp_shorten.specs.Needed.{EachNeeded, IsNeeded, OverflowsAt, Says}
+use Rattle.scasp_shorten.specs.Shortest.{is_test, is_told, most_questions, shortened, thinned, thinned_behind, without_evident}
+use Rattle.scasp_shorten.specs.declared.shortening.Means.{Means}
+use Rattle.scasp_shorten.specs.declared.shortening.Means.TheVariants as means
 use Rattle.scasp_shorten.specs.Told.{are_rows_tested, is_tested, tells, tells_all}
 use Rattle.scasp_shorten.proofs.FollowingLemmas.{tells-holds}
 use Rattle.scasp_shorten.proofs.RowsLemmas.{normal-append, normal-left, normal-negated, normal-right}
@@ -211,17 +214,17 @@ stay-or-go : (P : List Con → Type 0) (before rest : List Con) (c : Con) → (b
     → P (if b then kept before rest else c ∷ kept (before ++ c ∷ []) rest) → P (kept before (c ∷ rest))
 stay-or-go P before rest c b p h = subst (λ (k : Bool). P (if k then kept before rest else c ∷ kept (before ++ c ∷ []) rest)) (sym p) h
 
-shortened-kept : (before rest : List Con) → shortened before rest ≡ before ++ kept before rest
+shortened-kept : (before rest : List Con) → shortened means.Question before rest ≡ before ++ kept before rest
 shortened-kept before [] = sym (append-nil before)
 shortened-kept before (c ∷ rest) = by (not (is_test c) && follows (before ++ rest) c) refl (shortened-kept before rest) (shortened-kept (before ++ c ∷ []) rest)
   where
-    by : (b : Bool) → (not (is_test c) && follows (before ++ rest) c) ≡ b → shortened before rest ≡ before ++ kept before rest → shortened (before ++ c ∷ []) rest ≡ (before ++ c ∷ []) ++ kept (before ++ c ∷ []) rest
-        → shortened before (c ∷ rest) ≡ before ++ kept before (c ∷ rest)
+    by : (b : Bool) → (not (is_test c) && follows (before ++ rest) c) ≡ b → shortened means.Question before rest ≡ before ++ kept before rest → shortened means.Question (before ++ c ∷ []) rest ≡ (before ++ c ∷ []) ++ kept (before ++ c ∷ []) rest
+        → shortened means.Question before (c ∷ rest) ≡ before ++ kept before (c ∷ rest)
     by true p gone stays =
-        ap (λ b. if b then shortened before rest else shortened (before ++ c ∷ []) rest) p ∙ gone
+        ap (λ b. if b then shortened means.Question before rest else shortened means.Question (before ++ c ∷ []) rest) p ∙ gone
         ∙ sym (ap (λ b. before ++ (if b then kept before rest else c ∷ kept (before ++ c ∷ []) rest)) p)
     by false p gone stays =
-        ap (λ b. if b then shortened before rest else shortened (before ++ c ∷ []) rest) p ∙ stays ∙ append_assoc before (c ∷ []) (kept (before ++ c ∷ []) rest)
+        ap (λ b. if b then shortened means.Question before rest else shortened means.Question (before ++ c ∷ []) rest) p ∙ stays ∙ append_assoc before (c ∷ []) (kept (before ++ c ∷ []) rest)
         ∙ sym (ap (λ b. before ++ (if b then kept before rest else c ∷ kept (before ++ c ∷ []) rest)) p)
 
 kept-told : (v : Sub) (before rest : List Con) → tells_all v rest ≡ true → tells_all v (kept before rest) ≡ true
@@ -268,14 +271,14 @@ needed before rest c k p h = by (found ((before ++ rest) ++ negated 0 c ∷ []))
     by unknown_list q = inr (rest, shortened-kept (before ++ c ∷ []) rest, q)
     by (hint i) q = absurd (true≢false (sym (ap is_shown q) ∙ unshown))
 
+gone-test : (a b : Bool) → (not a && b) ≡ true → a ≡ false
+gone-test true b e = absurd (true≢false (sym e))
+gone-test false b e = refl
+
 each-needed : (before rest : List Con) → IsPlainList (before ++ rest) → EachNeeded before (kept before rest)
 each-needed before [] k = tt
 each-needed before (c ∷ rest) k = by (not (is_test c) && follows (before ++ rest) c) refl (each-needed before rest) (each-needed (before ++ c ∷ []) rest)
   where
-    gone-test : (a b : Bool) → (not a && b) ≡ true → a ≡ false
-    gone-test true b e = absurd (true≢false (sym e))
-    gone-test false b e = refl
-
     by : (b : Bool) → (not (is_test c) && follows (before ++ rest) c) ≡ b → (IsPlainList (before ++ rest) → EachNeeded before (kept before rest)) → (IsPlainList ((before ++ c ∷ []) ++ rest) → EachNeeded (before ++ c ∷ []) (kept (before ++ c ∷ []) rest))
         → EachNeeded before (kept before (c ∷ rest))
     by true p gone stays = stay-or-go (EachNeeded before) before rest c true p (gone (plain-without before rest c (gone-test (is_test c) (follows (before ++ rest) c) p) k))
@@ -283,5 +286,25 @@ each-needed before (c ∷ rest) k = by (not (is_test c) && follows (before ++ re
         stay-or-go (EachNeeded before) before rest c false p
         (needed before rest c k p, stays (subst IsPlainList (sym (append_assoc before (c ∷ []) rest)) k))
 
-pub stays-needed : (cs : List Con) → RowsNormal cs → Each IsNoEquation cs → are_rows_tested cs ≡ true → EachNeeded [] (shortened [] cs)
-stays-needed cs n p t = subst (EachNeeded []) (sym (shortened-kept [] cs)) (each-needed [] cs (record { normal = n; plain = p; tested = t }))
+-- a list without what is told is such a list
+shortened-plain : (m : Means) (before rest : List Con) → IsPlainList (before ++ rest) → IsPlainList (shortened m before rest)
+shortened-plain m before [] k = subst IsPlainList (append-nil before) k
+shortened-plain m before (c ∷ rest) k = by (not (is_test c) && is_told m (before ++ rest) c) refl (shortened-plain m before rest) (shortened-plain m (before ++ c ∷ []) rest)
+  where
+    by : (b : Bool) → (not (is_test c) && is_told m (before ++ rest) c) ≡ b → (IsPlainList (before ++ rest) → IsPlainList (shortened m before rest)) → (IsPlainList ((before ++ c ∷ []) ++ rest) → IsPlainList (shortened m (before ++ c ∷ []) rest))
+        → IsPlainList (shortened m before (c ∷ rest))
+    by true p gone stays =
+        subst (λ (b : Bool). IsPlainList (if b then shortened m before rest else shortened m (before ++ c ∷ []) rest)) (sym p)
+        (gone (plain-without before rest c (gone-test (is_test c) (is_told m (before ++ rest) c) p) k))
+    by false p gone stays =
+        subst (λ (b : Bool). IsPlainList (if b then shortened m before rest else shortened m (before ++ c ∷ []) rest)) (sym p)
+        (stays (subst IsPlainList (sym (append_assoc before (c ∷ []) rest)) k))
+
+all-needed : (cs : List Con) → IsPlainList cs → nat_lt most_questions (questions cs) ≡ false → EachNeeded [] (thinned cs)
+all-needed [] k e = tt
+all-needed (c ∷ cs) k e =
+    subst (λ (b : Bool). EachNeeded [] (if b then thinned_behind (c ∷ []) cs else shortened means.Question [] (c ∷ cs))) (sym e)
+    (subst (EachNeeded []) (sym (shortened-kept [] (c ∷ cs))) (each-needed [] (c ∷ cs) k))
+
+pub stays-needed : (cs : List Con) → RowsNormal cs → Each IsNoEquation cs → are_rows_tested cs ≡ true → nat_lt most_questions (questions (without_evident cs)) ≡ false → EachNeeded [] (thinned (without_evident cs))
+stays-needed cs n p t e = all-needed (without_evident cs) (shortened-plain means.Evidence [] cs (record { normal = n; plain = p; tested = t })) e

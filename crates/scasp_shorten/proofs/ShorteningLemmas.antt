@@ -13,9 +13,12 @@ use Rattle.scasp_syntax.specs.declared.con.Con.TheVariants as con
 use Rattle.scasp_syntax.specs.declared.term.Term.{Term}
 use Rattle.scasp_syntax.specs.declared.term.Term.TheVariants as term
 use Rattle.scasp_hint.specs.AskedRows.{RowsNormal}
-use Rattle.scasp_shorten.specs.Shortest.{follows, is_row_of, is_test, is_told_by_rows, shortened, without_tests}
+use Rattle.scasp_shorten.specs.Following.{is_row_of}
+use Rattle.scasp_shorten.specs.Shortest.{is_test, is_told, is_told_by_rows, shortened, without_tests}
 use Rattle.scasp_shorten.specs.Told.{tells, tells_all}
-use Rattle.scasp_shorten.proofs.FollowingLemmas.{follows-told, rows-told}
+use Rattle.scasp_shorten.specs.declared.shortening.Means.{Means}
+use Rattle.scasp_shorten.proofs.EvidentLemmas.{means-told}
+use Rattle.scasp_shorten.proofs.FollowingLemmas.{rows-told}
 use Rattle.scasp_shorten.proofs.RowsLemmas.{normal-append, normal-left, normal-right}
 
 pub same-test : (a b : Bool) → (a ≡ true → b ≡ true) → (b ≡ true → a ≡ true) → a ≡ b
@@ -39,9 +42,9 @@ needless v before rest c h =
     ∙ inserted (tells_all v before) (tells v c) (tells_all v rest) (λ e. h (whole ∙ e))
     ∙ sym whole
 
-pub shortened-told : (before rest : List Con) (v : Valuation) → RowsNormal (before ++ rest) → tells_all v.of (shortened before rest) ≡ tells_all v.of (before ++ rest)
-shortened-told before [] v n = ap (tells_all v.of) (sym (append-nil before))
-shortened-told before (c ∷ rest) v n = by (not (is_test c) && follows (before ++ rest) c) refl (shortened-told before rest v) (shortened-told (before ++ c ∷ []) rest v)
+pub shortened-told : (m : Means) (before rest : List Con) (v : Valuation) → RowsNormal (before ++ rest) → tells_all v.of (shortened m before rest) ≡ tells_all v.of (before ++ rest)
+shortened-told m before [] v n = ap (tells_all v.of) (sym (append-nil before))
+shortened-told m before (c ∷ rest) v n = by (not (is_test c) && is_told m (before ++ rest) c) refl (shortened-told m before rest v) (shortened-told m (before ++ c ∷ []) rest v)
   where
     behind : RowsNormal (c ∷ rest)
     behind = normal-right before (c ∷ rest) n
@@ -50,29 +53,29 @@ shortened-told before (c ∷ rest) v n = by (not (is_test c) && follows (before 
     without = normal-append before rest (normal-left before (c ∷ rest) n) (normal-right (c ∷ []) rest behind)
 
     step : Bool → List Con
-    step b = if b then shortened before rest else shortened (before ++ c ∷ []) rest
+    step b = if b then shortened m before rest else shortened m (before ++ c ∷ []) rest
 
-    by : (b : Bool) → (not (is_test c) && follows (before ++ rest) c) ≡ b
-        → (RowsNormal (before ++ rest) → tells_all v.of (shortened before rest) ≡ tells_all v.of (before ++ rest))
-        → (RowsNormal ((before ++ c ∷ []) ++ rest) → tells_all v.of (shortened (before ++ c ∷ []) rest) ≡ tells_all v.of ((before ++ c ∷ []) ++ rest))
-        → tells_all v.of (shortened before (c ∷ rest)) ≡ tells_all v.of (before ++ c ∷ rest)
+    by : (b : Bool) → (not (is_test c) && is_told m (before ++ rest) c) ≡ b
+        → (RowsNormal (before ++ rest) → tells_all v.of (shortened m before rest) ≡ tells_all v.of (before ++ rest))
+        → (RowsNormal ((before ++ c ∷ []) ++ rest) → tells_all v.of (shortened m (before ++ c ∷ []) rest) ≡ tells_all v.of ((before ++ c ∷ []) ++ rest))
+        → tells_all v.of (shortened m before (c ∷ rest)) ≡ tells_all v.of (before ++ c ∷ rest)
     by true p gone kept =
         ap (λ b. tells_all v.of (step b)) p
         ∙ gone without
-        ∙ sym (needless v.of before rest c (follows-told (before ++ rest) c v without (normal-left (c ∷ []) rest behind) (and_parts (not (is_test c)) (follows (before ++ rest) c) p).1))
+        ∙ sym (needless v.of before rest c (means-told m (before ++ rest) c v without (normal-left (c ∷ []) rest behind) (and_parts (not (is_test c)) (is_told m (before ++ rest) c) p).1))
     by false p gone kept =
         ap (λ b. tells_all v.of (step b)) p
         ∙ kept (subst (λ (cs : List Con). RowsNormal cs) (sym (append_assoc before (c ∷ []) rest)) n)
         ∙ ap (tells_all v.of) (append_assoc before (c ∷ []) rest)
 
-pub shortened-each : (P : Con → Type 0) (before rest : List Con) → Each P before → Each P rest → Each P (shortened before rest)
-shortened-each P before [] a b = a
-shortened-each P before (c ∷ rest) a b =
-    by (not (is_test c) && follows (before ++ rest) c) refl (shortened-each P before rest a b.1) (shortened-each P (before ++ c ∷ []) rest (Each-append P before (c ∷ []) a (b.0, tt)) b.1)
+pub shortened-each : (P : Con → Type 0) (m : Means) (before rest : List Con) → Each P before → Each P rest → Each P (shortened m before rest)
+shortened-each P m before [] a b = a
+shortened-each P m before (c ∷ rest) a b =
+    by (not (is_test c) && is_told m (before ++ rest) c) refl (shortened-each P m before rest a b.1) (shortened-each P m (before ++ c ∷ []) rest (Each-append P before (c ∷ []) a (b.0, tt)) b.1)
   where
-    by : (b : Bool) → (not (is_test c) && follows (before ++ rest) c) ≡ b → Each P (shortened before rest) → Each P (shortened (before ++ c ∷ []) rest) → Each P (shortened before (c ∷ rest))
-    by true p gone kept = subst (λ (x : Bool). Each P (if x then shortened before rest else shortened (before ++ c ∷ []) rest)) (sym p) gone
-    by false p gone kept = subst (λ (x : Bool). Each P (if x then shortened before rest else shortened (before ++ c ∷ []) rest)) (sym p) kept
+    by : (b : Bool) → (not (is_test c) && is_told m (before ++ rest) c) ≡ b → Each P (shortened m before rest) → Each P (shortened m (before ++ c ∷ []) rest) → Each P (shortened m before (c ∷ rest))
+    by true p gone kept = subst (λ (x : Bool). Each P (if x then shortened m before rest else shortened m (before ++ c ∷ []) rest)) (sym p) gone
+    by false p gone kept = subst (λ (x : Bool). Each P (if x then shortened m before rest else shortened m (before ++ c ∷ []) rest)) (sym p) kept
 
 -- ---- number tests
 

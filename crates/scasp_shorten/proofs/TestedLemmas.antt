@@ -8,7 +8,7 @@ use Rattle.scasp_syntax.specs.RowTruth.{row_holds}
 use Rattle.scasp_syntax.specs.Values.{Sub}
 use Rattle.scasp_syntax.specs.declared.con.Con.{Con}
 use Rattle.scasp_syntax.specs.declared.con.Con.TheVariants as con
-use Rattle.scasp_shorten.specs.Shortest.{is_test_of}
+use Rattle.scasp_shorten.specs.Following.{is_test_of}
 use Rattle.scasp_shorten.specs.Told.{are_rows_tested, is_tested, tells, tells_all}
 use Rattle.scasp_shorten.proofs.FollowingLemmas.{some-passes, test-holds, tells-meets}
 use Rattle.scasp_shorten.proofs.ShorteningLemmas.{same-test}

@@ -1,3 +1,5 @@
+pub mod Evident
+pub mod Following
 pub mod Needed
 pub mod Shortest
 pub mod Told

@@ -1,30 +1,22 @@
 -- When each constraint of a list is needed: none is told by the others.
-use Rattle.std.specs.Prelude.{◌≡◌, ◌⊎◌, Bool, true, false, List, [], ◌∷◌, ◌++◌, ⊤}
+use Rattle.std.specs.Prelude.{◌≡◌, ◌⊎◌, true, List, [], ◌∷◌, ◌++◌, ⊤}
 use Rattle.scasp_hint.specs.Finding.{found, unknown_list}
 use Rattle.scasp_syntax.specs.Values.{Valuation}
 use Rattle.scasp_syntax.specs.declared.con.Con.{Con}
-use Rattle.scasp_syntax.specs.declared.con.Con.TheVariants as con
 use Rattle.scasp_unify.specs.Negations.{negated}
+use Rattle.scasp_shorten.specs.Following.{has_negation}
 use Rattle.scasp_shorten.specs.Shortest.{shortened}
+use Rattle.scasp_shorten.specs.declared.shortening.Means.TheVariants as means
 use Rattle.scasp_shorten.specs.Told.{tells, tells_all}
 
 -- each valuation that makes the list true as it is told makes the constraint true so
 abbrev pub Says : List Con → Con → Type 0
 Says cs c = (v : Valuation) → tells_all v.of cs ≡ true → tells v.of c ≡ true
 
--- it is no number test and no excluded shape, of which no negation is asked
-abbrev pub has_negation : Con → Bool
-has_negation (con.Eq t u) = true
-has_negation (con.Neq t u) = true
-has_negation (con.NotShape x f n) = false
-has_negation (con.Num t) = false
-has_negation (con.NotNum t) = true
-has_negation (con.Row r) = true
-
 -- its negation was asked beside those before it and a list behind it, of which these stay, and that overflows
 abbrev pub OverflowsAt : List Con → Con → List Con → Type 0
 OverflowsAt before c behind =
-    (left : List Con) × (shortened (before ++ c ∷ []) left ≡ (before ++ c ∷ []) ++ behind) × (found ((before ++ left) ++ negated 0 c ∷ []) ≡ unknown_list)
+    (left : List Con) × (shortened means.Question (before ++ c ∷ []) left ≡ (before ++ c ∷ []) ++ behind) × (found ((before ++ left) ++ negated 0 c ∷ []) ≡ unknown_list)
 
 -- those before and behind the constraint do not say it, unless what was asked overflows
 abbrev pub IsNeeded : List Con → Con → List Con → Type 0

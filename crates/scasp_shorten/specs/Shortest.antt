@@ -1,70 +1,18 @@
--- The shortest form of lists of constraints: nothing stays that the rest tells.
-use Rattle.std.specs.Prelude.{ℕ, Bool, true, false, ◌&&◌, ◌||◌, not, nat_eq, nat_lt, if◌then◌else◌, pos, int_lt, List, [], ◌∷◌, ◌++◌, filter, map, length}
-use Rattle.std.specs.List.{list_all, list_any}
+-- The shortest form of lists of constraints: nothing stays that the rest tells, as far as that is evident or asked.
+use Rattle.std.specs.Prelude.{ℕ, Bool, true, false, ◌&&◌, ◌||◌, not, nat_eq, nat_lt, if◌then◌else◌, pos, int_lt, List, [], ◌∷◌, ◌++◌, filter, flat_map, map}
+use Rattle.std.specs.List.{list_any}
 use Rattle.scasp_num.specs.declared.linear.Coeff.{Coeff}
 use Rattle.scasp_num.specs.declared.linear.Op.{Op}
 use Rattle.scasp_num.specs.declared.linear.Op.TheVariants as op
 use Rattle.scasp_syntax.specs.declared.con.Con.{Con}
 use Rattle.scasp_syntax.specs.declared.con.Con.TheVariants as con
-use Rattle.scasp_syntax.specs.declared.term.Term.{Term}
 use Rattle.scasp_syntax.specs.declared.term.Term.TheVariants as term
-use Rattle.scasp_unify.specs.Negations.{negated}
 use Rattle.scasp_shorten.specs.declared.ordering.Bound.{Bound}
 use Rattle.scasp_shorten.specs.declared.ordering.Bound.TheVariants as bound
-use Rattle.scasp_hint.specs.Finding.{Found, found, hint, nothing, unknown_list}
-
--- ---- what follows from a list
-
--- a hint shows that the list has no valuation
-abbrev pub is_shown : Found → Bool
-is_shown nothing = false
-is_shown unknown_list = false
-is_shown (hint h) = true
-
-abbrev pub is_variable : ℕ → Term → Bool
-is_variable x (term.Var y) = nat_eq x y
-is_variable x (term.Num q) = false
-is_variable x (term.App f ts) = false
-
--- it is the test that the variable is a number
-abbrev pub is_test_of : ℕ → Con → Bool
-is_test_of x (con.Num t) = is_variable x t
-is_test_of x (con.Eq t u) = false
-is_test_of x (con.Neq t u) = false
-is_test_of x (con.NotShape y f n) = false
-is_test_of x (con.NotNum t) = false
-is_test_of x (con.Row r) = false
-
--- it is a row with the variable
-abbrev pub is_row_of : ℕ → Con → Bool
-is_row_of x (con.Row r) = list_any (λ k. nat_eq x k.x) r.coeffs
-is_row_of x (con.Eq t u) = false
-is_row_of x (con.Neq t u) = false
-is_row_of x (con.NotShape y f n) = false
-is_row_of x (con.Num t) = false
-is_row_of x (con.NotNum t) = false
-
--- the list tells that the variable is a number
-abbrev pub tells_number : List Con → ℕ → Bool
-tells_number cs x = list_any (is_test_of x) cs || list_any (is_row_of x) cs
-
--- with its negation the list has no valuation, as a hint shows
-abbrev pub is_asked : List Con → Con → Bool
-is_asked cs c = is_shown (found (cs ++ negated 0 c ∷ []))
-
-abbrev pub is_number_by : List Con → Term → Bool
-is_number_by cs (term.Var x) = tells_number cs x
-is_number_by cs (term.Num q) = true
-is_number_by cs (term.App f ts) = false
-
--- the list tells the constraint
-abbrev pub follows : List Con → Con → Bool
-follows cs (con.Num t) = is_number_by cs t
-follows cs (con.NotShape x f n) = tells_number cs x
-follows cs (con.Row r) = list_all (λ k. tells_number cs k.x) r.coeffs && is_asked cs (con.Row r)
-follows cs (con.Eq t u) = is_asked cs (con.Eq t u)
-follows cs (con.Neq t u) = is_asked cs (con.Neq t u)
-follows cs (con.NotNum t) = is_asked cs (con.NotNum t)
+use Rattle.scasp_shorten.specs.declared.shortening.Means.{Means}
+use Rattle.scasp_shorten.specs.declared.shortening.Means.TheVariants as means
+use Rattle.scasp_shorten.specs.Evident.{is_evident}
+use Rattle.scasp_shorten.specs.Following.{follows, is_row_of, questions}
 
 -- ---- a list
 
@@ -76,11 +24,33 @@ is_test (con.NotShape x f n) = false
 is_test (con.NotNum t) = false
 is_test (con.Row r) = false
 
+-- the list tells it, as is seen by these means
+abbrev pub is_told : Means → List Con → Con → Bool
+is_told means.Evidence cs c = is_evident cs c
+is_told means.Question cs c = follows cs c
+
 -- what stays of the list behind these: no constraint, but for number tests, that those which stay before it and all behind it
--- tell
-abbrev pub shortened : List Con → List Con → List Con
-shortened before [] = before
-shortened before (c ∷ rest) = if not (is_test c) && follows (before ++ rest) c then shortened before rest else shortened (before ++ c ∷ []) rest
+-- tell, as is seen by these means
+abbrev pub shortened : Means → List Con → List Con → List Con
+shortened m before [] = before
+shortened m before (c ∷ rest) = if not (is_test c) && is_told m (before ++ rest) c then shortened m before rest else shortened m (before ++ c ∷ []) rest
+
+-- without what is evident
+abbrev pub without_evident : List Con → List Con
+without_evident cs = shortened means.Evidence [] cs
+
+-- so many questions are asked of a list
+abbrev pub most_questions : ℕ
+most_questions = 8
+
+-- what stays of the list behind these: of the last that so many questions serve for, no constraint that the rest tells, as
+-- is asked; all that stand before them
+abbrev pub thinned_behind : List Con → List Con → List Con
+thinned_behind before [] = before
+thinned_behind before (c ∷ rest) = if nat_lt most_questions (questions (c ∷ rest)) then thinned_behind (before ++ c ∷ []) rest else shortened means.Question before (c ∷ rest)
+
+abbrev pub thinned : List Con → List Con
+thinned cs = thinned_behind [] cs
 
 -- it is a number test of a number, or of a variable that some row of the list has
 abbrev pub is_told_by_rows : List Con → Con → Bool
@@ -148,28 +118,43 @@ in_order (c ∷ rest) = put_by (bound_of c) (c ∷ in_order rest)
 
 -- ---- all lists
 
--- so many constraints of a list are looked through, and so many lists
-abbrev pub most_constraints : ℕ
-most_constraints = 32
-
-abbrev pub most_lists : ℕ
-most_lists = 8
-
 abbrev pub shortest_list : List Con → List Con
-shortest_list cs = if nat_lt most_constraints (length cs) then cs else in_order (without_tests (shortened [] cs))
+shortest_list cs = in_order (without_tests (thinned (without_evident cs)))
 
--- each constraint of the second list is told by the first
-abbrev pub is_within : List Con → List Con → Bool
-is_within cs ds = list_all (follows cs) ds
+-- the constraints of the second list that are not evident from the first
+abbrev pub left_open : List Con → List Con → List Con
+left_open cs ds = filter (λ d. not (is_evident cs d)) ds
+
+abbrev pub is_empty : List Con → Bool
+is_empty [] = true
+is_empty (c ∷ cs) = false
+
+-- the constraint that is all of the list
+abbrev pub single : List Con → List Con
+single [] = []
+single (c ∷ []) = c ∷ []
+single (c ∷ d ∷ cs) = []
+
+-- the list tells one of the first two, as is asked
+abbrev pub tells_early : List Con → List Con → Bool
+tells_early cs [] = false
+tells_early cs (c ∷ []) = follows cs c
+tells_early cs (c ∷ d ∷ more) = follows cs c || follows cs d
+
+-- of one of these lists nothing is open, or of one of the first two of which one constraint is open a question shows this
+-- one
+abbrev pub is_closed : List Con → List (List Con) → Bool
+is_closed cs opens = list_any is_empty opens || tells_early cs (flat_map single opens)
+
+-- the list is within one of the others
+abbrev pub is_within_one : List Con → List (List Con) → Bool
+is_within_one cs others = is_closed cs (map (left_open cs) others)
 
 -- the lists that stay behind these: none that is within one which stays before it, or within one behind it
 abbrev pub uncontained : List (List Con) → List (List Con) → List (List Con)
 uncontained before [] = before
-uncontained before (cs ∷ rest) = if list_any (is_within cs) (before ++ rest) then uncontained before rest else uncontained (before ++ cs ∷ []) rest
-
-abbrev pub apart : List (List Con) → List (List Con)
-apart lists = if nat_lt most_lists (length lists) then lists else uncontained [] lists
+uncontained before (cs ∷ rest) = if is_within_one cs (before ++ rest) then uncontained before rest else uncontained (before ++ cs ∷ []) rest
 
 -- the lists in their shortest form
 abbrev pub shortest : List (List Con) → List (List Con)
-shortest lists = apart (map shortest_list lists)
+shortest lists = uncontained [] (map shortest_list lists)

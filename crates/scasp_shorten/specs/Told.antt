@@ -4,7 +4,7 @@ use Rattle.std.specs.List.{list_all, list_any}
 use Rattle.scasp_syntax.specs.Constraints.{holds, is_number}
 use Rattle.scasp_syntax.specs.RowTruth.{row_holds}
 use Rattle.scasp_syntax.specs.Values.{Sub}
-use Rattle.scasp_shorten.specs.Shortest.{is_test_of}
+use Rattle.scasp_shorten.specs.Following.{is_test_of}
 use Rattle.scasp_syntax.specs.declared.con.Con.{Con}
 use Rattle.scasp_syntax.specs.declared.con.Con.TheVariants as con
 

@@ -1,35 +1,26 @@
 //! Lists of which one holds, without those that others contain.
-ghost use Rattle.std.specs.Prelude.{◌≡◌, ◌∷◌, ◌++◌, [], IfOk, map};
+ghost use Rattle.std.specs.Prelude.{◌≡◌, ◌∷◌, ◌++◌, [], IfOk, OnOk, flat_map, map};
 ghost use Rattle.std.specs.List.{list_any};
 ghost use Rattle.scasp_hint.specs.AskedRows.{RowsNormal};
 ghost use Rattle.scasp_list.specs.Each.{Each};
-ghost use Rattle.scasp_shorten.specs.Shortest.{apart, is_within, shortest, shortest_list, uncontained};
+ghost use Rattle.scasp_shorten.specs.Shortest.{is_closed, is_empty, is_within_one, left_open, shortest, shortest_list, single, tells_early, uncontained};
 ghost use Rattle.scasp_shorten.specs.Told.{tells_one};
 ghost use Rattle.scasp_syntax.specs.Values.{Valuation};
 
-use crate::following::{follows, push_copies};
+use crate::evident::is_evident;
+use crate::following::follows;
 use crate::ordering::in_order;
-use crate::shortening::{shortened, without_tests};
+use crate::shortening::{thinned, without_evident, without_tests};
 use scasp_list::Memory;
 use scasp_syntax::{Con, ConLists, Cons, DeepCopy};
 use std::alloc::Global;
-
-/// So many constraints of a list are looked through.
-pub const MOST_CONSTRAINTS: usize = 32;
-
-/// So many lists are looked through.
-const MOST_LISTS: usize = 8;
 
 /// The list in its shortest form.
 fn shortest_list(alloc: Global, list: &[Con]) -> Result<Cons, Memory>
     ensures { IfOk result (λ made. made ≡ shortest_list list.now) }
 {
-    if list.len() > MOST_CONSTRAINTS {
-        let mut made = Cons::new(alloc);
-        push_copies(alloc, &mut made, list)?;
-        return Ok(made);
-    }
-    let short = shortened(alloc, list)?;
+    let open = without_evident(alloc, list)?;
+    let short = thinned(alloc, open.as_slice())?;
     let told = without_tests(alloc, short.as_slice())?;
     in_order(alloc, told.as_slice())
 }
@@ -45,28 +36,95 @@ fn shortest_lists(alloc: Global, lists: &[Cons]) -> Result<ConLists, Memory>
     Ok(made)
 }
 
-/// Whether the first list tells each constraint of the second.
-fn is_within(alloc: Global, list: &[Con], other: &[Con]) -> Result<bool, Memory>
-    ensures { IfOk result (λ is. is ≡ is_within list.now other.now) }
+/// The constraints of the second list that are not evident from the first.
+fn left_open(alloc: Global, list: &[Con], other: &[Con]) -> Result<Cons, Memory>
+    ensures { IfOk result (λ made. made ≡ left_open list.now other.now) }
 {
+    let mut made = Cons::new(alloc);
     for constraint in other {
-        if !follows(alloc, list, constraint)? {
-            return Ok(false);
+        if !is_evident(alloc, list, constraint)? {
+            made.push(constraint.copy(alloc)?)?;
         }
     }
-    Ok(true)
+    Ok(made)
 }
 
-/// Whether the list is within one of the others.
-fn is_within_one(alloc: Global, list: &[Con], others: &[Cons]) -> Result<bool, Memory>
-    ensures { IfOk result (λ is. is ≡ list_any (is_within list.now) others.now) }
+/// Puts what of each of the others is open behind the lists.
+fn push_open(
+    alloc: Global,
+    opens: &mut ConLists,
+    list: &[Con],
+    others: &[Cons],
+) -> Result<(), Memory>
+    ensures { OnOk result (opens.new ≡ opens.old ++ map (left_open list.now) others.now) }
 {
     for other in others {
-        if is_within(alloc, list, other.as_slice())? {
-            return Ok(true);
-        }
+        opens.push(left_open(alloc, list, other.as_slice())?)?;
     }
-    Ok(false)
+    Ok(())
+}
+
+/// Whether one of the lists is empty.
+fn has_empty(opens: &[Cons]) -> bool
+    ensures { result ≡ list_any is_empty opens.now }
+{
+    opens.iter().any(|open| is_empty(open.as_slice()))
+}
+
+fn is_empty(list: &[Con]) -> bool
+    ensures { result ≡ is_empty list.now }
+{
+    match list {
+        [] => true,
+        [_, ..] => false,
+    }
+}
+
+/// Puts the constraint that is all of the list behind the others.
+fn push_single(alloc: Global, made: &mut Cons, list: &[Con]) -> Result<(), Memory>
+    ensures { OnOk result (made.new ≡ made.old ++ single list.now) }
+{
+    match list {
+        [constraint] => {
+            made.push(constraint.copy(alloc)?)?;
+            Ok(())
+        }
+        [] | [_, _, ..] => Ok(()),
+    }
+}
+
+/// The constraints that are all of their lists.
+fn singles(alloc: Global, opens: &[Cons]) -> Result<Cons, Memory>
+    ensures { IfOk result (λ made. made ≡ flat_map single opens.now) }
+{
+    let mut made = Cons::new(alloc);
+    for open in opens {
+        push_single(alloc, &mut made, open.as_slice())?;
+    }
+    Ok(made)
+}
+
+/// Whether the list tells one of the first two constraints, as is asked.
+fn tells_early(alloc: Global, list: &[Con], constraints: &[Con]) -> Result<bool, Memory>
+    ensures { IfOk result (λ is. is ≡ tells_early list.now constraints.now) }
+{
+    match constraints {
+        [] => Ok(false),
+        [one] => follows(alloc, list, one),
+        [one, other, ..] => Ok(follows(alloc, list, one)? || follows(alloc, list, other)?),
+    }
+}
+
+/// Whether of one of these lists nothing is open, or of one of the first two of which one constraint is open a question
+/// shows this one.
+fn is_closed(alloc: Global, list: &[Con], opens: &[Cons]) -> Result<bool, Memory>
+    ensures { IfOk result (λ is. is ≡ is_closed list.now opens.now) }
+{
+    if has_empty(opens) {
+        return Ok(true);
+    }
+    let single = singles(alloc, opens)?;
+    tells_early(alloc, list, single.as_slice())
 }
 
 /// Whether the list is within one of those before it, or of those behind it.
@@ -76,9 +134,12 @@ fn is_needless(
     behind: &[Cons],
     list: &[Con],
 ) -> Result<bool, Memory>
-    ensures { IfOk result (λ is. is ≡ list_any (is_within list.now) (before.now ++ behind.now)) }
+    ensures { IfOk result (λ is. is ≡ is_within_one list.now (before.now ++ behind.now)) }
 {
-    Ok(is_within_one(alloc, list, before)? || is_within_one(alloc, list, behind)?)
+    let mut opens = ConLists::new(alloc);
+    push_open(alloc, &mut opens, list, before)?;
+    push_open(alloc, &mut opens, list, behind)?;
+    is_closed(alloc, list, opens.as_slice())
 }
 
 /// The lists that stay: none that is within one which stays before it, or within one behind it.
@@ -94,16 +155,6 @@ fn uncontained(alloc: Global, lists: &[Cons]) -> Result<ConLists, Memory>
         left = behind;
     }
     Ok(before)
-}
-
-/// The lists without those that others contain, if they are not too many.
-fn apart(alloc: Global, lists: ConLists) -> Result<ConLists, Memory>
-    ensures { IfOk result (λ made. made ≡ apart lists) }
-{
-    if lists.len() > MOST_LISTS {
-        return Ok(lists);
-    }
-    uncontained(alloc, lists.as_slice())
 }
 
 /// What is read of a row tells that it is in normal form.
@@ -142,5 +193,5 @@ pub fn shortest(lists: &ConLists) -> Result<ConLists, Memory>
     let alloc = lists.allocator();
     note_all_rows(lists.as_slice());
     let short = shortest_lists(alloc, lists.as_slice())?;
-    apart(alloc, short)
+    uncontained(alloc, short.as_slice())
 }

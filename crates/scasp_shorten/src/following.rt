@@ -1,7 +1,7 @@
 //! What follows from a list of constraints.
 ghost use Rattle.std.specs.Prelude.{◌≡◌, ◌++◌, IfOk, OnOk, nat_eq};
 ghost use Rattle.std.specs.List.{list_all, list_any};
-ghost use Rattle.scasp_shorten.specs.Shortest.{follows, is_asked, is_number_by, is_row_of, is_test_of, is_variable, tells_number};
+ghost use Rattle.scasp_shorten.specs.Following.{follows, has_negation, is_asked, is_number_by, is_row_of, is_test_of, is_variable, questions, tells_number};
 
 use scasp_hint::find;
 use scasp_list::Memory;
@@ -22,7 +22,7 @@ fn is_variable(x: u64, term: &Term) -> bool
 }
 
 /// Whether the row has the variable.
-fn has_variable(x: u64, row: &Row) -> bool
+pub(crate) fn has_variable(x: u64, row: &Row) -> bool
     ensures { result ≡ list_any (λ k. nat_eq x k.x) row.now.coeffs }
 {
     row.coeffs().as_slice().iter().any(|k| x == k.x)
@@ -67,14 +67,14 @@ fn has_test_of(list: &[Con], x: u64) -> bool
 }
 
 /// Whether the list tells that the variable is a number.
-fn tells_number(list: &[Con], x: u64) -> bool
+pub(crate) fn tells_number(list: &[Con], x: u64) -> bool
     ensures { result ≡ tells_number list.now x }
 {
     has_test_of(list, x) || has_row_of(list, x)
 }
 
 /// Whether the list tells that each variable of the row is a number.
-fn tells_numbers(list: &[Con], row: &Row) -> bool
+pub(crate) fn tells_numbers(list: &[Con], row: &Row) -> bool
     ensures { result ≡ list_all (λ k. tells_number list.now k.x) row.now.coeffs }
 {
     row.coeffs()
@@ -84,7 +84,7 @@ fn tells_numbers(list: &[Con], row: &Row) -> bool
 }
 
 /// Whether the list tells that the term is a number.
-fn is_number_by(list: &[Con], term: &Term) -> bool
+pub(crate) fn is_number_by(list: &[Con], term: &Term) -> bool
     ensures { result ≡ is_number_by list.now term.now }
 {
     match term {
@@ -104,6 +104,29 @@ pub(crate) fn push_copies(alloc: Global, made: &mut Cons, list: &[Con]) -> Resul
     Ok(())
 }
 
+/// Whether a question is asked about the constraint.
+fn has_negation(constraint: &Con) -> bool
+    ensures { result ≡ has_negation constraint.now }
+{
+    match constraint {
+        Con::Eq(_, _) | Con::Neq(_, _) | Con::NotNum(_) | Con::Row(_) => true,
+        Con::NotShape(_, _, _) | Con::Num(_) => false,
+    }
+}
+
+/// So many questions the list is worth.
+pub(crate) fn questions(list: &[Con]) -> usize
+    ensures { result ≡ questions list.now }
+{
+    let mut count = 0usize;
+    for constraint in list {
+        if has_negation(constraint) {
+            count += 1;
+        }
+    }
+    count
+}
+
 /// Whether a hint shows that the list has no valuation with the negation of the constraint.
 fn is_asked(alloc: Global, list: &[Con], constraint: &Con) -> Result<bool, Memory>
     ensures { IfOk result (λ is. is ≡ is_asked list.now constraint.now) }
@@ -118,7 +141,7 @@ fn is_asked(alloc: Global, list: &[Con], constraint: &Con) -> Result<bool, Memor
     }
 }
 
-/// Whether the list tells the constraint: a hint shows that with its negation the list has no valuation, and the list
+/// Whether the list tells the constraint, by one question at most: a hint shows that with its negation the list has no valuation, and the list
 /// tells that the variables of a row are numbers. Not so where what is asked for the hint overflows.
 pub fn follows(alloc: Global, list: &[Con], constraint: &Con) -> Result<bool, Memory>
     ensures { IfOk result (λ is. is ≡ follows list.now constraint.now) }

@@ -2,10 +2,11 @@
 #![tactic(auto)]
 
 mod alternatives;
+mod evident;
 mod following;
 pub mod laws;
 mod ordering;
 mod shortening;
 
-pub use alternatives::{MOST_CONSTRAINTS, shortest};
+pub use alternatives::shortest;
 pub use following::{follows, has_row_of};

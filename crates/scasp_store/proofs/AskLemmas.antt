@@ -43,7 +43,7 @@ use Rattle.scasp_store.proofs.TrueLemmas.{always, number-stays}
 
 -- ---- booleans
 
-any-left : (p : Con → Bool) (cs ds : List Con) → list_any p cs ≡ true → list_any p (cs ++ ds) ≡ true
+pub any-left : (p : Con → Bool) (cs ds : List Con) → list_any p cs ≡ true → list_any p (cs ++ ds) ≡ true
 any-left p [] ds e = absurd (true≢false (sym e))
 any-left p (c ∷ cs) ds e = by (p c) e (any-left p cs ds)
   where
@@ -51,7 +51,7 @@ any-left p (c ∷ cs) ds e = by (p c) e (any-left p cs ds)
     by true e rest = refl
     by false e rest = rest e
 
-any-right : (p : Con → Bool) (cs ds : List Con) → list_any p ds ≡ true → list_any p (cs ++ ds) ≡ true
+pub any-right : (p : Con → Bool) (cs ds : List Con) → list_any p ds ≡ true → list_any p (cs ++ ds) ≡ true
 any-right p [] ds e = e
 any-right p (c ∷ cs) ds e = by (p c) (any-right p cs ds e)
   where
@@ -273,7 +273,7 @@ without-rows bs cs ps more e =
       short = all-typed read read (Each-map (λ c. is_row c ≡ false) (λ c. is_typed_con read c ≡ true) (no-row-typed read) read (each-read (sub_of bs) list none));
     }
 
-is-false : (b : Bool) → not b ≡ true → b ≡ false
+pub is-false : (b : Bool) → not b ≡ true → b ≡ false
 is-false true e = absurd (true≢false (sym e))
 is-false false e = refl
 

@@ -1,3 +1,4 @@
 pub mod Asking
+pub mod Failing
 pub mod Fixing
 pub mod Open

@@ -56,7 +56,7 @@ fn has_equation(list: &[Con]) -> bool
 // ---- rows
 
 /// Whether each variable of the row stands for a number.
-fn are_numbers(alloc: Global, bound: &Bound, coeffs: &[Coeff]) -> Result<bool, Memory>
+pub(crate) fn are_numbers(alloc: Global, bound: &Bound, coeffs: &[Coeff]) -> Result<bool, Memory>
     ensures { IfOk result (λ answer. answer ≡ list_all (λ k. is_number (sub_of bound.now.now k.x)) coeffs.now) }
 {
     for coeff in coeffs {

@@ -3,6 +3,7 @@
 
 mod answering;
 mod asking;
+mod failing;
 mod fixing;
 mod opening;
 mod store;

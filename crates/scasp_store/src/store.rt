@@ -1,5 +1,5 @@
 //! Bindings and given constraints.
-ghost use Rattle.std.specs.Prelude.{◌≡◌, [], ◌∷◌, ◌++◌, ◌&&◌, IfOk, IfSome, OnErr, OnOk};
+ghost use Rattle.std.specs.Prelude.{◌≡◌, [], ◌∷◌, ◌++◌, ◌&&◌, IfOk, IfSome, OnErr, OnOk, false, true};
 ghost use Rattle.scasp_bound.specs.Bounds.{unbound};
 ghost use Rattle.scasp_hint.specs.Satisfying.{sat};
 ghost use Rattle.scasp_search_constraints.specs.Assuming.Taken.{Gives};
@@ -7,6 +7,7 @@ ghost use Rattle.scasp_store.specs.Held.{list_with};
 ghost use Rattle.scasp_trail.specs.Past.{earlier, is_marked, latest};
 
 use crate::answering::answer;
+use crate::failing::fails;
 use crate::opening::{is_new, settle, standing, take_out};
 use scasp_bound::Bound;
 use scasp_given::Given;
@@ -136,10 +137,22 @@ impl Store {
         Ok(list)
     }
 
-    /// Whether what is held has a valuation with these constraints, by what is open alone; None where the whole list is to
-    /// be asked.
+    /// Whether what is held has no valuation with these constraints, which one or two constraints alone tell.
+    fn fails(&self, alloc: Global, more: &[Con]) -> Result<bool, Memory>
+        ensures { IfOk result (λ answer. answer ≡ true → sat (list_with self.now more.now) ≡ false) }
+    {
+        if !both(self.is_solved, self.is_known) {
+            return Ok(false);
+        }
+        let given = self.given.as_slice();
+        let answer = fails(alloc, &self.bound, given, self.places.as_slice(), more)?;
+        Ok(answer)
+    }
+
+    /// Whether what is held has a valuation with these constraints, by the list of what is open; None where the whole list is
+    /// to be asked.
     #[tactic(auto, using(crate::proofs::KeepLemmas::good_places))]
-    fn answer(&mut self, alloc: Global, more: &[Con]) -> Result<Option<bool>, Memory>
+    fn answer_open(&mut self, alloc: Global, more: &[Con]) -> Result<Option<bool>, Memory>
         ensures answer { IfOk result (λ found. IfSome found (λ answer. answer ≡ sat (list_with self.old more.now))) }
         ensures same { self.new ≡ self.old }
     {
@@ -150,6 +163,18 @@ impl Store {
         settle(alloc, &self.bound, given, &mut self.places)?;
         let list = standing(alloc, given, self.places.as_slice(), more)?;
         answer(alloc, &self.bound, list.as_slice())
+    }
+
+    /// Whether what is held has a valuation with these constraints, by what is open alone; None where the whole list is to
+    /// be asked.
+    fn answer(&mut self, alloc: Global, more: &[Con]) -> Result<Option<bool>, Memory>
+        ensures answer { IfOk result (λ found. IfSome found (λ answer. answer ≡ sat (list_with self.old more.now))) }
+        ensures same { self.new ≡ self.old }
+    {
+        if self.fails(alloc, more)? {
+            return Ok(Some(false));
+        }
+        self.answer_open(alloc, more)
     }
 
     /// Whether the bindings, as equations, and the given constraints have a valuation together with these. Overflow only

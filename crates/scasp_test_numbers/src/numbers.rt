@@ -19,7 +19,7 @@ struct Case {
     order: Ordering,
 }
 
-static CASES: [Case; 22] = [
+static CASES: [Case; 12] = [
     Case {
         left: (1, 2),
         right: (1, 3),
@@ -137,6 +137,9 @@ static CASES: [Case; 22] = [
         quotient: Some((1, 1)),
         order: Ordering::Equal,
     },
+];
+
+static FURTHER_CASES: [Case; 10] = [
     Case {
         left: (1267650600228229401496703205376, 134217727),
         right: (134217727, 1267650600228229401496703205377),
@@ -299,17 +302,27 @@ fn quotient(left: &Rat, right: &Rat) -> Option<Fraction> {
     parts(left.div(right))
 }
 
-#[test]
-fn numbers(rt: HostRuntime) -> Result<(), Fail> {
-    for case in &CASES {
+/// Whether each operation gives what its case says.
+fn are_worked_out(cases: &[Case]) -> Result<bool, Fail> {
+    for case in cases {
         let left = number(case.left)?;
         let right = number(case.right)?;
-        assert_eq!(rt; parts(left.add(&right)), case.sum);
-        assert_eq!(rt; parts(left.sub(&right)), case.difference);
-        assert_eq!(rt; parts(left.mul(&right)), case.product);
-        assert_eq!(rt; quotient(&left, &right), case.quotient);
-        assert_eq!(rt; left.cmp(&right), case.order);
+        let is_right = parts(left.add(&right)) == case.sum
+            && parts(left.sub(&right)) == case.difference
+            && parts(left.mul(&right)) == case.product
+            && quotient(&left, &right) == case.quotient
+            && left.cmp(&right) == case.order;
+        if !is_right {
+            return Ok(false);
+        }
     }
+    Ok(true)
+}
+
+#[test]
+fn numbers(rt: HostRuntime) -> Result<(), Fail> {
+    assert!(rt; are_worked_out(CASES.as_slice())?);
+    assert!(rt; are_worked_out(FURTHER_CASES.as_slice())?);
     for (fraction, lowest) in &FRACTIONS {
         assert!(rt; fraction.1 != 0);
         assert_eq!(rt; parts(Rat::new(fraction.0, fraction.1)), *lowest);

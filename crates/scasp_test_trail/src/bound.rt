@@ -28,7 +28,7 @@ struct Row {
     readings: &'static [Reading],
 }
 
-const ROWS: [Row; 9] = [
+const ROWS: [Row; 6] = [
     Row {
         steps: &[Step::Leave, Step::TakeOut(3)],
         readings: &[Reading {
@@ -131,6 +131,9 @@ const ROWS: [Row; 9] = [
             },
         ],
     },
+];
+
+const FURTHER_ROWS: [Row; 3] = [
     Row {
         steps: &[
             Step::Bind(0, 1),
@@ -251,10 +254,19 @@ fn leads_there(alloc: Global, row: &Row) -> Result<bool, Memory> {
     Ok(true)
 }
 
+/// Whether each row leads where it says.
+fn all_lead_there(alloc: Global, rows: &[Row]) -> Result<bool, Fail> {
+    for row in rows {
+        if !leads_there(alloc, row)? {
+            return Ok(false);
+        }
+    }
+    Ok(true)
+}
+
 #[test]
 fn rows(rt: HostRuntime) -> Result<(), Fail> {
-    for row in &ROWS {
-        assert!(rt; leads_there(rt.alloc(), row)?);
-    }
+    assert!(rt; all_lead_there(rt.alloc(), ROWS.as_slice())?);
+    assert!(rt; all_lead_there(rt.alloc(), FURTHER_ROWS.as_slice())?);
     Ok(())
 }

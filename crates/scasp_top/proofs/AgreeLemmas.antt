@@ -91,7 +91,7 @@ calm : (o : Outside) (file : List ℕ) → Failed (without_faults o) file → �
 calm o file rose = absurd (omega (arith, rose))
 
 program-file-is : (program answers : List ℕ) (command : Command) (file : List ℕ) → Some (Check program answers) ≡ Some command → program_file command ≡ Some file → file ≡ program
-program-file-is program answers (Run other budget asked) file e named = cc
+program-file-is program answers (Run other budget asked format) file e named = cc
 program-file-is program answers (Check p a) file e named = cc
 program-file-is program answers (Trial n) file e named = cc
 program-file-is program answers (Extend p a d) file e named = cc
@@ -116,7 +116,7 @@ module _ (program answers : List ℕ) (o : Outside) (bytes blocks : List ℕ) (t
   comes text status k (no_program command file is named (refused read are r)) =
       let same : read ≡ bytes = these program bytes file told (program-file-is program answers command file is named) read are in
       at_program r.fault (ap (program_in list_names) (sym same) ∙ r.is) r.says
-  comes text status k (runs file budget asked p names is has r) = cc
+  comes text status k (runs file budget asked format p names is has r) = cc
   comes text status k (tries n is t) = cc
   comes text status k (extends p a d is e) = cc
   comes text status k (rechecks a fs is r) = cc

@@ -58,7 +58,7 @@ program-fault asked o command file is named rose = fault-of asked o command is (
         subst (λ (x : List ℕ). Failed o x) same rose
 
     by : (command : Command) → program_file command ≡ Some file → HasReadFault (Some command) o
-    by (Run other budget answers) e = of other e
+    by (Run other budget answers format) e = of other e
     by (Check program answers) e = inl (of program e)
     by (Trial n) e = cc
     by (Extend program answers domain) e = cc
@@ -72,7 +72,7 @@ module _ (asked : Option Command) (o : Outside) (text : List ℕ) (status : Stat
   ends (usage is says) = quiet (HasReadFault asked o) status Usage says.ending_is usage-quiet
   ends (no_program command file is named refusal) =
       wider (Failed o file) (HasReadFault asked o) status (program-fault asked o command file is named) (program-ends o _ file text status refusal)
-  ends (runs file budget answers p names is program r) = quiet (HasReadFault asked o) status (run_status r.end) r.ending (run-quiet r.end)
+  ends (runs file budget answers format p names is program r) = quiet (HasReadFault asked o) status (run_status r.end) r.ending (run-quiet r.end)
   ends (no_answers program answers p names is read refusal) =
       wider (Failed o answers) (HasReadFault asked o) status (λ h. fault-of asked o (Check program answers) is (inr h)) (answers-end o names answers text status refusal)
   ends (checks program answers p names entries is read has c) = quiet (HasReadFault asked o) status (check_status c.end) c.ending (check-quiet c.end)
@@ -90,7 +90,7 @@ module _ (asked : Option Command) (o : Outside) (text : List ℕ) (status : Stat
   without fine (usage is says) = usage is says
   without fine (no_program command file is named refusal) =
       no_program command file is named (program-without o _ file text status (λ h. fine (program-fault asked o command file is named h)) refusal)
-  without fine (runs file budget answers p names is program r) = runs file budget answers p names is program r
+  without fine (runs file budget answers format p names is program r) = runs file budget answers format p names is program r
   without fine (no_answers program answers p names is read refusal) =
       no_answers program answers p names is read
       (answers-without o names answers text status (λ h. fine (fault-of asked o (Check program answers) is (inr h))) refusal)
@@ -154,7 +154,7 @@ module _ (o : Outside) (sure : (file : List ℕ) → ¬ Failed o file) where
 
   pub sure-reads : (asked : Option Command) → ¬ HasReadFault asked o
   sure-reads None h = h
-  sure-reads (Some (Run file budget answers)) h = sure file h
+  sure-reads (Some (Run file budget answers format)) h = sure file h
   sure-reads (Some (Check program answers)) (inl h) = sure program h
   sure-reads (Some (Check program answers)) (inr h) = sure answers h
   sure-reads (Some (Trial n)) h = h

@@ -4,9 +4,11 @@ use Rattle.scasp_syntax.specs.declared.program.Program.{Program}
 use Rattle.scasp_answers.specs.Blocks.States.{Entry}
 use Rattle.scasp_command_words.specs.declared.command.Command.{Command}
 use Rattle.scasp_command_words.specs.declared.command.Command.TheVariants.{Run, Check, Trial, Extend, Recheck}
+use Rattle.scasp_command_run.specs.declared.requests.Request.{Request}
+use Rattle.scasp_command_words.specs.declared.format.Format.{Format}
 use Rattle.scasp_command_inputs.specs.Halts.{IfLine, Tells}
 use Rattle.scasp_command_inputs.specs.Inputs.{outside, HasAnswers, IsAnswers, IsNoAnswers, IsNoProgram, IsProgram, Outside}
-use Rattle.scasp_top.specs.Outputs.{program_file, Checks, Outputs, Runs, TriesNodes, nothing, no_program, runs, no_answers, checks, tries, extends, rechecks}
+use Rattle.scasp_top.specs.Outputs.{program_file, requested, Checks, Outputs, Runs, TriesNodes, nothing, no_program, runs, no_answers, checks, tries, extends, rechecks}
 use Rattle.scasp_command_inputs.specs.Reports.{Reports}
 use Rattle.scasp_command_inputs.specs.declared.halt.Halt.{Halt}
 use Rattle.scasp_command_inputs.specs.declared.status.Status.{Status}
@@ -26,13 +28,14 @@ stops-at-program command file told first after h taken taken' faults faults' sta
     (tells-widen (IsNoProgram o file) (Outputs (Some command) o) h line (λ text s no. no_program command file refl named no) (λ text s says. nothing says))
 
 -- the program is run
-pub goes-on-run : (file : List ℕ) (budget answers : ℕ) (told : List ℕ → Option (List ℕ)) (first after : List ℕ → ℕ) (p : Program) (names : List (List ℕ))
+pub goes-on-run : (file : List ℕ) (budget answers : ℕ) (format : Format) (request : Request) → request ≡ requested budget answers format
+    → (told : List ℕ → Option (List ℕ)) (first after : List ℕ → ℕ) (p : Program) (names : List (List ℕ))
     (taken taken' : Option (List ℕ)) (faults faults' : ℕ) (status : Status)
-    → IsProgram (told file) p names → Reports (Runs p names budget answers) taken taken' faults faults' status
-    → Reports (Outputs (Some (Run file budget answers)) (outside told first after)) taken taken' faults faults' status
-goes-on-run file budget answers told first after p names taken taken' faults faults' status program =
-    reports-widen (Runs p names budget answers) (Outputs (Some (Run file budget answers)) (outside told first after)) taken taken' faults faults' status
-    (λ text s r. runs file budget answers p names refl program r)
+    → IsProgram (told file) p names → Reports (Runs p names request) taken taken' faults faults' status
+    → Reports (Outputs (Some (Run file budget answers format)) (outside told first after)) taken taken' faults faults' status
+goes-on-run file budget answers format request is told first after p names taken taken' faults faults' status program =
+    reports-widen (Runs p names request) (Outputs (Some (Run file budget answers format)) (outside told first after)) taken taken' faults faults' status
+    (λ text s r. runs file budget answers format p names refl program (subst (λ (asked : Request). Runs p names asked text s) is r))
 
 -- the answer file is not read, behind a program
 pub stops-at-answers : (program answers : List ℕ) (told told' : List ℕ → Option (List ℕ)) (first before after : List ℕ → ℕ) (p : Program) (names : List (List ℕ)) (h : Halt)

@@ -8,29 +8,29 @@ use Rattle.scasp_io.specs.Taken.{TakesFirst, TakesWhole}
 use Rattle.scasp_command_run.specs.Jobs.{job}
 use Rattle.scasp_command_run.specs.Runs.{IsRun}
 use Rattle.scasp_command_run.specs.declared.ends.RunEnd.{RunEnd}
+use Rattle.scasp_command_run.specs.declared.requests.Request.{Request}
 use Rattle.scasp_command_check.specs.Outputs.{KeepsWorth, TakesLines}
 use Rattle.scasp_command_check.specs.Texts.{block_lines, recheck_text, rechecked_of}
 use Rattle.scasp_command_check.specs.declared.checking.Rechecked.{Rechecked}
 use Rattle.scasp_top.specs.Ends.{run_status, check_status}
-use Rattle.scasp_top.specs.Outputs.{asked_answers, Checks, Runs}
+use Rattle.scasp_top.specs.Outputs.{Checks, Runs}
 use Rattle.scasp_command_inputs.specs.Reports.{Reports, whole, part}
 use Rattle.scasp_command_inputs.specs.declared.status.Status.{Status}
 use Rattle.scasp_command_inputs.specs.declared.status.Status.TheVariants.{Memory, Write}
 
 -- a run that ended, or was cut off by want of memory
-pub takes-run : (p : Program) (names : List (List ℕ)) (budget answers : ℕ) (asked : Option ℕ) (end : Option RunEnd) (status : Status) (before after : Option (List ℕ)) (faults faults' : ℕ)
-    → asked ≡ asked_answers answers → TakesWhole (λ text. IsRun (job p names budget asked) text end) before after → status ≡ run_status end
-    → Reports (Runs p names budget answers) before after faults faults' status
-takes-run p names budget answers asked end status before after faults faults' same t is =
-    whole (record { text = t.text; may = record { end = end; run = subst (λ (a : Option ℕ). IsRun (job p names budget a) t.text end) same t.may; ending = is }; taken = t.taken })
+pub takes-run : (p : Program) (names : List (List ℕ)) (request : Request) (end : Option RunEnd) (status : Status) (before after : Option (List ℕ)) (faults faults' : ℕ)
+    → TakesWhole (λ text. IsRun (job p names request) text end) before after → status ≡ run_status end
+    → Reports (Runs p names request) before after faults faults' status
+takes-run p names request end status before after faults faults' t is =
+    whole (record { text = t.text; may = record { end = end; run = t.may; ending = is }; taken = t.taken })
 
 -- a run of which a write failed
-pub takes-part : (p : Program) (names : List (List ℕ)) (budget answers : ℕ) (asked : Option ℕ) (before after : Option (List ℕ)) (faults faults' : ℕ)
-    → asked ≡ asked_answers answers → TakesFirst (λ text. (end : Option RunEnd) × IsRun (job p names budget asked) text end) before after → Rose faults faults'
-    → Reports (Runs p names budget answers) before after faults faults' Write
-takes-part p names budget answers asked before after faults faults' same t rose =
-    let run = subst (λ (a : Option ℕ). IsRun (job p names budget a) t.text t.may.0) same t.may.1 in
-    part refl rose (record { text = t.text; may = (run_status t.may.0, record { end = t.may.0; run = run; ending = refl }); part = t.part })
+pub takes-part : (p : Program) (names : List (List ℕ)) (request : Request) (before after : Option (List ℕ)) (faults faults' : ℕ)
+    → TakesFirst (λ text. (end : Option RunEnd) × IsRun (job p names request) text end) before after → Rose faults faults'
+    → Reports (Runs p names request) before after faults faults' Write
+takes-part p names request before after faults faults' t rose =
+    part refl rose (record { text = t.text; may = (run_status t.may.0, record { end = t.may.0; run = t.may.1; ending = refl }); part = t.part })
 
 -- a check that ended
 pub takes-check : (p : Program) (entries : List Entry) (end : Rechecked) (status : Status) (before after : Option (List ℕ)) (faults faults' : ℕ)

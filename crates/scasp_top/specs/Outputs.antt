@@ -7,10 +7,12 @@ use Rattle.scasp_command_inputs.specs.declared.status.Status.{Status}
 use Rattle.scasp_command_inputs.specs.declared.status.Status.TheVariants.{Usage, Memory}
 use Rattle.scasp_command_words.specs.declared.command.Command.{Command}
 use Rattle.scasp_command_words.specs.declared.command.Command.TheVariants.{Run, Check, Trial, Extend, Recheck}
+use Rattle.scasp_command_words.specs.declared.format.Format.{Format}
 use Rattle.scasp_gen.specs.Trial.{trial_text}
 use Rattle.scasp_command_run.specs.Jobs.{job}
 use Rattle.scasp_command_run.specs.Runs.{IsRun}
 use Rattle.scasp_command_run.specs.declared.ends.RunEnd.{RunEnd}
+use Rattle.scasp_command_run.specs.declared.requests.Request.{Request}
 use Rattle.scasp_command_check.specs.Outputs.{KeepsWorth}
 use Rattle.scasp_command_check.specs.declared.checking.Rechecked.{Rechecked}
 use Rattle.scasp_command_extend.specs.Commands.{Extends}
@@ -26,10 +28,14 @@ use Rattle.scasp_top.specs.Texts.{usage_line}
 abbrev pub asked_answers : ℕ → Option ℕ
 asked_answers n = if n == 0 then None else Some n
 
+-- what is asked of a run
+abbrev pub requested : ℕ → ℕ → Format → Request
+requested budget answers format = record { budget = budget; answers = asked_answers answers; format = format }
+
 -- the run of the program, whole or cut off
-pub record Runs (p : Program) (names : List (List ℕ)) (budget answers : ℕ) (text : List ℕ) (status : Status) : Type 0 where
+pub record Runs (p : Program) (names : List (List ℕ)) (request : Request) (text : List ℕ) (status : Status) : Type 0 where
   pub end : Option RunEnd
-  pub run : IsRun (job p names budget (asked_answers answers)) text end
+  pub run : IsRun (job p names request) text end
   pub ending : status ≡ run_status end
 
 -- the check of the blocks of a file, whole or cut off; what their lines say holds
@@ -56,7 +62,7 @@ pub data TriesNodes (n : ℕ) (text : List ℕ) (status : Status) : Type 0 where
 
 -- the file of the program of a run or a check
 abbrev pub program_file : Command → Option (List ℕ)
-program_file (Run file budget answers) = Some file
+program_file (Run file budget answers format) = Some file
 program_file (Check program answers) = Some program
 program_file (Trial n) = None
 program_file (Extend program answers domain) = None
@@ -69,8 +75,8 @@ pub data Outputs (asked : Option Command) (o : Outside) (text : List ℕ) (statu
   usage : asked ≡ None → Says usage_line Usage text status → Outputs asked o text status
   no_program : (command : Command) (file : List ℕ) → asked ≡ Some command → program_file command ≡ Some file → IsNoProgram o file text status
       → Outputs asked o text status
-  runs : (file : List ℕ) (budget answers : ℕ) (p : Program) (names : List (List ℕ)) → asked ≡ Some (Run file budget answers)
-      → IsProgram (o.told file) p names → Runs p names budget answers text status → Outputs asked o text status
+  runs : (file : List ℕ) (budget answers : ℕ) (format : Format) (p : Program) (names : List (List ℕ)) → asked ≡ Some (Run file budget answers format)
+      → IsProgram (o.told file) p names → Runs p names (requested budget answers format) text status → Outputs asked o text status
   no_answers : (program answers : List ℕ) (p : Program) (names : List (List ℕ)) → asked ≡ Some (Check program answers)
       → IsProgram (o.told program) p names → IsNoAnswers o answers names text status → Outputs asked o text status
   checks : (program answers : List ℕ) (p : Program) (names : List (List ℕ)) (entries : List Entry) → asked ≡ Some (Check program answers)
@@ -86,7 +92,7 @@ pub data Outputs (asked : Option Command) (o : Outside) (text : List ℕ) (statu
 -- a read of a file that the words name failed
 abbrev pub HasReadFault : Option Command → Outside → Type 0
 HasReadFault None o = ⊥
-HasReadFault (Some (Run file budget answers)) o = Failed o file
+HasReadFault (Some (Run file budget answers format)) o = Failed o file
 HasReadFault (Some (Check program answers)) o = Failed o program ⊎ Failed o answers
 HasReadFault (Some (Trial n)) o = ⊥
 HasReadFault (Some (Extend program answers domain)) o = extending.AnyFailed o program answers domain

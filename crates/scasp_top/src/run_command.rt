@@ -1,13 +1,15 @@
 //! The command `run`.
-ghost use Rattle.std.specs.Prelude.{◌≡◌, Some};
+ghost use Rattle.std.specs.Prelude.{◌≡◌, ℕ, Some};
 ghost use Rattle.scasp_command_words.specs.declared.command.Command.TheVariants as command;
+ghost use Rattle.scasp_command_words.specs.declared.format.Format.{Format as ThisFormat};
 ghost use Rattle.scasp_top.specs.Ends as spec;
 ghost use Rattle.scasp_command_inputs.specs.Inputs.{outside};
-ghost use Rattle.scasp_top.specs.Outputs.{asked_answers, Outputs, Runs};
+ghost use Rattle.scasp_top.specs.Outputs.{asked_answers, requested, Outputs, Runs};
 ghost use Rattle.scasp_command_inputs.specs.Reports.{Reports};
 
 use scasp_command_inputs::{Status, program_in_file, tell};
-use scasp_command_run::{RunEnd, run};
+use scasp_command_run::{Request, RunEnd, run};
+use scasp_command_words::Format;
 use scasp_io::{Files, OutputErr, Sink};
 use scasp_name::Names;
 use scasp_syntax::Program;
@@ -32,18 +34,28 @@ fn asked_answers(number: u64) -> Option<u64>
     if number == 0 { None } else { Some(number) }
 }
 
+/// What is asked of a run; 0 asks for all answers.
+pub(crate) fn requested(budget: u64, answers: u64, format: Format) -> Request
+    ensures { result ≡ requested budget answers format }
+{
+    Request {
+        budget,
+        answers: asked_answers(answers),
+        format,
+    }
+}
+
 /// Runs the program.
 fn run_program<K: Sink>(
     alloc: Global,
     program: &Program,
     names: Names,
-    budget: u64,
-    answers: u64,
+    request: Request,
     out: &mut K,
 ) -> Status
-    ensures { Reports (Runs program.now names budget answers) (K.taken out.old) (K.taken out.new) (K.faults out.old) (K.faults out.new) result }
+    ensures { Reports (Runs program.now names request) (K.taken out.old) (K.taken out.new) (K.faults out.old) (K.faults out.new) result }
 {
-    match run(alloc, program, names, budget, asked_answers(answers), out) {
+    match run(alloc, program, names, request, out) {
         Ok(end) => run_status(end),
         Err(OutputErr::Write) => Status::Write,
         Err(OutputErr::Memory) => Status::Memory,
@@ -54,15 +66,15 @@ fn run_program<K: Sink>(
 pub(crate) fn run_file<F: Files, K: Sink>(
     alloc: Global,
     file: &str,
-    budget: u64,
-    answers: u64,
+    request: Request,
     files: &mut F,
     out: &mut K,
 ) -> Status
-    ensures { Reports (Outputs (Some (command.Run file.now budget answers)) (outside (F.told files.old) (F.faults files.old) (F.faults files.new))) (K.taken out.old) (K.taken out.new) (K.faults out.old) (K.faults out.new) result }
+    ensures { (budget answers : ℕ) (format : ThisFormat) → request ≡ requested budget answers format
+        → Reports (Outputs (Some (command.Run file.now budget answers format)) (outside (F.told files.old) (F.faults files.old) (F.faults files.new))) (K.taken out.old) (K.taken out.new) (K.faults out.old) (K.faults out.new) result }
 {
     match program_in_file(alloc, file, files) {
-        Ok((program, names)) => run_program(alloc, &program, names, budget, answers, out),
+        Ok((program, names)) => run_program(alloc, &program, names, request, out),
         Err(halt) => tell(&halt, out),
     }
 }

@@ -11,7 +11,7 @@ ghost use Rattle.scasp_command_inputs.specs.Reports.{Reports};
 use crate::check_command::check_files;
 use crate::extend_command::extend_answers;
 use crate::recheck_command::recheck_programs;
-use crate::run_command::run_file;
+use crate::run_command::{requested, run_file};
 use crate::trial_command::try_nodes;
 use scasp_command_inputs::{Status, print};
 use scasp_command_words::{Command, WordErr, parse_words};
@@ -19,7 +19,7 @@ use scasp_io::{Files, Sink, SureFiles, SureSink};
 use std::alloc::Global;
 
 const USAGE_LINE: &[u8] =
-    b"usage: scasp run FILE [--budget N] [--answers N] | check PROGRAM ANSWERS | trial N | extend PROGRAM ANSWERS DOMAIN | recheck ANSWERS FILE FILE [FILE]..\n";
+    b"usage: scasp run FILE [--budget N] [--answers N] [--format N] | check PROGRAM ANSWERS | trial N | extend PROGRAM ANSWERS DOMAIN | recheck ANSWERS FILE FILE [FILE]..\n";
 
 /// The whole command: reads the files that the words name, prints, and says how it ended.
 pub fn scasp<F: Files, K: Sink>(
@@ -43,8 +43,15 @@ pub fn scasp<F: Files, K: Sink>(
                 file,
                 budget,
                 answers,
+                format,
             },
-        ) => run_file(alloc, file.as_str(), budget, answers, files, out),
+        ) => run_file(
+            alloc,
+            file.as_str(),
+            requested(budget, answers, format),
+            files,
+            out,
+        ),
         Ok(Command::Check { program, answers }) => {
             check_files(alloc, program.as_str(), answers.as_str(), files, out)
         }

@@ -1,5 +1,5 @@
 % Which gates of a full adder are broken? A broken gate gives the opposite of what it should.
-% Each query ends or is answered within 200 calls (`--budget 200`).
+% Each query ends or is answered within 150 calls (`--budget 150`).
 
 % An answer may take of anything that it is broken, or that it is not.
 #abducible broken(Gate).

@@ -7,6 +7,7 @@ use Rattle.scasp_command_run.specs.Runs.{has_any}
 use Rattle.scasp_command_run.specs.Texts.{shown_from}
 use Rattle.scasp_command_run.specs.declared.ends.QueryEnd.{QueryEnd}
 use Rattle.scasp_command_run.specs.declared.queries.Queried.{Queried}
+use Rattle.scasp_command_words.specs.declared.format.Format.{Format}
 use Rattle.scasp_written.specs.Written.Rests.{Opens, Rest}
 use Rattle.scasp_syntax.specs.declared.clause.Query.{Query}
 use Rattle.scasp_syntax.specs.declared.program.Program.{Program}
@@ -16,17 +17,18 @@ abbrev pub IsText : List ℕ → List ℕ → Option Unit → Type 0
 IsText all text None = text ≡ []
 IsText all text (Some done) = text ≡ all
 
--- where the run of a query stands: the rest of its search, how many more answers are asked for, and how many were printed
+-- where the run of a query stands: the rest of its search, how many more answers are asked for, how many were printed, and how they are written
 pub record Standing : Type 0 where
   pub rest : Rest
   pub asked : Option ℕ
   pub printed : ℕ
+  pub format : Format
 
 -- the text that is printed from there on; whether an answer was printed before, or is in it; and how the run of the query ends
 pub record Remains (p : Program) (names : List (List ℕ)) (query : ℕ) (s : Standing) (text : List ℕ) (has : Bool) (end : Option QueryEnd) : Type 0 where
   pub all : List Printed
   pub prints : Prints p names s.asked s.rest all end
-  pub text_is : text ≡ shown_from p query (suc s.printed) all end
+  pub text_is : text ≡ shown_from s.format p query (suc s.printed) all end
   pub has_is : has ≡ (nat_lt 0 s.printed || has_any all)
 
 -- the text leads from the old standing to the new one
@@ -51,7 +53,7 @@ pub record IsQueryRun (job : Job) (number : ℕ) (query : Query) (text : List �
   pub rest : Rest
   pub opens : Opens job.program number job.budget (length job.names) query rest
   pub has : Bool
-  pub remains : Remains job.program job.names number (record { rest = rest; asked = job.answers; printed = 0 }) text has (option_map (λ q. q.end) r)
+  pub remains : Remains job.program job.names number (record { rest = rest; asked = job.answers; printed = 0; format = job.format }) text has (option_map (λ q. q.end) r)
   pub has_is : IfSome r (λ q. q.answered ≡ has)
 
 -- the same, or nothing where the run is cut off before the query

@@ -8,7 +8,7 @@ use Rattle.scasp_search.specs.Rests.{rest_of}
 use Rattle.scasp_syntax.specs.declared.program.Program.{Program}
 
 abbrev pub standing : Progress → Standing
-standing p = record { rest = rest_of p.search; asked = p.asked; printed = p.printed }
+standing p = record { rest = rest_of p.search; asked = p.asked; printed = p.printed; format = p.format }
 
 -- From the first standing the search has come to the answer and to this one, where the answer is not yet printed.
 pub record IsAnswered (p : Program) (first : Standing) (c : Certificate) (now : Standing) : Type 0 where
@@ -16,3 +16,4 @@ pub record IsAnswered (p : Program) (first : Standing) (c : Certificate) (now : 
   pub more : first.asked ≢ Some 0
   pub asked : now.asked ≡ first.asked
   pub printed : now.printed ≡ first.printed
+  pub format : now.format ≡ first.format

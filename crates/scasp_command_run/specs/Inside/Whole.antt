@@ -15,7 +15,7 @@ use Rattle.scasp_syntax.specs.declared.clause.Query.{Query}
 pub record Rests (job : Job) (number : ℕ) (qs : List Query) (answered : Bool) (text : List ℕ) (end : Option RunEnd) : Type 0 where
   pub all : List Shown
   pub runs : RunsFrom job number qs all
-  pub text_is : text ≡ queries_text job.program number all
+  pub text_is : text ≡ queries_text job.format job.program number all
   pub end_is : end ≡ end_from answered qs all
 
 -- A text was taken; with what is printed for the queries that are left it is the text of a run.

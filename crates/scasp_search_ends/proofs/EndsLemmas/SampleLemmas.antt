@@ -1,6 +1,6 @@
 -- The rows of a sample, and the point that is chosen for them.
 use Rattle.std.specs.Prelude.{◌≡◌, ◌≢◌, ℕ, Bool, true, false, if◌then◌else◌, List, [], ◌∷◌, ◌++◌, Option, None, Some, Result, Ok, Err, refl}
-use Rattle.std.proofs.Common.{sym, ap, subst, ◌∙◌}
+use Rattle.std.proofs.Common.{sym, subst, ◌∙◌}
 use Rattle.scasp_hint.proofs.AskedLemmas.{resolved-op}
 use Rattle.scasp_hint.specs.Sides.{minus_one, one}
 use Rattle.scasp_list.proofs.EachLemmas.{Each-append}

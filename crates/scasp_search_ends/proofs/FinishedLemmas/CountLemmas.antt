@@ -1,5 +1,5 @@
 -- Numbers that are counted, one after the other.
-use Rattle.std.specs.Prelude.{◌≡◌, ℕ, zero, suc, ◌+◌, ◌-◌, ◌<◌, ◌≤◌, Bool, true, false, not, if◌then◌else◌, List, [], ◌∷◌, ◌++◌, filter, refl}
+use Rattle.std.specs.Prelude.{◌≡◌, ℕ, suc, ◌+◌, ◌-◌, ◌<◌, Bool, true, false, not, if◌then◌else◌, List, [], ◌∷◌, ◌++◌, filter, refl}
 use Rattle.std.proofs.Common.{add-one, append_assoc, arith, ap, sym, ◌∙◌}
 use Rattle.scasp_search_rules.specs.Successors.Reading.{among, count_from}
 

@@ -24,7 +24,7 @@ struct Case {
     wanted: Wanted,
 }
 
-static TERMS_AND_ROWS: [Case; 21] = [
+static TERMS_AND_ROWS: [Case; 14] = [
     // Without constraints there is a valuation.
     Case {
         list: &[],
@@ -107,6 +107,9 @@ static TERMS_AND_ROWS: [Case; 21] = [
         ],
         wanted: Wanted::Nothing,
     },
+];
+
+static FURTHER_TERMS_AND_ROWS: [Case; 7] = [
     // num(V0), V0 = V1, V0-V1 < 0: the resolved row is 0 < 0.
     Case {
         list: &[
@@ -366,6 +369,7 @@ fn all_are_found(alloc: Global, cases: &[Case]) -> Result<bool, Fail> {
 #[test]
 fn hints_are_found(rt: HostRuntime) -> Result<(), Fail> {
     assert!(rt; all_are_found(rt.alloc(), TERMS_AND_ROWS.as_slice())?);
+    assert!(rt; all_are_found(rt.alloc(), FURTHER_TERMS_AND_ROWS.as_slice())?);
     assert!(rt; all_are_found(rt.alloc(), DISEQUATIONS_AND_ENDS.as_slice())?);
     Ok(())
 }

@@ -6,6 +6,7 @@ use crate::hints::tried::Tried::{ByRows, BySame, ByTerms};
 use crate::hints::tried::{Tried, hint};
 use scasp_hint::{HintErr, HintFault, unsat};
 use scasp_num::Op::{Le, Lt, Ne};
+use std::alloc::Global;
 use std::test::Fail;
 
 struct Case {
@@ -46,7 +47,7 @@ const LARGE: &[Told] = &[
     Compared(&[(0, 2), (1, 1)], 0, Ne),
 ];
 
-static CASES: [Case; 28] = [
+static CASES: [Case; 16] = [
     Case {
         list: BETWEEN,
         hint: ByRows(&[(1, 1, 1, 2)]),
@@ -134,6 +135,9 @@ static CASES: [Case; 28] = [
         hint: BySame(1, &[&[(1, 1, 1, 3)], &[(1, 2, 1, 3)]]),
         fault: Some(HintFault::NotReached),
     },
+];
+
+static FURTHER_CASES: [Case; 12] = [
     // The side is the row behind those of the list, so that there is no fourth row.
     Case {
         list: ZERO,
@@ -225,13 +229,21 @@ fn outcome(fault: Option<HintFault>) -> Result<(), HintErr> {
     }
 }
 
+/// Whether each hint is judged as its case says.
+fn are_judged(alloc: Global, cases: &[Case]) -> Result<bool, Fail> {
+    for case in cases {
+        let list = constraints(alloc, case.list)?;
+        let tried = hint(alloc, &case.hint)?;
+        if unsat(alloc, list.as_slice(), &tried) != outcome(case.fault) {
+            return Ok(false);
+        }
+    }
+    Ok(true)
+}
+
 #[test]
 fn hints_are_judged(rt: HostRuntime) -> Result<(), Fail> {
-    for case in &CASES {
-        let list = constraints(rt.alloc(), case.list)?;
-        let tried = hint(rt.alloc(), &case.hint)?;
-        let answer = unsat(rt.alloc(), list.as_slice(), &tried);
-        assert!(rt; answer == outcome(case.fault));
-    }
+    assert!(rt; are_judged(rt.alloc(), CASES.as_slice())?);
+    assert!(rt; are_judged(rt.alloc(), FURTHER_CASES.as_slice())?);
     Ok(())
 }

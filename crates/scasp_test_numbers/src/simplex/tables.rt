@@ -26,7 +26,7 @@ const MOST: i128 = 170141183460469231731687303715884105727;
 
 const BELOW_MOST: i128 = 170141183460469231731687303715884105726;
 
-static TABLES: [&[Call]; 15] = [
+static TABLES: [&[Call]; 8] = [
     // nothing; a strict row against one that is not, undone between
     &[
         SAT,
@@ -131,6 +131,9 @@ static TABLES: [&[Call]; 15] = [
         Call::Push((&[(0, -4), (1, 6)], 1, Op::Lt)),
         SAT,
     ],
+];
+
+static FURTHER_TABLES: [&[Call]; 7] = [
     // Beale (1955): a start at which other rules come back to the same basis; the least value is -5/4
     &[
         Call::Push((&[(3, -1)], 0, Op::Le)),
@@ -250,14 +253,23 @@ fn goes(alloc: Global, trial: &mut Trial, call: &Call) -> Result<bool, Fail> {
     }
 }
 
-#[test]
-fn rows_come_and_go(rt: HostRuntime) -> Result<(), Fail> {
-    for table in &TABLES {
-        let mut trial = Trial::new(rt.alloc());
+/// Whether the calls of each table, one behind the other, go as they say.
+fn all_go(alloc: Global, tables: &[&[Call]]) -> Result<bool, Fail> {
+    for table in tables {
+        let mut trial = Trial::new(alloc);
         for call in *table {
-            assert!(rt; goes(rt.alloc(), &mut trial, call)?);
+            if !goes(alloc, &mut trial, call)? {
+                return Ok(false);
+            }
         }
     }
+    Ok(true)
+}
+
+#[test]
+fn rows_come_and_go(rt: HostRuntime) -> Result<(), Fail> {
+    assert!(rt; all_go(rt.alloc(), TABLES.as_slice())?);
+    assert!(rt; all_go(rt.alloc(), FURTHER_TABLES.as_slice())?);
     Ok(())
 }
 

@@ -53,7 +53,7 @@ const E: Sort = Sort::Existential;
 
 const U: Sort = Sort::Universal;
 
-const ROWS: [&[Step]; 14] = [
+const ROWS: [&[Step]; 7] = [
     // bound inside a term, and undone
     &[
         Step::Fresh(2, E, 2),
@@ -145,6 +145,9 @@ const ROWS: [&[Step]; 14] = [
         Step::Ask(Question::Gives(1, Shape::V(1))),
         Step::Ask(Question::Count(2)),
     ],
+];
+
+const FURTHER_ROWS: [&[Step]; 7] = [
     // a mark that is ahead
     &[
         Step::Fresh(2, E, 2),
@@ -499,6 +502,9 @@ fn test_row(rt: &impl Abort, alloc: Global, steps: &[Step]) -> Result<(), Memory
 #[test]
 fn rows(rt: HostRuntime) -> Result<(), Fail> {
     for steps in &ROWS {
+        test_row(&rt, rt.alloc(), steps)?;
+    }
+    for steps in &FURTHER_ROWS {
         test_row(&rt, rt.alloc(), steps)?;
     }
     Ok(())

@@ -14,7 +14,7 @@ returns-in_err-search-clause-output g c =
     λ names is.
     rw (e.1, e.2)
     (some-each (numbered c.args.program.now.queries c.args.query)
-    (λ q. query-none (job c.args.program.now names c.args.budget c.args.answers) c.args.query q (g.K.Sink.taken c.args.out.now)))
+    (λ q. query-none (job c.args.program.now names c.args.request) c.args.query q (g.K.Sink.taken c.args.out.now)))
 
 pub loop-event-init : goal.loop-event-init
 loop-event-init g c = (
@@ -22,7 +22,7 @@ loop-event-init g c = (
     about =
         some-known (numbered c.args.program.now.queries c.args.query) c.requires
         (some-more (numbered c.args.program.now.queries c.args.query)
-        (λ q opens. about-opened c.args.program.now c.args.query c.args.budget c.args.table.now.program q (rest_of c.in_ok-search.search) opens)
+        (λ q opens. about-opened c.args.program.now c.args.query c.args.request.budget c.args.table.now.program q (rest_of c.in_ok-search.search) opens)
         c.in_ok-search.ensures.run);
     goes = c.in_ok-search.ensures.goes;
   },
@@ -38,8 +38,8 @@ returns-in_err-end-clause-output g c =
     rw (e.1, e.2)
     (some-more (numbered c.args.program.now.queries c.args.query)
     (λ q opens.
-    query-failed (job c.args.program.now names c.args.budget c.args.answers) c.args.query q (rest_of c.in_ok-search.search)
-    (opens-names c.args.program.now names c.args.table.now c.args.query c.args.budget q (rest_of c.in_ok-search.search) is opens)
+    query-failed (job c.args.program.now names c.args.request) c.args.query q (rest_of c.in_ok-search.search)
+    (opens-names c.args.program.now names c.args.table.now c.args.query c.args.request.budget q (rest_of c.in_ok-search.search) is opens)
     (standing c.loop-event.progress) (standing c.step.new.progress) (g.K.Sink.taken c.args.out.now) (g.K.Sink.taken c.loop-event.out) (g.K.Sink.taken c.step.new.out) _
     (c.loop-event.invariant.1 names is) (c.in_err-end.ensures.output names (c.loop-event.invariant.2 names is)))
     c.in_ok-search.ensures.run)
@@ -49,8 +49,8 @@ returns-in-Some-clause-output g c =
     λ names is.
     some-more (numbered c.args.program.now.queries c.args.query)
     (λ q opens.
-    query-ended (job c.args.program.now names c.args.budget c.args.answers) c.args.query q (rest_of c.in_ok-search.search)
-    (opens-names c.args.program.now names c.args.table.now c.args.query c.args.budget q (rest_of c.in_ok-search.search) is opens)
+    query-ended (job c.args.program.now names c.args.request) c.args.query q (rest_of c.in_ok-search.search)
+    (opens-names c.args.program.now names c.args.table.now c.args.query c.args.request.budget q (rest_of c.in_ok-search.search) is opens)
     (standing c.loop-event.progress) (standing c.step.new.progress) (g.K.Sink.taken c.args.out.now) (g.K.Sink.taken c.loop-event.out) (g.K.Sink.taken c.step.new.out) c.in-Some.end _
     (c.loop-event.invariant.1 names is) refl (rw c.in-Some.is at (c.in_ok-end.ensures.output names (c.loop-event.invariant.2 names is))))
     c.in_ok-search.ensures.run
@@ -70,7 +70,7 @@ returns-clause-output g c =
     λ names is.
     some-more (numbered c.args.program.now.queries c.args.query)
     (λ q opens.
-    query-cut (job c.args.program.now names c.args.budget c.args.answers) c.args.query q (rest_of c.in_ok-search.search)
-    (opens-names c.args.program.now names c.args.table.now c.args.query c.args.budget q (rest_of c.in_ok-search.search) is opens)
+    query-cut (job c.args.program.now names c.args.request) c.args.query q (rest_of c.in_ok-search.search)
+    (opens-names c.args.program.now names c.args.table.now c.args.query c.args.request.budget q (rest_of c.in_ok-search.search) is opens)
     (standing c.loop-event.progress) (g.K.Sink.taken c.args.out.now) (g.K.Sink.taken c.loop-event.out) (c.loop-event.invariant.1 names is))
     c.in_ok-search.ensures.run

@@ -15,7 +15,7 @@ returns-then-is_enough-clause-output g c =
 pub returns-in_err-cert-clause-output : goal.returns-in_err-cert-clause-output
 returns-in_err-cert-clause-output g c =
     let e = err_from_is_err_and c.from_residual.result c.from_residual.ensures.1 in
-    let next : Progress = record { search = c.next_event.new.search; asked = c.args.progress.now.asked; printed = c.args.progress.now.printed } in
+    let next : Progress = record { search = c.next_event.new.search; asked = c.args.progress.now.asked; printed = c.args.progress.now.printed; format = c.args.progress.now.format } in
     λ names is. rw (e.1, e.2) (nothing-steps c.args.program.now names c.args.query (standing c.args.progress.now) (standing next) (g.K.Sink.taken c.args.out.now))
 
 pub returns-in-Answer-clause-output : goal.returns-in-Answer-clause-output
@@ -23,14 +23,14 @@ returns-in-Answer-clause-output g c =
     let comes = rw c.in-Answer.is at c.in_ok-cert.ensures.comes in
     λ names is.
     c.print_next.ensures.output names c.args.query (standing c.args.progress.now) is
-    (record { comes = comes; more = λ e. true-false c.is_enough.result (c.is_enough.ensures.1 e) c.if-is_enough.false; asked = refl; printed = refl })
+    (record { comes = comes; more = λ e. true-false c.is_enough.result (c.is_enough.ensures.1 e) c.if-is_enough.false; asked = refl; printed = refl; format = refl })
 
 pub returns-in-Passed-clause-output : goal.returns-in-Passed-clause-output
 returns-in-Passed-clause-output g c =
     let comes = rw c.in-Passed.is at c.in_ok-cert.ensures.comes in
     λ names is.
     pass-written c.args.program.now names c.args.query (standing c.args.progress.now) _ (g.K.Sink.taken c.args.out.now) comes
-    (λ e. true-false c.is_enough.result (c.is_enough.ensures.1 e) c.if-is_enough.false) refl refl
+    (λ e. true-false c.is_enough.result (c.is_enough.ensures.1 e) c.if-is_enough.false) refl refl refl
 
 pub returns-in-End-clause-output : goal.returns-in-End-clause-output
 returns-in-End-clause-output g c =

@@ -8,7 +8,7 @@ use Rattle.scasp_shorten.proofs.alternatives.shortest.Goals as goal
 
 pub returns-clause-told : goal.returns-clause-told
 returns-clause-told c =
-    answer-told c.apart.result c.args.lists.now c.in_ok-short.short
+    answer-told c.uncontained.result c.args.lists.now c.as_slice-3.result.now
     (subst (λ (lists : List (List Con)). Each RowsNormal lists) c.as_slice.ensures c.note_all_rows.ensures)
-    (c.in_ok-short.ensures ∙ ap (map shortest_list) c.as_slice-2.ensures)
-    c.apart.ensures
+    (c.as_slice-3.ensures ∙ c.in_ok-short.ensures ∙ ap (map shortest_list) c.as_slice-2.ensures)
+    c.uncontained.ensures

@@ -5,14 +5,23 @@ use Rattle.scasp_command_inputs.specs.Inputs.{outside}
 use Rattle.scasp_top.proofs.CauseLemmas.{command-completes, command-reports, completes, read-cause, write-cause}
 use Rattle.scasp_top.proofs.top.scasp.Goals as goal
 
-pub returns-in-Ok-Run-clause-complete : goal.returns-in-Ok-Run-clause-complete
-returns-in-Ok-Run-clause-complete g c =
+pub returns-in-Ok-Run : goal.returns-in-Ok-Run
+returns-in-Ok-Run g c =
     let asked = command_of (map (string_bytes {Z = Global}) c.args.words.now.items) in
-    let command = Run c.as_str.result.now c.in-Ok-Run.budget c.in-Ok-Run.answers in
-    let named : command ≡ Run c.in-Ok-Run.file c.in-Ok-Run.budget c.in-Ok-Run.answers =
-    ap (λ (file : List ℕ). Run file c.in-Ok-Run.budget c.in-Ok-Run.answers) c.as_str.ensures in
+    let command = Run c.as_str.result.now c.in-Ok-Run.budget c.in-Ok-Run.answers c.in-Ok-Run.format in
+    let named : command ≡ Run c.in-Ok-Run.file c.in-Ok-Run.budget c.in-Ok-Run.answers c.in-Ok-Run.format =
+    ap (λ (file : List ℕ). Run file c.in-Ok-Run.budget c.in-Ok-Run.answers c.in-Ok-Run.format) c.as_str.ensures in
+    let o = outside (g.F.Files.told c.args.files.now) (g.F.Files.faults c.args.files.now) (g.F.Files.faults c.run_file.new.files) in
     let is : asked ≡ Some command = c.in-Ok-Run.ensures.ok ∙ ap Some (c.in-Ok-Run.field-0-is ∙ sym named) in
-    command-completes asked command (outside (g.F.Files.told c.args.files.now) (g.F.Files.faults c.args.files.now) (g.F.Files.faults c.run_file.new.files)) _ _ _ _ _ is c.run_file.ensures
+    let reports =
+    command-reports asked command o _ _ _ _ _ is
+    (c.run_file.ensures c.in-Ok-Run.budget c.in-Ok-Run.answers c.in-Ok-Run.format c.requested.ensures) in
+    record {
+      reports = reports;
+      read = read-cause asked o _ _ _ _ _ reports;
+      write = write-cause asked o _ _ _ _ _ reports;
+      complete = completes asked o _ _ _ _ _ reports;
+    }
 
 pub returns-in-Ok-Check-clause-complete : goal.returns-in-Ok-Check-clause-complete
 returns-in-Ok-Check-clause-complete g c =

@@ -1,5 +1,3 @@
-use Rattle.std.proofs.Common.{ap, ◌∙◌}
-use Rattle.scasp_search_rules.specs.Successors.Reading.{count_from}
 use Rattle.scasp_search_ends.proofs.FinishedLemmas.CountLemmas.{counted-next}
 use Rattle.scasp_search_ends.proofs.finished.universals.push_count.Goals as goal
 

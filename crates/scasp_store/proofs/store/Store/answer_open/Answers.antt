@@ -4,7 +4,7 @@ use Rattle.scasp_law_parts.specs.Bound.{equations}
 use Rattle.scasp_unify.specs.Solving.{sub_of}
 use Rattle.scasp_store.specs.Held.{list_with}
 use Rattle.scasp_store.specs.Inside.Open.{AreOpen, IsGoodIf, opened}
-use Rattle.scasp_store.proofs.store.Store.answer.Goals as goal
+use Rattle.scasp_store.proofs.store.Store.answer_open.Goals as goal
 
 pub returns-clause-answer : goal.returns-clause-answer
 returns-clause-answer c =

@@ -1,0 +1,15 @@
+mod Assuming
+mod Beginning
+mod Behind
+mod Closing
+mod Differing
+mod Entering
+mod Equating
+mod Growing
+mod Meeting
+mod Places
+mod Reaching
+mod Scope
+mod Sides
+mod Splitting
+mod Tasks
