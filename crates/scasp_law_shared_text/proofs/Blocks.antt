@@ -34,7 +34,7 @@ least-within holds n (suc left) k e = by (holds n) e (λ g. least-within holds (
     by true g ih = let same : n ≡ k = cc in omega (arith, same)
     by false g ih = omega (arith, ih g)
 
-number-within : (told ps : List Piece) (n : ℕ) → least_copy told ps ≡ Some n → n ≤ length told
+pub number-within : (told ps : List Piece) (n : ℕ) → least_copy told ps ≡ Some n → n ≤ length told
 number-within told ps n e = by (nat_le 3 (length (subtree ps))) e
   where
     by : (t : Bool) → (if t then least (is_copy told ps) 1 (length told) else None) ≡ Some n → n ≤ length told

@@ -1,4 +1,5 @@
 pub mod Items
 pub mod Blocks
+pub mod Lengths
 pub mod NoTrees
 pub mod Printed

@@ -14,7 +14,7 @@ use Rattle.scasp_reader_tokens.specs.Numbers.{digits_value}
 use Rattle.scasp_reader_tokens.proofs.NumberLemmas.{digits_value-append}
 use Rattle.scasp_cert.specs.Certificate.{Certificate}
 use Rattle.scasp_cert.specs.Text.Block.{block_text}
-use Rattle.scasp_copies.specs.Pieces.{Piece as Words, piece_of, piece_text as words_text, split_lines}
+use Rattle.scasp_copies.specs.Pieces.{Piece as Words, piece_of, piece_text as text_of, split_lines}
 use Rattle.scasp_copies.specs.Copies.{last_number}
 use Rattle.scasp_copies.specs.Writing.{copy_line, is_copy_line, written_out}
 use Rattle.scasp_print_shared.specs.Shared.{shared_block, shared_lines, shared_text}
@@ -36,6 +36,7 @@ use Rattle.scasp_law_answer_text.proofs.LineReadbackLemmas.Files.{Row, comment, 
 use Rattle.scasp_law_shared_text.specs.Shared.{shared_piece, shared_file}
 use Rattle.scasp_law_shared_text.proofs.Items.{each-append, Item, remark_item, words_item, item_line, item_text, items_text, item_pieces, pieces_of, IsSound, IsGood, words-good, good-spelled, words-pieces, words-text, split-items, piece-back, among-items, words-shorter, count-shorter}
 use Rattle.scasp_law_shared_text.proofs.Blocks.{HasNoCopy, once, block-each, line-out, plain-written, written-append, block-written}
+use Rattle.scasp_law_shared_text.proofs.Lengths.{IsLong, size, words-long, block-shorter}
 use Rattle.scasp_law_shared_text.proofs.NoTrees.{block-words-once}
 
 -- ---- the number of a copy
@@ -122,6 +123,14 @@ module _ (names : List (List ℕ)) (table : IsTable names) where
   back [] e = refl
   back (p ∷ ps) e = λ i. piece-back names table (row_words names table p) e.0.0 i ∷ back ps e.1 i
 
+  placed-text : (ps : List Placed) → items_text (map item_of (map written ps)) ≡ flat_map text_of (words_of_lines ps)
+  placed-text [] = refl
+  placed-text (p ∷ ps) = ap (λ r. text_of (row_words names table p) ++ r) (placed-text ps)
+
+  each-long : (ps : List Placed) → Each IsLong (words_of_lines ps)
+  each-long [] = tt
+  each-long (p ∷ ps) = (words-long names p.line, each-long ps)
+
   each-words : (ps : List Placed) → Each IsGood (map item_of (map written ps)) → Each (λ p. IsSound p × IsSpelled p) (words_of_lines ps)
   each-words [] e = tt
   each-words (p ∷ ps) e = (e.0, each-words ps e.1)
@@ -155,9 +164,9 @@ module _ (names : List (List ℕ)) (table : IsTable names) (blocks : (c : Certif
       let items = first_items (answer n c) in
       let split : split_lines (block_text names c n) ≡ record { lines = map item_line items; rest = [] } =
       ap split_lines (first-text (answer n c)) ∙ split-items items (first-good (answer n c) e) in
-      ap (λ s. flat_map words_text (shared_block (map piece_of s.lines)) ++ s.rest) split
-      ∙ append-nil (flat_map words_text (shared_block (map piece_of (map item_line items))))
-      ∙ ap (λ ps. flat_map words_text (shared_block ps)) (back names table (block_lines c n) (first-good (answer n c) e))
+      ap (λ s. flat_map text_of (shared_block (map piece_of s.lines)) ++ s.rest) split
+      ∙ append-nil (flat_map text_of (shared_block (map piece_of (map item_line items))))
+      ∙ ap (λ ps. flat_map text_of (shared_block ps)) (back names table (block_lines c n) (first-good (answer n c) e))
       ∙ words-text (shared_block (block_words c n))
   second-text (ending q n) e = first-text (ending q n)
   second-text (rejection q n at_line reason) e = first-text (rejection q n at_line reason)
@@ -177,6 +186,17 @@ module _ (names : List (List ℕ)) (table : IsTable names) (blocks : (c : Certif
       (block-each (λ p. IsSound p × IsSpelled p) byte_limit copy-good (block_words c n) (each-words names table (block_lines c n) (first-good (answer n c) e)) (omega (arith, h, few-lines c n)))
   second-good (ending q n) e h = first-good (ending q n) e
   second-good (rejection q n at_line reason) e h = first-good (rejection q n at_line reason) e
+
+  -- no longer than the piece of version 1
+  second-shorter : (x : Piece) → is_printable (length names) x ≡ true → length (piece_text names x) ≤ byte_limit → length (shared_piece names x) ≤ length (piece_text names x)
+  second-shorter (remark text) e h = omega arith
+  second-shorter (answer n c) e h =
+      let ws = block_words c n in
+      let whole : length (block_text names c n) ≡ size ws = ap length (first-text (answer n c) ∙ placed-text names table (block_lines c n)) in
+      let shared : length (shared_text (block_text names c n)) ≡ size (shared_block ws) = ap length (second-text (answer n c) e ∙ sym (words-text (shared_block ws))) in
+      omega (arith, whole, shared, block-shorter ws (each-long names table (block_lines c n)) (omega (arith, h, few-lines c n)))
+  second-shorter (ending q n) e h = omega arith
+  second-shorter (rejection q n at_line reason) e h = omega arith
 
   -- ---- files
 
@@ -213,6 +233,18 @@ module _ (names : List (List ℕ)) (table : IsTable names) (blocks : (c : Certif
   seconds-good (x ∷ xs) e h =
       let k = and_parts (is_printable (length names) x) (list_all (is_printable (length names)) xs) e in
       each-append IsGood (second_items x) (seconds xs) (second-good x k.0 (omega (arith, h, size-cons x xs))) (seconds-good xs k.1 (omega (arith, h, size-cons x xs)))
+
+  seconds-shorter : (xs : List Piece) → ArePrintable xs → text_size xs ≤ byte_limit → length (flat_map (shared_piece names) xs) ≤ text_size xs
+  seconds-shorter [] e h = omega arith
+  seconds-shorter (x ∷ xs) e h =
+      let k = and_parts (is_printable (length names) x) (list_all (is_printable (length names)) xs) e in
+      omega (
+        arith,
+        size-cons x xs,
+        length-append (shared_piece names x) (flat_map (shared_piece names) xs),
+        second-shorter x k.0 (omega (arith, h, size-cons x xs)),
+        seconds-shorter xs k.1 (omega (arith, h, size-cons x xs)),
+      )
 
   -- `law` is that the lines with their copies, written out, are the lines
   module _ (law : (told ps : List Words) → length told + length ps < 2 ^ 64 → HasNoCopy ps → written_out told (shared_lines told ps) ≡ Some ps) where
@@ -277,9 +309,10 @@ module _ (names : List (List ℕ)) (table : IsTable names) (blocks : (c : Certif
         ∙ and_from (list_all is_of_first (pieces_of (first_items x))) (list_all is_of_first (pieces_of (firsts xs)))
         (first-rows names table (rows_of names table blocks x) (piece-fine names table blocks x k.0)) (firsts-first xs k.1)
 
-    pub stands-for : (xs : List Piece) → ArePrintable xs → length (file_text names xs) ≤ byte_limit → length (shared_file names xs) ≤ byte_limit → WrittenOut (shared_file names xs) (file_text names xs)
-    stands-for xs e h k =
+    pub stands-for : (xs : List Piece) → ArePrintable xs → length (file_text names xs) ≤ byte_limit → WrittenOut (shared_file names xs) (file_text names xs)
+    stands-for xs e h =
         let head : List ℕ = codes "scasp 1\n" in
+        let other : List ℕ = codes "scasp 2\n" in
         let size : text_size xs ≤ byte_limit = omega (arith, h, length-append head (flat_map (piece_text names) xs)) in
         let second = lines-in (shared_file names xs) (words_item second_header ∷ seconds xs) (second-file xs e) (header-good second_header (refl, refl) refl, seconds-good xs e size) in
         let first = lines-in (file_text names xs) (words_item first_header ∷ firsts xs) (first-file xs) (header-good first_header (refl, refl) refl, firsts-good xs e) in
@@ -289,7 +322,7 @@ module _ (names : List (List ℕ)) (table : IsTable names) (blocks : (c : Certif
           written = pieces_of (firsts xs);
           begins_second = second.0;
           ends = second.1;
-          within = k;
+          within = omega (arith, h, seconds-shorter xs e size, length-append head (flat_map (piece_text names) xs), length-append other (flat_map (shared_piece names) xs));
           begins_first = first.0;
           written_within = omega (arith, h, shorter, ap length (first-file xs));
           are_spelled = good-spelled (seconds xs) (seconds-good xs e size);

@@ -14,7 +14,7 @@ use scasp_print_shared::laws::copies_are_written_out;
 /// A file of the header of version 2 and of what is printed, blocks with their copies, remarks between, is read as these
 /// blocks, ends and rejected answers, in their order.
 pub fn shared_texts_are_read_back()
-    ensures { (names : List (List ℕ)) (pieces : List Piece) → IsTable names → list_all (is_printable (length names)) pieces ≡ true → length (file_text names pieces) ≤ byte_limit → length (shared_file names pieces) ≤ byte_limit
+    ensures { (names : List (List ℕ)) (pieces : List Piece) → IsTable names → list_all (is_printable (length names)) pieces ≡ true → length (file_text names pieces) ≤ byte_limit
         → file_in names (shared_file names pieces) ≡ Ok (flat_map piece_entries pieces) }
 {
     blocks_are_lines();
