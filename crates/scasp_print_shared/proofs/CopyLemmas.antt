@@ -11,7 +11,8 @@ use Rattle.std.proofs.lemmas.Slice.Eq.{bytes_eq-Decides}
 use Rattle.scasp_copies.specs.Copies.{Move, copied, deeper_than, has_ended, is_call, moved_piece, subtree}
 use Rattle.scasp_copies.specs.Pieces.{Piece, same_pieces}
 use Rattle.scasp_print_shared.specs.Shared.{are_lines, is_copy}
-use Rattle.scasp_print_shared.specs.Inside.Classes.{classes_text, place_in, root_of, roots, stem}
+use Rattle.scasp_print_shared.specs.Inside.Classes.{classes_of, place_in, root_of, roots, stem}
+use Rattle.scasp_print_shared.specs.Inside.Keys.{numbers}
 use Rattle.scasp_print_shared.specs.declared.classes.Root.{Root}
 use Rattle.scasp_print_shared.proofs.RootLemmas.{root-is}
 use Rattle.scasp_print_shared.proofs.MoveLemmas.{deeper-are, classes-moved, roots-moved}
@@ -185,12 +186,12 @@ copy-class table told j q qs p ps e room h =
     let m : Move = record { from = suc j; count = length (subtree (q ∷ qs)); to = length told + 1 } in
     let small : m.to + m.count < 2 ^ 64 = omega (arith, lengths.1, room) in
     let parts = tail-is (moved_piece m q.depth p.depth q) p (map (moved_piece m q.depth p.depth) inner) (deeper_than p.depth ps) (same-are (moved_subtree (suc j) (length told + 1) p.depth q qs) (subtree (p ∷ ps)) t.1) in
-    let texts : classes_text (roots table (deeper_than p.depth ps)) ≡ classes_text (roots table inner) =
-    ap (λ z. classes_text (roots table z)) (sym parts.1)
-    ∙ ap classes_text (roots-moved q.depth p.depth m table inner small (deeper-are q.depth qs))
+    let classes : classes_of (roots table (deeper_than p.depth ps)) ≡ classes_of (roots table inner) =
+    ap (λ z. classes_of (roots table z)) (sym parts.1)
+    ∙ ap classes_of (roots-moved q.depth p.depth m table inner small (deeper-are q.depth qs))
     ∙ classes-moved q.depth p.depth (roots table inner) in
     let words : stem p.words ≡ stem q.words = ap (λ (x : Piece). stem x.words) (sym parts.0) ∙ stem-moved m q.words small in
     ap (λ (r : Root). r.class) (root-is table q (qs ++ p ∷ ps))
-    ∙ ap (λ z. place_in table (stem q.words ++ classes_text (roots table z))) (ended-kept q qs p ps c.1)
-    ∙ (λ i. place_in table (sym words i ++ sym texts i))
+    ∙ ap (λ z. place_in table (numbers (stem q.words) (classes_of (roots table z)))) (ended-kept q qs p ps c.1)
+    ∙ (λ i. place_in table (numbers (sym words i) (sym classes i)))
     ∙ sym (ap (λ (r : Root). r.class) (root-is table p ps))

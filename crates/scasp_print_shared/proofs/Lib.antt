@@ -1,5 +1,6 @@
 pub mod ClassLemmas
 pub mod CopyLemmas
+pub mod KeyLemmas
 pub mod LineLemmas
 pub mod MarkLemmas
 pub mod MoveLemmas

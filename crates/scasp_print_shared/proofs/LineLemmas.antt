@@ -1,12 +1,13 @@
 -- The lines of a text and of a block.
-use Rattle.std.proofs.Common.{◌≡◌, ◌∙◌, ℕ, zero, ◌+◌, ◌<◌, ◌≤◌, Bool, true, false, not, List, [], ◌∷◌, ◌++◌, length, get_or, take, drop, suc, refl, sym, ap, arith, append_assoc}
-use Rattle.std.specs.Prelude.{◌==◌, flat_map}
+use Rattle.std.proofs.Common.{◌≡◌, ◌∙◌, ℕ, zero, ◌+◌, ◌^◌, ◌<◌, ◌≤◌, Bool, true, false, not, List, [], ◌∷◌, ◌++◌, length, get_or, take, drop, suc, Option, None, Some, refl, sym, ap, arith, append_assoc}
+use Rattle.std.specs.Prelude.{◌==◌, flat_map, IfSome}
 use Rattle.std.specs.List.{prefix_len}
 use Rattle.std.proofs.lemmas.Grind.{flat_map-append}
 use Rattle.std.proofs.lemmas.List.{drop_more, take-map}
 use Rattle.std.proofs.lemmas.List.Folds.{length-prefix_len}
+use Rattle.memchr.specs.Find.{IsFirstByte, Nowhere, Passes, is_byte}
 use Rattle.scasp_copies.specs.Pieces.{Piece, Split, piece_text, split_lines, with_byte}
-use Rattle.scasp_print_shared.specs.Inside.Lines.{behind_tree, read, read_all, with_line}
+use Rattle.scasp_print_shared.specs.Inside.Lines.{Splits, behind_tree, read, read_all, with_line}
 use Rattle.scasp_print_shared.specs.Shared.{is_behind, is_tree, numbered, shared_block, shared_lines}
 use Rattle.scasp_print_shared.specs.declared.lines.Line.{Line}
 
@@ -39,6 +40,39 @@ split-line (b ∷ bs) h = by (b == 10) refl (split-line bs)
         → split_lines (b ∷ bs) ≡ with_line (take (prefix_len is_inside (b ∷ bs)) (b ∷ bs)) (split_lines (drop (prefix_len is_inside (b ∷ bs) + 1) (b ∷ bs)))
     by true q ih = rw q refl
     by false q ih = let k = rw q at h in rw q (ap (with_byte b) (ih (omega (arith))) ∙ byte-line b (prefix_len is_inside bs) bs)
+
+none-feed : (bs : List ℕ) → Nowhere (Passes (is_byte 10) bs) 0 (length bs) → prefix_len is_inside bs ≡ length bs
+none-feed [] h = refl
+none-feed (b ∷ bs) h = by (b == 10) refl (none-feed bs (λ k l g p. h (suc k) (omega arith) (omega (arith, g)) p))
+  where
+    by : (t : Bool) → (b == 10) ≡ t → prefix_len is_inside bs ≡ length bs → prefix_len is_inside (b ∷ bs) ≡ length (b ∷ bs)
+    by true q ih = absurd (h 0 (omega arith) (omega arith) q)
+    by false q ih = rw q (omega (arith, ih))
+
+at-feed : (bs : List ℕ) (k : ℕ) → k < length bs → Nowhere (Passes (is_byte 10) bs) 0 k → Passes (is_byte 10) bs k → prefix_len is_inside bs ≡ k
+at-feed [] k l h p = absurd (omega (arith, l))
+at-feed (b ∷ bs) zero l h p = rw p refl
+at-feed (b ∷ bs) (suc k) l h p =
+    by (b == 10) refl (at-feed bs k (omega (arith, l)) (λ j i g r. h (suc j) (omega arith) (omega (arith, g)) r) p)
+  where
+    by : (t : Bool) → (b == 10) ≡ t → prefix_len is_inside bs ≡ k → prefix_len is_inside (b ∷ bs) ≡ suc k
+    by true q ih = absurd (h 0 (omega arith) (omega arith) q)
+    by false q ih = rw q (omega (arith, ih))
+
+-- the bytes are split at the first line feed
+pub feed-splits : (bs : List ℕ) (r : Option ℕ) → IsFirstByte (is_byte 10) bs r → Splits bs r
+feed-splits bs None h = split-rest bs (omega (arith, none-feed bs h))
+feed-splits bs (Some k) h =
+    let e = at-feed bs k h.0.high h.0.before h.1 in
+    split-line bs (omega (arith, e, h.0.high)) ∙ ap (λ n. with_line (take n bs) (split_lines (drop (n + 1) bs))) e
+
+pub feed-within : (bs : List ℕ) (r : Option ℕ) → IsFirstByte (is_byte 10) bs r → IfSome r (λ k. k < length bs)
+feed-within bs None h = tt
+feed-within bs (Some k) h = h.0.high
+
+pub feed-room : (bs : List ℕ) (r : Option ℕ) → length bs < 2 ^ 63 → IsFirstByte (is_byte 10) bs r → IfSome r (λ k. k + 1 < 2 ^ 64)
+feed-room bs None g h = tt
+feed-room bs (Some k) g h = omega (arith, g, h.0.high)
 
 -- ---- the parts of a block
 

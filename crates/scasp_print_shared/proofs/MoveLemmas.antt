@@ -1,10 +1,11 @@
 -- A subtree that moves keeps its class.
 use Rattle.std.proofs.Common.{◌≡◌, ℕ, ◌+◌, ◌-◌, ◌^◌, ◌<◌, ◌≤◌, ◌∙◌, Bool, true, false, List, [], ◌∷◌, ◌++◌, map, refl, sym, ap, subst, arith}
-use Rattle.std.specs.Prelude.{nat_lt, codes, decimal}
+use Rattle.std.specs.Prelude.{nat_lt}
 use Rattle.std.proofs.lemmas.Bool.{ltb-true, ltb-false, lt-ltb, le-ltb}
 use Rattle.scasp_copies.specs.Copies.{Move, deeper_than, moved_piece}
 use Rattle.scasp_copies.specs.Pieces.{Piece}
-use Rattle.scasp_print_shared.specs.Inside.Classes.{below, beside, classes_text, count_of, place_in, root_of, roots}
+use Rattle.scasp_print_shared.specs.Inside.Classes.{below, beside, classes_of, count_of, place_in, root_of, roots}
+use Rattle.scasp_print_shared.specs.Inside.Keys.{numbers}
 use Rattle.scasp_print_shared.specs.declared.classes.Root.{Root}
 use Rattle.scasp_print_shared.proofs.RootLemmas.{deeper-true, deeper-false, root}
 use Rattle.scasp_print_shared.proofs.WordLemmas.{stem-moved}
@@ -73,9 +74,9 @@ module _ (top depth : ℕ) where
       by true q ih = let s = lt-moved d r.depth h g.0 ∙ q in simp (q, s) ih
       by false q ih = let s = lt-moved d r.depth h g.0 ∙ q in simp (q, s) refl
 
-  pub classes-moved : (rs : List Root) → classes_text (map moved_root rs) ≡ classes_text rs
+  pub classes-moved : (rs : List Root) → classes_of (map moved_root rs) ≡ classes_of rs
   classes-moved [] = refl
-  classes-moved (r ∷ rs) = ap (λ t. codes "\n" ++ decimal r.class ++ t) (classes-moved rs)
+  classes-moved (r ∷ rs) = ap (λ t. r.class ∷ t) (classes-moved rs)
 
   count-moved : (rs : List Root) → count_of (map moved_root rs) ≡ count_of rs
   count-moved [] = refl
@@ -89,8 +90,8 @@ module _ (top depth : ℕ) where
       let d = depth + (p.depth - top) in
       let inner = below-moved p.depth rs g.0 (roots-are table top ps g.1) in
       let counts : count_of (below d (map moved_root rs)) ≡ count_of (below p.depth rs) = ap count_of inner ∙ count-moved (below p.depth rs) in
-      let texts : classes_text (below d (map moved_root rs)) ≡ classes_text (below p.depth rs) = ap classes_text inner ∙ classes-moved (below p.depth rs) in
+      let classes : classes_of (below d (map moved_root rs)) ≡ classes_of (below p.depth rs) = ap classes_of inner ∙ classes-moved (below p.depth rs) in
       let words = stem-moved m p.words h in
       ap (λ x. root_of table (moved_piece m top depth p) x ∷ beside d x) (roots-moved m table ps h g.1)
       ∙ (λ j.
-      root d (1 + counts j) (place_in table (words j ++ texts j)) ∷ beside-moved p.depth rs g.0 (roots-are table top ps g.1) j)
+      root d (1 + counts j) (place_in table (numbers (words j) (classes j))) ∷ beside-moved p.depth rs g.0 (roots-are table top ps g.1) j)

@@ -1,6 +1,6 @@
 -- The least copy among the lines of one class.
 use Rattle.std.proofs.Common.{◌≡◌, ℕ, zero, suc, ◌+◌, ◌<◌, ◌≤◌, ◌∙◌, Bool, true, false, List, [], ◌∷◌, ◌++◌, length, get_or, set, take, refl, sym, ap, arith, append-nil}
-use Rattle.std.specs.Global.{Vec}
+use Rattle.smallvec.specs.SmallVec.{SmallVec}
 use Rattle.std.specs.Prelude.{◌==◌, if◌then◌else◌}
 use Rattle.std.proofs.lemmas.Bool.{true≢false, eq-eqb, eqb-true, eqb-false, ne_eqb, cond-true, cond-false}
 use Rattle.std.proofs.lemmas.List.{length-take-le, take_more}
@@ -68,25 +68,25 @@ places-within class n (m ∷ ms) d i h = by (m.class == class) refl (λ k g. pla
 
 -- ---- a list of lists
 
-pub listed-at : (lists : List (Vec ℕ)) (class : ℕ) (v : Vec ℕ) → class < length lists → v ≡ get_or lists class v → listed lists class ≡ v.items
+pub listed-at : (lists : List (SmallVec ℕ)) (class : ℕ) (v : SmallVec ℕ) → class < length lists → v ≡ get_or lists class v → listed lists class ≡ v.items
 listed-at [] class v h e = absurd (omega (arith, h))
-listed-at (l ∷ lists) zero v h e = ap (λ (x : Vec ℕ). x.items) (sym e)
+listed-at (l ∷ lists) zero v h e = ap (λ (x : SmallVec ℕ). x.items) (sym e)
 listed-at (l ∷ lists) (suc class) v h e = listed-at lists class v (omega (arith, h)) e
 
-pub listed-past : (lists : List (Vec ℕ)) (class : ℕ) → length lists ≤ class → listed lists class ≡ []
+pub listed-past : (lists : List (SmallVec ℕ)) (class : ℕ) → length lists ≤ class → listed lists class ≡ []
 listed-past [] class h = refl
 listed-past (l ∷ lists) zero h = absurd (omega (arith, h))
 listed-past (l ∷ lists) (suc class) h = listed-past lists class (omega (arith, h))
 
 -- an empty list more
-pub listed-more : (lists : List (Vec ℕ)) (v : Vec ℕ) (class : ℕ) → v.items ≡ [] → listed (lists ++ v ∷ []) class ≡ listed lists class
+pub listed-more : (lists : List (SmallVec ℕ)) (v : SmallVec ℕ) (class : ℕ) → v.items ≡ [] → listed (lists ++ v ∷ []) class ≡ listed lists class
 listed-more [] v zero e = e
 listed-more [] v (suc class) e = refl
 listed-more (l ∷ lists) v zero e = refl
 listed-more (l ∷ lists) v (suc class) e = listed-more lists v class e
 
 -- a line more in one list
-pub listed-set : (lists : List (Vec ℕ)) (v : Vec ℕ) (class other line : ℕ) → class < length lists → v.items ≡ listed lists class ++ line ∷ []
+pub listed-set : (lists : List (SmallVec ℕ)) (v : SmallVec ℕ) (class other line : ℕ) → class < length lists → v.items ≡ listed lists class ++ line ∷ []
     → listed (set lists class v) other ≡ listed lists other ++ (if class == other then line ∷ [] else [])
 listed-set [] v class other line h e = absurd (omega (arith, h))
 listed-set (l ∷ lists) v zero zero line h e = e
@@ -105,7 +105,7 @@ listed-set (l ∷ lists) v (suc class) (suc other) line h e =
         by false q = let s = eqb-false a b q in sym (ne_eqb (suc a) (suc b) (λ k. s (omega (arith, k))))
 
 -- a line more is told
-pub places-next : (lists new : List (Vec ℕ)) (ms : List Root) (k : ℕ) (r : Root) → k < length ms → r ≡ get_or ms k r
+pub places-next : (lists new : List (SmallVec ℕ)) (ms : List Root) (k : ℕ) (r : Root) → k < length ms → r ≡ get_or ms k r
     → ((class : ℕ) → listed lists class ≡ places_of class 0 (take k ms))
     → ((other : ℕ) → listed new other ≡ listed lists other ++ (if r.class == other then k ∷ [] else []))
     → (class : ℕ) → listed new class ≡ places_of class 0 (take (k + 1) ms)

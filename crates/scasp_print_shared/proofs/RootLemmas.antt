@@ -1,13 +1,13 @@
 -- Subtrees that stand side by side.
 use Rattle.std.proofs.Common.{◌≡◌, ℕ, zero, suc, ◌+◌, ◌<◌, ◌≤◌, ◌∙◌, Bool, true, false, List, [], ◌∷◌, ◌++◌, length, get_or, drop, reverse, refl, sym, ap, arith, append_assoc, append-nil}
-use Rattle.std.specs.Prelude.{nat_lt, codes, decimal}
+use Rattle.std.specs.Prelude.{nat_lt}
 use Rattle.std.proofs.lemmas.Bool.{cond-true, cond-false, ltb-true, ltb-false, lt-ltb, le-ltb}
 use Rattle.std.proofs.lemmas.List.{reverse-append}
 use Rattle.std.proofs.lemmas.List.Folds.{length-prefix_len}
 use Rattle.std.proofs.lemmas.List.Sums.{prefix_len-le-length, take_while-cons}
 use Rattle.scasp_copies.specs.Copies.{deeper_than, subtree}
 use Rattle.scasp_copies.specs.Pieces.{Piece}
-use Rattle.scasp_print_shared.specs.Inside.Classes.{below, beside, classes_text, count_of, key_of, place_in, root_of, roots, marks}
+use Rattle.scasp_print_shared.specs.Inside.Classes.{below, beside, classes_of, count_of, key_of, place_in, root_of, roots, marks}
 use Rattle.scasp_print_shared.specs.declared.classes.Root.{Root}
 
 -- ---- the first of them
@@ -136,13 +136,13 @@ module _ (depth : ℕ) (items others : List Root) (r : Root) (pop : items ≡ ot
   pub taken-count : (count : ℕ) → depth < r.depth → count + r.count + count_of (below depth (reverse others)) ≡ count + count_of (below depth (reverse items))
   taken-count count h = let e = ap count_of (taken-below h) in omega (arith, e)
 
-  pub taken-key : (before key : List ℕ) → depth < r.depth → key ≡ (before ++ codes "\n") ++ decimal r.class
-      → key ++ classes_text (below depth (reverse others)) ≡ before ++ classes_text (below depth (reverse items))
-  taken-key before key h e =
-      let rest = classes_text (below depth (reverse others)) in
-      ap (λ z. z ++ rest) (e ∙ append_assoc before (codes "\n") (decimal r.class))
-      ∙ append_assoc before (codes "\n" ++ decimal r.class) rest
-      ∙ ap (λ z. before ++ classes_text z) (sym (taken-below h))
+  pub taken-classes : (before now : List ℕ) → depth < r.depth → now ≡ before ++ r.class ∷ []
+      → now ++ classes_of (below depth (reverse others)) ≡ before ++ classes_of (below depth (reverse items))
+  taken-classes before now h e =
+      let rest = classes_of (below depth (reverse others)) in
+      ap (λ z. z ++ rest) e
+      ∙ append_assoc before (r.class ∷ []) rest
+      ∙ ap (λ z. before ++ classes_of z) (sym (taken-below h))
 
   left-below : r.depth ≤ depth → below depth (reverse items) ≡ []
   left-below h = ap (below depth) (popped items others r pop) ∙ below-others depth r (reverse others) h
@@ -150,8 +150,8 @@ module _ (depth : ℕ) (items others : List Root) (r : Root) (pop : items ≡ ot
   pub left-roots : r.depth ≤ depth → reverse items ≡ beside depth (reverse items)
   left-roots h = sym (ap (beside depth) (popped items others r pop) ∙ beside-others depth r (reverse others) h ∙ sym (popped items others r pop))
 
-  pub left-key : (key : List ℕ) → r.depth ≤ depth → key ≡ key ++ classes_text (below depth (reverse items))
-  left-key key h = sym (ap (λ z. key ++ classes_text z) (left-below h) ∙ append-nil key)
+  pub left-classes : (now : List ℕ) → r.depth ≤ depth → now ≡ now ++ classes_of (below depth (reverse items))
+  left-classes now h = sym (ap (λ z. now ++ classes_of z) (left-below h) ∙ append-nil now)
 
   pub left-count : (count : ℕ) → r.depth ≤ depth → count ≡ count + count_of (below depth (reverse items))
   left-count count h = let e = ap count_of (left-below h) in omega (arith, e)

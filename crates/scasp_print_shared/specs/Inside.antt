@@ -1,4 +1,5 @@
 -- What private functions alone speak of.
 pub mod Classes
+pub mod Keys
 pub mod Lines
 pub mod Places

@@ -3,15 +3,16 @@ ghost use Rattle.std.specs.Prelude.{◌≡◌, ◌==◌, ℕ, ◌∷◌, [], ◌
 ghost use Rattle.scasp_print_shared.specs.Inside.Places.{listed};
 
 use scasp_name::Memory;
+use smallvec::SmallVec;
 use std::alloc::Global;
 
 /// Makes room for the list of a class.
-fn make_room(alloc: Global, lists: &mut Vec<Vec<usize>>, class: usize) -> Result<(), Memory>
+fn make_room(alloc: Global, lists: &mut Vec<SmallVec<usize, 1>>, class: usize) -> Result<(), Memory>
     ensures room { OnOk result (class < length lists.new.items) }
     ensures same { OnOk result ((other : ℕ) → listed lists.new.items other ≡ listed lists.old.items other) }
 {
     while lists.len() <= class {
-        lists.push(Vec::new(alloc))?;
+        lists.push(SmallVec::new(alloc))?;
     }
     Ok(())
 }
@@ -19,7 +20,7 @@ fn make_room(alloc: Global, lists: &mut Vec<Vec<usize>>, class: usize) -> Result
 /// Puts a line at the end of the list of its class.
 pub(crate) fn add_place(
     alloc: Global,
-    lists: &mut Vec<Vec<usize>>,
+    lists: &mut Vec<SmallVec<usize, 1>>,
     class: usize,
     line: usize,
 ) -> Result<(), Memory>

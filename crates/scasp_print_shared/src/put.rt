@@ -11,9 +11,8 @@ use scasp_print_words::{put, put_number};
 fn put_indent(out: &mut Vec<u8>, depth: usize) -> Result<(), Memory>
     ensures { OnOk result (out.new.items ≡ out.old.items ++ replicate depth 32) }
 {
-    for _ in 0..depth {
-        out.push(b' ')?;
-    }
+    let len = out.len().checked_add(depth).ok_or(Memory)?;
+    out.resize(len, b' ')?;
     Ok(())
 }
 
@@ -23,7 +22,8 @@ pub(crate) fn put_line(out: &mut Vec<u8>, line: Line<'_>) -> Result<(), Memory>
 {
     put_indent(out, line.depth)?;
     out.extend_from_slice(line.words)?;
-    put(out, "\n")
+    out.push(b'\n')?;
+    Ok(())
 }
 
 /// Puts the line `copy N` at the end.

@@ -9,6 +9,7 @@ use crate::classes::Root;
 use crate::lines::{Line, is_call};
 use crate::moves::{Shift, same_lines};
 use scasp_name::Memory;
+use smallvec::SmallVec;
 use std::alloc::Global;
 
 /// Whether the subtree of line `line` is what a copy of the one at `place` gives; lines are counted from 0.
@@ -48,7 +49,7 @@ pub(crate) fn least_copy(
     alloc: Global,
     lines: &[Line<'_>],
     marks: &[Root],
-    places: &[Vec<usize>],
+    places: &[SmallVec<usize, 1>],
     line: usize,
 ) -> Result<Option<usize>, Memory>
     requires marks { AreMarks (read_all lines.now) marks.now }
@@ -60,7 +61,7 @@ pub(crate) fn least_copy(
     if root.count < 3 || root.class >= places.len() {
         return Ok(None);
     }
-    for place in &places[root.class] {
+    for place in places[root.class].as_slice() {
         if is_copy(alloc, lines, marks, *place, line)? {
             return Ok(Some(*place + 1));
         }

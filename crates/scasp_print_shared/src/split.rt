@@ -1,10 +1,10 @@
 //! Lines of bytes.
-ghost use Rattle.std.specs.Prelude.{◌≡◌, ◌+◌, ◌^◌, ◌<◌, ◌≤◌, ◌==◌, not, length, map, IfOk, IfSome};
-ghost use Rattle.std.specs.List.{prefix_len};
+ghost use Rattle.std.specs.Prelude.{◌≡◌, ◌+◌, ◌^◌, ◌<◌, ◌≤◌, length, map, IfOk, IfSome};
 ghost use Rattle.scasp_copies.specs.Pieces as spec;
 ghost use Rattle.scasp_print_shared.specs.Inside.Lines.{Splits, read, read_all};
 
 use crate::lines::Line;
+use memchr::memchr;
 use scasp_name::Memory;
 use std::alloc::Global;
 
@@ -15,21 +15,13 @@ pub(crate) struct Split<'a> {
     pub(crate) rest: &'a [u8],
 }
 
-/// The number of bytes before the first line feed.
-fn bytes_before_feed(bytes: &[u8]) -> usize
-    ensures { result ≡ prefix_len (λ b. not (b == 10)) bytes.now }
-{
-    bytes.iter().take_while(|b| **b != b'\n').count()
-}
-
 /// The number of bytes before the first line feed, where there is one.
 fn line_len(bytes: &[u8]) -> Option<usize>
     ensures within { IfSome result (λ len. len < length bytes.now) }
     ensures room { IfSome result (λ len. len + 1 < 2 ^ 64) }
     ensures splits { Splits bytes.now result }
 {
-    let len = bytes_before_feed(bytes);
-    if len < bytes.len() { Some(len) } else { None }
+    memchr(b'\n', bytes)
 }
 
 /// The number of blanks at the front.

@@ -12,13 +12,14 @@ use crate::places::add_place;
 use crate::put::{put_copy, put_line};
 use crate::search::least_copy;
 use scasp_name::Memory;
+use smallvec::SmallVec;
 
 /// Puts the line, or the copy that stands for its subtree; gives back how many lines behind it are left out.
 fn put_next(
     out: &mut Vec<u8>,
     lines: &[Line<'_>],
     marks: &[Root],
-    places: &[Vec<usize>],
+    places: &[SmallVec<usize, 1>],
     line: usize,
 ) -> Result<usize, Memory>
     requires marks { AreMarks (read_all lines.now) marks.now }

@@ -1,12 +1,13 @@
 -- Classes of subtrees: places of keys in a table, a subtree's key being the words of its first line without a line number, and
 -- the classes of the subtrees right below it.
-use Rattle.std.specs.Prelude.{◌≡◌, ℕ, ◌+◌, ◌<◌, nat_lt, true, if◌then◌else◌, List, [], ◌∷◌, ◌++◌, length, take, drop, slice_index_or, codes, decimal}
+use Rattle.std.specs.Prelude.{◌≡◌, ℕ, ◌+◌, ◌<◌, nat_lt, true, if◌then◌else◌, List, [], ◌∷◌, ◌++◌, length, take, drop, slice_index_or}
 use Rattle.std.specs.List.{position_or_len}
 use Rattle.std.specs.Str.{bytes_eq}
 use Rattle.scasp_copies.specs.Copies.{before_digits, names_line, subtree}
 use Rattle.scasp_copies.specs.Pieces.{Piece}
 use Rattle.scasp_name.specs.Texts.{has_text}
 use Rattle.scasp_print_shared.specs.Shared.{is_copy}
+use Rattle.scasp_print_shared.specs.Inside.Keys.{numbers}
 use Rattle.scasp_print_shared.specs.declared.classes.Root.{Root}
 
 -- the words without a line number at their end
@@ -27,12 +28,12 @@ abbrev pub count_of : List Root → ℕ
 count_of [] = 0
 count_of (r ∷ rs) = r.count + count_of rs
 
-abbrev pub classes_text : List Root → List ℕ
-classes_text [] = []
-classes_text (r ∷ rs) = codes "\n" ++ decimal r.class ++ classes_text rs
+abbrev pub classes_of : List Root → List ℕ
+classes_of [] = []
+classes_of (r ∷ rs) = r.class ∷ classes_of rs
 
 abbrev pub key_of : List ℕ → List Root → List ℕ
-key_of words rs = stem words ++ classes_text rs
+key_of words rs = numbers (stem words) (classes_of rs)
 
 -- the place of the key; the length of the table, where it lacks the key
 abbrev pub place_in : List (List ℕ) → List ℕ → ℕ

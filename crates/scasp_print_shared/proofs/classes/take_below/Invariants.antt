@@ -1,10 +1,10 @@
 use Rattle.std.proofs.Common.{◌≡◌, ◌+◌, ◌++◌, reverse, vec_len}
-use Rattle.scasp_print_shared.specs.Inside.Classes.{below, beside, classes_text, count_of}
+use Rattle.scasp_print_shared.specs.Inside.Classes.{below, beside, classes_of, count_of}
 use Rattle.scasp_print_shared.proofs.classes.take_below.Given as goal
 
 abbrev pub invariant-loop-root : goal.invariant-loop-root
 invariant-loop-root l = record {
-  key : l.key.items ++ classes_text (below l.depth (reverse l.roots.items)) ≡ l.fn.key.items ++ classes_text (below l.depth (reverse l.fn.roots.items));
+  classes : l.classes.items ++ classes_of (below l.depth (reverse l.roots.items)) ≡ l.fn.classes.items ++ classes_of (below l.depth (reverse l.fn.roots.items));
   roots : beside l.depth (reverse l.roots.items) ≡ beside l.depth (reverse l.fn.roots.items);
   count : l.count + count_of (below l.depth (reverse l.roots.items)) ≡ count_of (below l.depth (reverse l.fn.roots.items));
 }

@@ -12,6 +12,6 @@ returns c =
     let line = c.args.line in
     let room = c.in_ok-make_room.ensures.room in
     let pushed : c.push.new.self.items ≡ listed lists class ++ line ∷ [] =
-    c.in_ok-push.ensures.items ∙ ap (λ ns. ns ++ line ∷ []) (sym (listed-at lists class c.index_mut.result.now room c.index_mut.ensures.value)) in
+    c.in_ok-push.ensures.ok ∙ ap (λ ns. ns ++ line ∷ []) (sym (listed-at lists class c.index_mut.result.now room c.index_mut.ensures.value)) in
     listed-set lists c.push.new.self class other line room pushed
     ∙ ap (λ ns. ns ++ (if class == other then line ∷ [] else [])) (c.in_ok-make_room.ensures.same other)

@@ -29,9 +29,9 @@ is_copy-requires-clause-before c =
     let line = c.args.line in
     let within : line < length ps = omega (arith, c.requires.within, length-map c.args.lines.now read) in
     let class = (get_or ms line no_root).class in
-    let items = c.deref-place-items.result.now in
+    let items = c.as_slice-place-items.result.now in
     let items-are : items ≡ places_of class 0 (take line ms) =
-    c.deref-place-items.ensures.value ∙ sym (listed-at c.args.places.now class c.index-places-root.result c.if-root-places.false c.index-places-root.is) ∙ c.requires.places class in
+    c.as_slice-place-items.ensures ∙ sym (listed-at c.args.places.now class c.index-places-root.result c.if-root-places.false c.index-places-root.is) ∙ c.requires.places class in
     let size = c.requires.marks.size in
     let h : c.loop-place.place-index < length (places_of class 0 (take line ms)) = subst (λ (z : List ℕ). c.loop-place.place-index < length z) items-are c.loop-place-test.true in
     let b = places-within class 0 (take line ms) 0 c.loop-place.place-index h in
@@ -46,9 +46,9 @@ overflow_add-result c =
     let line = c.args.line in
     let within : line < length ps = omega (arith, c.requires.within, length-map c.args.lines.now read) in
     let class = (get_or ms line no_root).class in
-    let items = c.deref-place-items.result.now in
+    let items = c.as_slice-place-items.result.now in
     let items-are : items ≡ places_of class 0 (take line ms) =
-    c.deref-place-items.ensures.value ∙ sym (listed-at c.args.places.now class c.index-places-root.result c.if-root-places.false c.index-places-root.is) ∙ c.requires.places class in
+    c.as_slice-place-items.ensures ∙ sym (listed-at c.args.places.now class c.index-places-root.result c.if-root-places.false c.index-places-root.is) ∙ c.requires.places class in
     let size = c.requires.marks.size in
     let h : c.loop-place.place-index < length (places_of class 0 (take line ms)) = subst (λ (z : List ℕ). c.loop-place.place-index < length z) items-are c.loop-place-test.true in
     let b = places-within class 0 (take line ms) 0 c.loop-place.place-index h in
@@ -63,9 +63,9 @@ returns-then-branch c =
     let line = c.args.line in
     let within : line < length ps = omega (arith, c.requires.within, length-map c.args.lines.now read) in
     let class = (get_or ms line no_root).class in
-    let items = c.deref-place-items.result.now in
+    let items = c.as_slice-place-items.result.now in
     let items-are : items ≡ places_of class 0 (take line ms) =
-    c.deref-place-items.ensures.value ∙ sym (listed-at c.args.places.now class c.index-places-root.result c.if-root-places.false c.index-places-root.is) ∙ c.requires.places class in
+    c.as_slice-place-items.ensures ∙ sym (listed-at c.args.places.now class c.index-places-root.result c.if-root-places.false c.index-places-root.is) ∙ c.requires.places class in
     let holds = is_copy (take line ps) (drop line ps) in
     sym
     (least-by_class ps ms line no_root c.requires.marks within c.if-root-lt3.false
@@ -80,9 +80,9 @@ returns c =
     let line = c.args.line in
     let within : line < length ps = omega (arith, c.requires.within, length-map c.args.lines.now read) in
     let class = (get_or ms line no_root).class in
-    let items = c.deref-place-items.result.now in
+    let items = c.as_slice-place-items.result.now in
     let items-are : items ≡ places_of class 0 (take line ms) =
-    c.deref-place-items.ensures.value ∙ sym (listed-at c.args.places.now class c.index-places-root.result c.if-root-places.false c.index-places-root.is) ∙ c.requires.places class in
+    c.as_slice-place-items.ensures ∙ sym (listed-at c.args.places.now class c.index-places-root.result c.if-root-places.false c.index-places-root.is) ∙ c.requires.places class in
     let holds = is_copy (take line ps) (drop line ps) in
     sym
     (least-by_class ps ms line no_root c.requires.marks within c.if-root-lt3.false
