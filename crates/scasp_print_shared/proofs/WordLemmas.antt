@@ -10,13 +10,9 @@ use Rattle.std.proofs.lemmas.List.{reverse-append, reverse-reverse, length-rever
 use Rattle.std.proofs.lemmas.List.Folds.{list_all-append, length-prefix_len}
 use Rattle.std.proofs.lemmas.List.Sums.{prefix_len-le-length}
 use Rattle.scasp_copies.specs.Copies.{begins, is_digit, last_digits, last_number, before_digits, names_line, Move, is_inside, moved_number, moved_words}
+use Rattle.scasp_copies.proofs.WordLemmas.{digits_within, last_length}
 use Rattle.scasp_print_shared.specs.Inside.Classes.{stem}
 use Rattle.scasp_reader_tokens.specs.Numbers.{digits_value}
-
-pub begins_is : (first text : List ℕ) → bytes_eq first (take (length first) text) ≡ begins first text
-begins_is [] text = refl
-begins_is (f ∷ fs) [] = refl
-begins_is (f ∷ fs) (b ∷ bs) = ap (λ t. f == b && t) (begins_is fs bs)
 
 begins-take : (first text : List ℕ) (k : ℕ) → length first ≤ k → begins first text ≡ true → begins first (take k text) ≡ true
 begins-take [] text k h e = refl
@@ -80,13 +76,6 @@ all-reverse p (x ∷ xs) h =
 abbrev digits_len : List ℕ → ℕ
 digits_len words = prefix_len is_digit (reverse words)
 
-pub length-last_digits : (words : List ℕ) → length (last_digits words) ≡ prefix_len is_digit (reverse words)
-length-last_digits words =
-    length-reverse (take (digits_len words) (reverse words)) ∙ length-prefix_len is_digit (reverse words)
-
-pub digits-within : (words : List ℕ) → prefix_len is_digit (reverse words) ≤ length words
-digits-within words = omega (arith, prefix_len-le-length is_digit (reverse words), length-reverse words)
-
 reverse-front : (words : List ℕ) (k : ℕ) → k ≤ length words → reverse (take (length words - k) words) ≡ drop k (reverse words)
 reverse-front words k h =
     let a = length words - k in
@@ -96,13 +85,13 @@ reverse-front words k h =
     ∙ ap (λ z. drop k (reverse z)) (take-append-drop a words)
 
 before-is : (words : List ℕ) → before_digits words ≡ take (length words - digits_len words) words
-before-is words = ap (λ n. take (length words - n) words) (length-last_digits words)
+before-is words = ap (λ n. take (length words - n) words) (last_length words)
 
 -- no digit stands at the end of the words before the digits
 ends-before : (words : List ℕ) → prefix_len is_digit (reverse (before_digits words)) ≡ 0
 ends-before words =
     ap (λ z. prefix_len is_digit (reverse z)) (before-is words)
-    ∙ ap (prefix_len is_digit) (reverse-front words (digits_len words) (digits-within words))
+    ∙ ap (prefix_len is_digit) (reverse-front words (digits_len words) (digits_within words))
     ∙ prefix-behind is_digit (reverse words)
 
 digits-behind : (front ds : List ℕ) → prefix_len is_digit (reverse front) ≡ 0 → list_all is_digit ds ≡ true → digits_len (front ++ ds) ≡ length ds
@@ -163,7 +152,7 @@ keeps-front : (first words more : List ℕ) (y : ℕ) (ys : List ℕ) → revers
     → begins first (before_digits words ++ more) ≡ true
 keeps-front first words more y ys r d e =
     let room = front-room first words y ys r d e in
-    let k : length first ≤ length words - length (last_digits words) = omega (arith, room, length-last_digits words) in
+    let k : length first ≤ length words - length (last_digits words) = omega (arith, room, last_length words) in
     begins-append first (before_digits words) more (begins-take first words (length words - length (last_digits words)) k e)
 
 names-kept : (words more : List ℕ) → names_line words ≡ true → names_line (before_digits words ++ more) ≡ true
@@ -207,23 +196,6 @@ far-stays m words f h n =
     let past : m.from + m.count ≤ k = omega (arith, f, h, n) in
     cond-false (names_line words && is_inside m k) (before_digits words ++ decimal (moved_number m k)) words
     (and_right (names_line words) (is_inside m k) (and_right (nat_le m.from k) (nat_lt k (m.from + m.count)) (le-ltb k (m.from + m.count) past)))
-
--- ---- the digits at the end, as they stand
-
-reverse-back : (words : List ℕ) (k : ℕ) → k ≤ length words → take k (reverse words) ≡ reverse (drop (length words - k) words)
-reverse-back words k h =
-    let a = length words - k in
-    let n : length (reverse (drop a words)) ≡ k = omega (arith, length-reverse (drop a words), length-drop a words) in
-    ap (λ z. take k (reverse z)) (sym (take-append-drop a words))
-    ∙ ap (take k) (reverse-append (take a words) (drop a words))
-    ∙ take_at (reverse (drop a words)) (reverse (take a words)) k n
-
-pub last-is : (words : List ℕ) → drop (length words - length (last_digits words)) words ≡ last_digits words
-last-is words =
-    let k = digits_len words in
-    ap (λ n. drop (length words - n) words) (length-last_digits words)
-    ∙ sym (reverse-reverse (drop (length words - k) words))
-    ∙ ap reverse (sym (reverse-back words k (digits-within words)))
 
 -- ---- one digit after the other
 
