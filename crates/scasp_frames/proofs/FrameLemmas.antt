@@ -28,7 +28,7 @@ some_item (x ∷ xs) l = (x, xs ++ l ∷ [], refl)
 pub shows_close_nothing : (r : Rest) → false ≡ closes (map task.Show (left_of r))
 shows_close_nothing r =
     let some = some_item (drop r.place r.body.value.before.items) r.body.value.last in
-    ap (λ js. closes (map task.Show (map (item_raised r.first) js))) (sym some.1.1)
+    ap (λ js. closes (map task.Show (map (item_raised r.first) js))) (sym some.2)
 
 pub first_shown : (r : Rest) (i : FlatItem) (is js : List FlatItem) → left_of r ≡ i ∷ is → js ≡ is
     → map task.Show (left_of r) ≡ task.Show i ∷ map task.Show js
@@ -40,6 +40,6 @@ some_task (frame.Task t) = (t, [], refl)
 some_task (frame.Rest r) =
     let some = some_item (drop r.place r.body.value.before.items) r.body.value.last in (
       task.Show (item_raised r.first some.0),
-      map task.Show (map (item_raised r.first) some.1.0),
-      ap (λ js. map task.Show (map (item_raised r.first) js)) some.1.1,
+      map task.Show (map (item_raised r.first) some.1),
+      ap (λ js. map task.Show (map (item_raised r.first) js)) some.2,
     )

@@ -14,7 +14,9 @@ all_dropped (suc k) (x ∷ xs) h = all_dropped k xs (omega (arith, h))
 one_dropped : {T : Type 0} (k : ℕ) (xs : List T) (x : T) → k < length xs → drop k xs ≡ get_or xs k x ∷ drop (k + 1) xs
 one_dropped k [] x h = absurd (omega (arith, h))
 one_dropped zero (y ∷ ys) x h = refl
-one_dropped (suc k) (y ∷ ys) x h = one_dropped k ys x (omega (arith, h))
+one_dropped (suc k) (y ∷ ys) x h =
+    let m : suc (k + 1) ≡ suc k + 1 = omega arith in
+    one_dropped k ys x (omega (arith, h)) ∙ ap (λ (n : ℕ). get_or ys k x ∷ drop n (y ∷ ys)) m
 
 pub next_before : (k : ℕ) (b : Body) (i : FlatItem) → k < length b.before.items → i ≡ get_or b.before.items k i
     → items_from k b ≡ i ∷ items_behind k b

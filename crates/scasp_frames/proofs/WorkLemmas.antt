@@ -46,7 +46,7 @@ by_first : {T : Type 0} (h : List Task → T) → ((t : Task) (ts us : List Task
     → h (tasks_of f ++ us) ≡ h (tasks_of f)
 by_first h same f us =
     let some = some_task f in
-    ap (λ ts. h (ts ++ us)) some.1.1 ∙ same some.0 (some.1.0 ++ us) some.1.0 ∙ ap h (sym some.1.1)
+    ap (λ ts. h (ts ++ us)) some.2 ∙ same some.0 (some.1 ++ us) some.1 ∙ ap h (sym some.2)
 
 pub next_costs : (s : State) (fs us : List Frame) (f : Frame) → fs ≡ us ++ f ∷ [] → pays_for s (tasks_of f) ≡ pays_for s (work_of fs)
 next_costs s fs us f e =
@@ -66,7 +66,7 @@ none_closes (f ∷ fs) h = absurd (omega (arith, h))
 pub some_next : (fs us : List Frame) (f : Frame) → fs ≡ us ++ f ∷ [] → has_work (work_of fs) ≡ true
 some_next fs us f e =
     let some = some_task f in
-    ap has_work (work_by_last fs us f e ∙ ap (λ ts. ts ++ work_of us) some.1.1)
+    ap has_work (work_by_last fs us f e ∙ ap (λ ts. ts ++ work_of us) some.2)
 
 pub none_next : (fs : List Frame) → length fs ≡ 0 → has_work (work_of fs) ≡ false
 none_next [] h = refl

@@ -1,22 +1,22 @@
 //! What clauses have to be done for them.
-ghost use Rattle.std.specs.Prelude.{◌≡◌, ◌<◌, ◌∷◌, ◌++◌, List, IfOk, OnOk, length, map, take};
+ghost use Rattle.std.specs.Prelude.{◌≡◌, ◌∷◌, ◌++◌, [], IfOk, OnOk, map};
 ghost use Rattle.scasp_frames.specs.Inside.Kept.{rest_left, work_of};
 ghost use Rattle.scasp_search_rules.specs.Successors.Calls.{head_args};
 ghost use Rattle.scasp_search_rules.specs.Successors.Cases.{failing_at};
 ghost use Rattle.scasp_search_rules.specs.Successors.Equations.{equations};
-ghost use Rattle.scasp_search_rules.specs.Successors.Items.{body_of, item_raised};
+ghost use Rattle.scasp_search_rules.specs.Successors.Items.{body_of, item_raised, opposite_item};
 ghost use Rattle.scasp_search_rules.specs.Successors.Pairs.{pairs};
 
 use crate::frame::Frame;
 use crate::raising::item_raised;
 use crate::rest::Rest;
-use crate::work::{put, put_rest};
+use crate::work::{put_all, put_rest};
 use scasp_list::Memory;
-use scasp_search_calls::{head_args, opposite_item};
+use scasp_search_calls::{failing_at, head_args, push_shows};
 use scasp_search_constraints::equations;
 use scasp_search_rules::{Aim, Task, Tasks};
 use scasp_search_terms::pairs::pairs;
-use scasp_syntax::{FlatItem, Program, Terms, flat};
+use scasp_syntax::{FlatItem, FlatItems, Program, Terms, flat};
 use scasp_trail::Trailed;
 use std::alloc::Global;
 
@@ -35,18 +35,19 @@ pub(crate) fn body_rest(
     }
 }
 
-/// That the item at the place is false.
-#[tactic(auto, using(crate::proofs::BodyLemmas::failing_there))]
-fn false_at(alloc: Global, items: &[FlatItem], first: u64, place: usize) -> Result<Task, Memory>
-    requires { place < length items.now }
-    ensures { IfOk result (λ task. (ts : List Task) → map Task.Show (map (item_raised first) (take place items.now)) ++ task ∷ ts ≡ map Task.Show (failing_at place (map (item_raised first) items.now)) ++ ts) }
+/// That the item, with its variables from `first` on, is false.
+fn false_item(alloc: Global, item: &FlatItem, first: u64) -> Result<Tasks, Memory>
+    ensures { IfOk result (λ tasks. tasks ≡ Task.Show (opposite_item (item_raised first item.now)) ∷ []) }
 {
-    let item = item_raised(alloc, first, &items[place])?;
-    Ok(Task::Show(opposite_item(alloc, &item)?))
+    let mut one = FlatItems::new(alloc);
+    one.push(item_raised(alloc, first, item)?)?;
+    let mut tasks = Tasks::new(alloc);
+    push_shows(failing_at(alloc, one.as_slice(), 0)?, &mut tasks)?;
+    Ok(tasks)
 }
 
 /// Puts the items before the one at the place, and that one false, before all others; all items where they are no more.
-#[tactic(auto, using(crate::proofs::BodyLemmas::failing_past))]
+#[tactic(auto, using(crate::proofs::BodyLemmas::put_past, crate::proofs::BodyLemmas::put_there))]
 fn put_up_to(
     alloc: Global,
     frames: &mut Trailed<Frame>,
@@ -60,11 +61,13 @@ fn put_up_to(
     let mut before = items;
     let at = place as usize;
     if before.len() <= at {
-        return put_rest(frames, Rest::of(alloc, before, first)?);
+        put_rest(frames, Rest::of(alloc, before, first)?)?;
+        return Ok(());
     }
-    put(frames, false_at(alloc, before.as_slice(), first, at)?)?;
+    put_all(frames, false_item(alloc, &before[at], first)?)?;
     before.truncate(at);
-    put_rest(frames, Rest::of(alloc, before, first)?)
+    put_rest(frames, Rest::of(alloc, before, first)?)?;
+    Ok(())
 }
 
 /// Puts the items of the flat body of a clause before the one at the place, and that one false, before all others.
