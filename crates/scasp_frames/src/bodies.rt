@@ -47,7 +47,6 @@ fn false_item(alloc: Global, item: &FlatItem, first: u64) -> Result<Tasks, Memor
 }
 
 /// Puts the items before the one at the place, and that one false, before all others; all items where they are no more.
-#[tactic(auto, using(crate::proofs::BodyLemmas::put_past, crate::proofs::BodyLemmas::put_there))]
 fn put_up_to(
     alloc: Global,
     frames: &mut Trailed<Frame>,
