@@ -1,78 +1,90 @@
--- Tasks kept with the next one last, and bodies without a false item.
-use Rattle.std.proofs.Common.{◌≡◌, ◌+◌, ◌-◌, ◌<◌, ◌≤◌, ℕ, zero, suc, true, false, IfOk, Result, Ok, Err, Option, None, Some, List, [], ◌∷◌, ◌++◌, length, map, reverse, take, append_assoc, length-append, arith, refl, ap, subst, sym, ◌∙◌}
+-- Frames kept with the next one last.
+use Rattle.std.proofs.Common.{◌≡◌, ◌+◌, ◌-◌, ◌<◌, ◌≤◌, ℕ, zero, suc, true, false, IfOk, Result, Ok, Err, Option, None, Some, List, [], ◌∷◌, ◌++◌, length, map, reverse, take, length-append, arith, refl, ap, subst, sym, ◌∙◌}
+use Rattle.std.specs.List.{flat_map}
 use Rattle.std.proofs.lemmas.List.{reverse-append, take-append-le, take_all}
+use Rattle.scasp_frames.specs.Inside.Kept.{tasks_of, work_of}
 use Rattle.scasp_frames.specs.Inside.Taken.{Takes}
+use Rattle.scasp_frames.specs.declared.frame.Frame.{Frame}
+use Rattle.scasp_frames.proofs.FrameLemmas.{some_task}
 use Rattle.scasp_list.specs.declared.memory.Memory.{Memory}
-use Rattle.scasp_search_rules.specs.Successors.Cases.{failing_at}
-use Rattle.scasp_search_rules.specs.Successors.Replacing.{closes, is_close}
-use Rattle.scasp_search_rules.specs.Successors.Search.{costs, pays_for}
+use Rattle.scasp_search_rules.specs.Successors.Replacing.{closes}
+use Rattle.scasp_search_rules.specs.Successors.Search.{pays_for}
 use Rattle.scasp_search_rules.specs.declared.states.state.State.{State}
 use Rattle.scasp_search_rules.specs.declared.states.tasks.Task.{Task}
 use Rattle.scasp_search_state.specs.Choices.{TakesTask}
 use Rattle.scasp_search_state.specs.Words.{has_work}
-use Rattle.scasp_syntax.specs.declared.clause.FlatItem.{FlatItem}
 use Rattle.scasp_trail.specs.Past.{earlier, latest}
 
-pub failing_past : (k : ℕ) (is : List FlatItem) → length is ≤ k → failing_at k is ≡ is
-failing_past k [] h = refl
-failing_past zero (i ∷ is) h = absurd (omega (arith, h))
-failing_past (suc k) (i ∷ is) h = ap (λ (xs : List FlatItem). i ∷ xs) (failing_past k is (omega (arith, h)))
+-- ---- the last frame is the first
 
--- ---- the last item is the first
+pub work_with : (fs : List Frame) (f : Frame) → work_of (fs ++ f ∷ []) ≡ tasks_of f ++ work_of fs
+work_with fs f = ap (flat_map tasks_of) (reverse-append fs (f ∷ []))
 
-pub last_first : {T : Type 0} (xs : List T) (x : T) → reverse (xs ++ x ∷ []) ≡ x ∷ reverse xs
-last_first xs x = reverse-append xs (x ∷ [])
+pub work_by_last : (fs us : List Frame) (f : Frame) → fs ≡ us ++ f ∷ [] → work_of fs ≡ tasks_of f ++ work_of us
+work_by_last fs us f e = ap work_of e ∙ work_with us f
 
-pub without_last : {T : Type 0} (xs ys : List T) (x : T) → xs ≡ ys ++ x ∷ [] → reverse xs ≡ x ∷ reverse (take (length xs - 1) xs)
-without_last xs ys x e =
-    let n : length xs ≡ length ys + 1 = ap length e ∙ length-append ys (x ∷ []) in
-    let m : length xs - 1 ≡ length ys = omega (arith, n) in
-    let before : take (length xs - 1) xs ≡ ys =
-    ap (λ (k : ℕ). take k xs) m ∙ ap (λ zs. take (length ys) zs) e
-    ∙ take-append-le (length ys) ys (x ∷ []) (omega arith) ∙ take_all (length ys) ys (omega arith) in
-    ap reverse e ∙ last_first ys x ∙ ap (λ zs. x ∷ reverse zs) (sym before)
+all_but_last : (fs us : List Frame) (f : Frame) → fs ≡ us ++ f ∷ [] → take (length fs - 1) fs ≡ us
+all_but_last fs us f e =
+    let n : length fs ≡ length us + 1 = ap length e ∙ length-append us (f ∷ []) in
+    let m : length fs - 1 ≡ length us = omega (arith, n) in
+    ap (λ (k : ℕ). take k fs) m ∙ ap (λ gs. take (length us) gs) e
+    ∙ take-append-le (length us) us (f ∷ []) (omega arith) ∙ take_all (length us) us (omega arith)
 
 -- ---- at the latest mark
 
-pub turned_latest : {T : Type 0} (xs : List T) (xss : List (List T)) → reverse (latest xs xss) ≡ latest (reverse xs) (map reverse xss)
-turned_latest xs [] = refl
-turned_latest xs (ys ∷ xss) = refl
+pub work_latest : (fs : List Frame) (fss : List (List Frame)) → work_of (latest fs fss) ≡ latest (work_of fs) (map work_of fss)
+work_latest fs [] = refl
+work_latest fs (gs ∷ fss) = refl
 
-pub turned_earlier : {T : Type 0} (xss : List (List T)) → map reverse (earlier xss) ≡ earlier (map reverse xss)
-turned_earlier [] = refl
-turned_earlier (ys ∷ xss) = refl
+pub work_earlier : (fss : List (List Frame)) → map work_of (earlier fss) ≡ earlier (map work_of fss)
+work_earlier [] = refl
+work_earlier (gs ∷ fss) = refl
 
 -- ---- the first of the tasks
 
-pub next_costs : (s : State) (ts us : List Task) (t : Task) → ts ≡ us ++ t ∷ [] → pays_for s (reverse ts) ≡ costs s t
-next_costs s ts us t e = ap (pays_for s) (without_last ts us t e)
+by_first : {T : Type 0} (h : List Task → T) → ((t : Task) (ts us : List Task) → h (t ∷ ts) ≡ h (t ∷ us)) → (f : Frame) (us : List Task)
+    → h (tasks_of f ++ us) ≡ h (tasks_of f)
+by_first h same f us =
+    let some = some_task f in
+    ap (λ ts. h (ts ++ us)) some.2 ∙ same some.0 (some.1 ++ us) some.1 ∙ ap h (sym some.2)
 
-pub none_costs : (s : State) (ts : List Task) → length ts ≡ 0 → pays_for s (reverse ts) ≡ false
+pub next_costs : (s : State) (fs us : List Frame) (f : Frame) → fs ≡ us ++ f ∷ [] → pays_for s (tasks_of f) ≡ pays_for s (work_of fs)
+next_costs s fs us f e =
+    sym (ap (pays_for s) (work_by_last fs us f e) ∙ by_first (pays_for s) (λ t ts vs. refl) f (work_of us))
+
+pub none_costs : (s : State) (fs : List Frame) → length fs ≡ 0 → pays_for s (work_of fs) ≡ false
 none_costs s [] h = refl
-none_costs s (t ∷ ts) h = absurd (omega (arith, h))
+none_costs s (f ∷ fs) h = absurd (omega (arith, h))
 
-pub next_closes : (ts us : List Task) (t : Task) → ts ≡ us ++ t ∷ [] → closes (reverse ts) ≡ is_close t
-next_closes ts us t e = ap closes (without_last ts us t e)
+pub next_closes : (fs us : List Frame) (f : Frame) → fs ≡ us ++ f ∷ [] → closes (tasks_of f) ≡ closes (work_of fs)
+next_closes fs us f e = sym (ap closes (work_by_last fs us f e) ∙ by_first closes (λ t ts vs. refl) f (work_of us))
 
-pub none_closes : (ts : List Task) → length ts ≡ 0 → closes (reverse ts) ≡ false
+pub none_closes : (fs : List Frame) → length fs ≡ 0 → closes (work_of fs) ≡ false
 none_closes [] h = refl
-none_closes (t ∷ ts) h = absurd (omega (arith, h))
+none_closes (f ∷ fs) h = absurd (omega (arith, h))
 
-pub some_next : (ts us : List Task) (t : Task) → ts ≡ us ++ t ∷ [] → has_work (reverse ts) ≡ true
-some_next ts us t e = ap has_work (without_last ts us t e)
+pub some_next : (fs us : List Frame) (f : Frame) → fs ≡ us ++ f ∷ [] → has_work (work_of fs) ≡ true
+some_next fs us f e =
+    let some = some_task f in
+    ap has_work (work_by_last fs us f e ∙ ap (λ ts. ts ++ work_of us) some.2)
 
-pub none_next : (ts : List Task) → length ts ≡ 0 → has_work (reverse ts) ≡ false
+pub none_next : (fs : List Frame) → length fs ≡ 0 → has_work (work_of fs) ≡ false
 none_next [] h = refl
-none_next (t ∷ ts) h = absurd (omega (arith, h))
+none_next (f ∷ fs) h = absurd (omega (arith, h))
 
 -- ---- the first of the tasks is taken
 
-pub next_taken : (ts us vs : List Task) (t u : Task) → ts ≡ us ++ t ∷ [] → u ≡ t → vs ≡ take (length ts - 1) ts → Takes (reverse ts) (reverse vs) (Some u)
-next_taken ts us vs t u e h q = rw (without_last ts us t e) (h, ap reverse q)
+pub next_taken : (fs us gs : List Frame) (f : Frame) (t : Task) (ts vs : List Task) → fs ≡ us ++ f ∷ [] → tasks_of f ≡ t ∷ ts
+    → gs ≡ take (length fs - 1) fs → vs ≡ ts ++ work_of gs → Takes (work_of fs) vs (Some t)
+next_taken fs us gs f t ts vs e h g q =
+    let same : gs ≡ us = g ∙ all_but_last fs us f e in
+    let left : vs ≡ ts ++ work_of us = q ∙ ap (λ hs. ts ++ work_of hs) same in
+    let first : work_of fs ≡ t ∷ ts ++ work_of us = work_by_last fs us f e ∙ ap (λ ws. ws ++ work_of us) h in
+    subst (λ ws. Takes ws vs (Some t)) (sym first) (refl, left)
 
-pub none_taken : (ts : List Task) → length ts ≡ 0 → Takes (reverse ts) (reverse ts) None
+pub none_taken : (fs : List Frame) → length fs ≡ 0 → Takes (work_of fs) (work_of fs) None
 none_taken [] h = refl
-none_taken (t ∷ ts) h = absurd (omega (arith, h))
+none_taken (f ∷ fs) h = absurd (omega (arith, h))
 
 takes_task : (s : State) (old new : List Task) (r : Option Task) → s.work ≡ old → Takes old new r → TakesTask s old (record s { work = new }) r
 takes_task s [] new None e h = ap (λ (ts : List Task). record s { work = ts }) (h ∙ sym e)

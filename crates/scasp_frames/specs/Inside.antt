@@ -1,3 +1,3 @@
 -- What private functions alone speak of.
+pub mod Kept
 pub mod Taken
-pub mod Turned

@@ -8,7 +8,7 @@ use scasp_search_rules::Task;
 use scasp_syntax::FlatItem;
 
 /// Whether the item is a call.
-fn is_call(item: &FlatItem) -> bool
+pub(crate) fn is_call(item: &FlatItem) -> bool
     ensures { result ≡ is_call item.now }
 {
     match item {

@@ -12,10 +12,10 @@ ghost use Rattle.scasp_search_state.specs.Choices.{TakesTask};
 ghost use Rattle.scasp_search_state.specs.Words.{has_work};
 ghost use Rattle.scasp_trail.specs.Past.{earlier, is_marked, latest};
 
-use crate::bodies::{apart_from_head, failing_body, head_equations};
-use crate::tasks::{copies, has_next, next_closes, next_pays, put_all, put_shows, take_next};
+use crate::bodies::{apart_from_head, body_rest, head_equations, put_failing};
+use crate::frame::Frame;
+use crate::work::{copies, has_next, next_closes, next_pays, put, put_all, put_rest, take_next};
 use scasp_list::Memory;
-use scasp_search_calls::body_of;
 use scasp_search_rules::{Aim, Task, Tasks};
 use scasp_syntax::{Program, Terms};
 use scasp_trail::Trailed;
@@ -25,8 +25,8 @@ use std::marker::Model;
 /// What is still to be done.
 #[derive(Drop)]
 pub struct Frames {
-    /// The next task is the last.
-    tasks: Trailed<Task>,
+    /// The next frame is the last.
+    frames: Trailed<Frame>,
 }
 
 impl Model for Frames {
@@ -34,13 +34,13 @@ impl Model for Frames {
     ghost use Rattle.std.specs.Coded.{codes};
     ghost use Rattle.scasp_search_rules.specs.declared.states.tasks.Task.{Task};
     ghost use Rattle.scasp_trail.specs.Past.{Past};
-    ghost use Rattle.scasp_frames.specs.Inside.Turned.{turned};
+    ghost use Rattle.scasp_frames.specs.Inside.Kept.{past_work};
 
     ghost Value = { Past Task };
 
     ghost coded = { Prim.hlevel (codes, coded_tms) };
 
-    ghost view = { λ f. turned f.tasks };
+    ghost view = { λ f. past_work f.frames };
 }
 
 impl Frames {
@@ -49,7 +49,7 @@ impl Frames {
         ensures { result ≡ record { now = []; before = [] } }
     {
         Frames {
-            tasks: Trailed::new(alloc),
+            frames: Trailed::new(alloc),
         }
     }
 
@@ -57,38 +57,37 @@ impl Frames {
     pub fn has_work(&self) -> bool
         ensures { result ≡ has_work self.now.now }
     {
-        has_next(self.tasks.as_slice())
+        has_next(self.frames.as_slice())
     }
 
     /// Whether the first task costs a call, in a state where a remainder of the innermost cover waits or not.
     pub fn pays(&self, is_waiting: bool) -> bool
         ensures { (s : State) → waits s.covers ≡ is_waiting → s.work ≡ self.now.now → result ≡ pays s }
     {
-        next_pays(self.tasks.as_slice(), is_waiting)
+        next_pays(self.frames.as_slice(), is_waiting)
     }
 
     /// Whether the first task ends a case.
     pub fn closes(&self) -> bool
         ensures { result ≡ closes self.now.now }
     {
-        next_closes(self.tasks.as_slice())
+        next_closes(self.frames.as_slice())
     }
 
     /// Copies of all tasks, the next one first.
     pub fn tasks(&self, alloc: Global) -> Result<Tasks, Memory>
         ensures { IfOk result (λ made. made ≡ self.now.now) }
     {
-        copies(alloc, self.tasks.as_slice())
+        copies(alloc, self.frames.as_slice())
     }
 
     /// Puts the task before all others.
-    #[tactic(auto, using(crate::proofs::WorkLemmas::last_first))]
     pub fn put(&mut self, task: Task) -> Result<(), Memory>
         ensures now { OnOk result (self.new.now ≡ task ∷ self.old.now) }
         ensures before { self.new.before ≡ self.old.before }
         ensures unchanged { OnErr result (self.new ≡ self.old) }
     {
-        self.tasks.push(task)?;
+        put(&mut self.frames, task)?;
         Ok(())
     }
 
@@ -97,7 +96,7 @@ impl Frames {
         ensures now { OnOk result (self.new.now ≡ tasks ++ self.old.now) }
         ensures before { self.new.before ≡ self.old.before }
     {
-        put_all(&mut self.tasks, tasks)?;
+        put_all(&mut self.frames, tasks)?;
         Ok(())
     }
 
@@ -112,8 +111,8 @@ impl Frames {
         ensures now { OnOk result (self.new.now ≡ map Task.Show (body_of program.now clause first) ++ self.old.now) }
         ensures before { self.new.before ≡ self.old.before }
     {
-        let items = body_of(alloc, program, clause, first)?;
-        put_shows(&mut self.tasks, items)?;
+        let rest = body_rest(alloc, program, clause, first)?;
+        put_rest(&mut self.frames, rest)?;
         Ok(())
     }
 
@@ -130,8 +129,7 @@ impl Frames {
         ensures now { OnOk result (self.new.now ≡ map Task.Show (failing_at place (body_of program.now clause first)) ++ self.old.now) }
         ensures before { self.new.before ≡ self.old.before }
     {
-        let items = failing_body(alloc, program, clause, first, place)?;
-        put_shows(&mut self.tasks, items)?;
+        put_failing(alloc, &mut self.frames, program, clause, first, place)?;
         Ok(())
     }
 
@@ -148,12 +146,11 @@ impl Frames {
         ensures before { self.new.before ≡ self.old.before }
     {
         let tasks = head_equations(alloc, args, program, clause, first)?;
-        put_all(&mut self.tasks, tasks)?;
+        put_all(&mut self.frames, tasks)?;
         Ok(())
     }
 
     /// Puts before all others that these terms are to differ from the arguments of the head of a rule.
-    #[tactic(auto, using(crate::proofs::WorkLemmas::last_first))]
     pub fn put_apart(
         &mut self,
         alloc: Global,
@@ -167,7 +164,7 @@ impl Frames {
         ensures unchanged { OnErr result (self.new ≡ self.old) }
     {
         let task = apart_from_head(alloc, args, program, rule, first)?;
-        self.tasks.push(task)?;
+        put(&mut self.frames, task)?;
         Ok(())
     }
 
@@ -177,14 +174,14 @@ impl Frames {
         ensures taken { (s : State) → s.work ≡ self.old.now → IfOk result (λ task. TakesTask s s.work (record s { work = self.new.now }) task) }
         ensures before { self.new.before ≡ self.old.before }
     {
-        take_next(alloc, &mut self.tasks)
+        take_next(alloc, &mut self.frames)
     }
 
     /// Whether there is a mark.
     pub fn is_marked(&self) -> bool
         ensures { result ≡ is_marked self.now.before }
     {
-        self.tasks.is_marked()
+        self.frames.is_marked()
     }
 
     /// Marks the work as it is now.
@@ -193,17 +190,17 @@ impl Frames {
         ensures before { OnOk result (self.new.before ≡ self.old.now ∷ self.old.before) }
         ensures unchanged { OnErr result (self.new ≡ self.old) }
     {
-        self.tasks.mark()?;
+        self.frames.mark()?;
         Ok(())
     }
 
     /// Makes the work again what it was at the latest mark, which is taken away; without a mark it stays as it is. No memory
     /// is taken.
-    #[tactic(auto, using(crate::proofs::WorkLemmas::turned_latest, crate::proofs::WorkLemmas::turned_earlier))]
+    #[tactic(auto, using(crate::proofs::WorkLemmas::work_latest, crate::proofs::WorkLemmas::work_earlier))]
     pub fn leave(&mut self)
         ensures now { self.new.now ≡ latest self.old.now self.old.before }
         ensures before { self.new.before ≡ earlier self.old.before }
     {
-        self.tasks.leave();
+        self.frames.leave();
     }
 }

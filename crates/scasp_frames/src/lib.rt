@@ -3,7 +3,10 @@
 
 mod ahead;
 mod bodies;
+mod frame;
 mod frames;
-mod tasks;
+mod raising;
+mod rest;
+mod work;
 
 pub use frames::Frames;
