@@ -9,25 +9,25 @@ use Rattle.scasp_syntax.specs.View.{tm_of}
 pub returns-in-Equate : goal.returns-in-Equate
 returns-in-Equate g c =
     rw c.in-Equate.is
-    (one_way c.args.program.now (equate_terms sat (g.M.Situation.now c.args.at.now) (tm_of c.in-Equate.left) (tm_of c.in-Equate.right)) (g.M.Situation.now c.equate_terms.new.at)
+    (one_way g.M.Foresees.foresees c.args.program.now (equate_terms sat (g.M.Situation.now c.args.at.now) (tm_of c.in-Equate.left) (tm_of c.in-Equate.right)) (g.M.Situation.now c.equate_terms.new.at)
     (g.M.Situation.points c.equate_terms.new.at) (g.M.Situation.points c.args.at.now) c.equate_terms.result c.equate_terms.ensures.now c.equate_terms.ensures.points)
 
 pub returns-in-Assume : goal.returns-in-Assume
 returns-in-Assume g c =
     rw c.in-Assume.is
-    (one_way c.args.program.now (assume sat (g.M.Situation.now c.args.at.now) c.in-Assume.constraint) (g.M.Situation.now c.assume.new.at)
+    (one_way g.M.Foresees.foresees c.args.program.now (assume sat (g.M.Situation.now c.args.at.now) c.in-Assume.constraint) (g.M.Situation.now c.assume.new.at)
     (g.M.Situation.points c.assume.new.at) (g.M.Situation.points c.args.at.now) c.assume.result c.assume.ensures.now c.assume.ensures.points)
 
 pub returns-in-Become : goal.returns-in-Become
 returns-in-Become g c =
     rw c.in-Become.is
-    (one_way c.args.program.now (same_value sat (g.M.Situation.now c.args.at.now) c.in-Become.x (tm_of c.in-Become.term) c.in-Become.rest c.in-Become.aim) (g.M.Situation.now c.same_value.new.at)
+    (one_way g.M.Foresees.foresees c.args.program.now (same_value sat (g.M.Situation.now c.args.at.now) c.in-Become.x (tm_of c.in-Become.term) c.in-Become.rest c.in-Become.aim) (g.M.Situation.now c.same_value.new.at)
     (g.M.Situation.points c.same_value.new.at) (g.M.Situation.points c.args.at.now) c.same_value.result c.same_value.ensures.now c.same_value.ensures.points)
 
 pub returns-in-Shape : goal.returns-in-Shape
 returns-in-Shape g c =
     rw c.in-Shape.is
-    (one_way c.args.program.now (same_shape sat (g.M.Situation.now c.args.at.now) c.in-Shape.x c.in-Shape.name c.in-Shape.args c.in-Shape.rest c.in-Shape.aim) (g.M.Situation.now c.same_shape.new.at)
+    (one_way g.M.Foresees.foresees c.args.program.now (same_shape sat (g.M.Situation.now c.args.at.now) c.in-Shape.x c.in-Shape.name c.in-Shape.args c.in-Shape.rest c.in-Shape.aim) (g.M.Situation.now c.same_shape.new.at)
     (g.M.Situation.points c.same_shape.new.at) (g.M.Situation.points c.args.at.now) c.same_shape.result c.same_shape.ensures.now c.same_shape.ensures.points)
 
 pub returns-in-Differ : goal.returns-in-Differ
