@@ -204,13 +204,12 @@ comes-to-nothing p s l k e h c = by l.atom.args (args_in (numbered p.clauses k))
     v : Sub
     v = raised (next_variable s)
 
-    more : List Task
-    more = map task.Show (body_of p k (next_variable s)) ++ task.Leave ∷ []
+    put : Tms → Tms → List Task
+    put ts us = (equations ts us ++ map task.Show (body_of p k (next_variable s)) ++ task.Leave ∷ []) ++ s.work
 
     by : (ts us : Tms) → l.atom.args ≡ ts → args_in (numbered p.clauses k) ≡ us → ExpectsFirst s ts e → first_clashes e us ≡ true → ComesToNothing p (by_rule p s l k)
     by ts nil a b x y = absurd (true≢false (sym y))
     by nil (cons u us) a b x y = absurd (never (clashes e u) y (ap (λ (d : Expected). clashes d u) x ∙ open-fits u))
     by (cons t ts) (cons u us) a b x y =
-        let tail : List Task = (equations ts (all_under v us) ++ more) ++ s.work in
-        first-fails p (by_rule p s l k) t (under v u) tail (λ i. (equations (a i) (all_under v (b i)) ++ more) ++ s.work)
-        (clash-fails (record (by_rule p s l k) { work = tail }) e t u v (still-expected p s l k tail t e x) y)
+        first-fails p (by_rule p s l k) t (under v u) (put ts (all_under v us)) (λ i. put (a i) (all_under v (b i)))
+        (clash-fails (record (by_rule p s l k) { work = put ts (all_under v us) }) e t u v (still-expected p s l k (put ts (all_under v us)) t e x) y)

@@ -46,7 +46,7 @@ pub fn resume<M: Situation>(alloc: Global, program: &Program, at: &mut M) -> Res
 }
 
 /// As `resume`, but states in front that come to nothing may be left out.
-#[tactic(auto, using(crate::proofs::SkipLemmas::one_skipped, crate::proofs::StepLemmas::one_fewer, crate::proofs::SkipLemmas::all_skipped, crate::proofs::StepLemmas::none_left))]
+#[tactic(auto, using(crate::proofs::SkipLemmas::choice_skipped, crate::proofs::StepLemmas::one_fewer, crate::proofs::SkipLemmas::all_skipped, crate::proofs::StepLemmas::none_left))]
 pub fn resume_ahead<M: Foresees>(
     alloc: Global,
     program: &Program,

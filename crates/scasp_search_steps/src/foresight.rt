@@ -29,30 +29,30 @@ pub trait Foresees: Situation {
 // ---- heads
 
 /// Whether a term of which this is known is not the number.
-fn clashes_with_number(expected: Expected, value: Rat) -> bool
-    ensures { result ≡ clashes_with_number expected value }
+fn clashes_with_number(expected: &Expected, value: Rat) -> bool
+    ensures { result ≡ clashes_with_number expected.now value }
 {
     match expected {
         Expected::Open => false,
-        Expected::Number(other) | Expected::Left(other) => other != value,
+        Expected::Number(other) | Expected::Left(other) => *other != value,
         Expected::Name(_, _) => true,
     }
 }
 
 /// Whether a term of which this is known is not the name with these arguments.
-fn clashes_with_name(expected: Expected, name: NameId, args: &Terms) -> bool
-    ensures { result ≡ clashes_with_name expected (app name args.now) }
+fn clashes_with_name(expected: &Expected, name: NameId, args: &Terms) -> bool
+    ensures { result ≡ clashes_with_name expected.now (app name args.now) }
 {
     match expected {
         Expected::Open | Expected::Left(_) => false,
         Expected::Number(_) => true,
-        Expected::Name(other, count) => other != name || count != args.len() as u64,
+        Expected::Name(other, count) => *other != name || *count != args.len() as u64,
     }
 }
 
 /// Whether a term of which this is known is not this one, whatever its variables stand for.
-fn clashes(expected: Expected, term: &Term) -> bool
-    ensures { result ≡ clashes expected (tm_of term.now) }
+fn clashes(expected: &Expected, term: &Term) -> bool
+    ensures { result ≡ clashes expected.now (tm_of term.now) }
 {
     match term {
         Term::Var(_) => false,
@@ -62,8 +62,8 @@ fn clashes(expected: Expected, term: &Term) -> bool
 }
 
 /// The same of the first of these terms, if there is one.
-fn first_clashes(expected: Expected, args: &Terms) -> bool
-    ensures { result ≡ first_clashes expected args.now }
+fn first_clashes(expected: &Expected, args: &Terms) -> bool
+    ensures { result ≡ first_clashes expected.now args.now }
 {
     match args.get(0) {
         Some(term) => clashes(expected, term),
@@ -72,8 +72,8 @@ fn first_clashes(expected: Expected, args: &Terms) -> bool
 }
 
 /// The same of the first argument of the rule's head.
-fn head_clashes(program: &Program, expected: Expected, rule: u64) -> bool
-    ensures { result ≡ head_clashes program.now expected rule }
+fn head_clashes(program: &Program, expected: &Expected, rule: u64) -> bool
+    ensures { result ≡ head_clashes program.now expected.now rule }
 {
     match program.clause(rule) {
         Some(clause) => match &clause.head {
@@ -99,10 +99,10 @@ fn expected_first<M: Foresees>(alloc: Global, at: &M, args: &Terms) -> Result<Ex
 }
 
 /// The number of the last of the rules behind this one that clash one after the other, or this number.
-#[tactic(auto, using(crate::proofs::SkipLemmas::open_heads))]
-fn behind_clashes(program: &Program, lit: &Lit, expected: Expected, behind: u64) -> u64
-    ensures none { expected ≡ Expected.Open → result ≡ behind }
-    ensures skips { (s : ThisState) (rest : List ThisState) → ExpectsFirst s lit.now.atom.args expected → Skips program.now (left program.now (Choice.ByRules lit.now behind) s ++ rest) (left program.now (Choice.ByRules lit.now result) s ++ rest) }
+#[tactic(auto, using(crate::proofs::SkipLemmas::none_skipped, crate::proofs::SkipLemmas::clash_skipped, crate::proofs::SkipLemmas::open_head))]
+fn behind_clashes(program: &Program, lit: &Lit, expected: &Expected, behind: u64) -> u64
+    ensures none { expected.now ≡ Expected.Open → result ≡ behind }
+    ensures skips { (s : ThisState) (rest : List ThisState) → ExpectsFirst s lit.now.atom.args expected.now → Skips program.now (left program.now (Choice.ByRules lit.now behind) s ++ rest) (left program.now (Choice.ByRules lit.now result) s ++ rest) }
 {
     let mut last = behind;
     while let Some(rule) = next_rule(program, lit, last) {
@@ -115,6 +115,7 @@ fn behind_clashes(program: &Program, lit: &Lit, expected: Expected, behind: u64)
 }
 
 /// The number behind which the rules of the literal go on, where those that come to nothing are left out.
+#[tactic(auto, using(crate::proofs::SkipLemmas::gone_behind))]
 pub(crate) fn go_behind<M: Foresees>(
     alloc: Global,
     program: &Program,
@@ -125,10 +126,11 @@ pub(crate) fn go_behind<M: Foresees>(
     ensures { IfOk result (λ last. (rest : List ThisState) → SkipsIf M.foresees program.now (left program.now (Choice.ByRules lit.now behind) (M.now at.now) ++ rest) (left program.now (Choice.ByRules lit.now last) (M.now at.now) ++ rest)) }
 {
     let expected = expected_first(alloc, at, &lit.atom.args)?;
-    Ok(behind_clashes(program, lit, expected, behind))
+    Ok(behind_clashes(program, lit, &expected, behind))
 }
 
 /// The choice without the rules in front that come to nothing.
+#[tactic(auto, using(crate::proofs::SkipLemmas::same_skipped))]
 pub(crate) fn without_clashes<M: Foresees>(
     alloc: Global,
     program: &Program,

@@ -1,5 +1,5 @@
 -- A row that leaves a variable one number fails where the variable is bound to another one.
-use Rattle.std.proofs.Common.{◌≡◌, ℕ, Bool, true, false, ◌&&◌, ◌||◌, nat_eq, if◌then◌else◌, List, [], ◌∷◌, ◌++◌, Option, None, Some, slice_get, refl, sym, ap, subst, ◌∙◌}
+use Rattle.std.proofs.Common.{◌≡◌, ℕ, Bool, true, false, ◌&&◌, ◌||◌, nat_eq, if◌then◌else◌, IfSome, List, [], ◌∷◌, ◌++◌, Option, None, Some, slice_get, refl, sym, ap, subst, ◌∙◌}
 use Rattle.std.specs.List.{list_all}
 use Rattle.std.proofs.lemmas.Bool.{and_from, and_parts, eqb-true, true≢false}
 use Rattle.std.proofs.lemmas.Bool.Decides.{Decides-eqb}
@@ -114,11 +114,16 @@ other-false bs c x q r t h n = record {
         let same : same_number q r ≡ true = (tm_decided (num q) (num r)).1 (sym only ∙ other) in
         absurd (true≢false (sym same ∙ n))
 
-pub left_at : (bs : List Binding) (cs : List Con) (i : ℕ) (c : Con) (x : ℕ) (q : Number) → Triangular bs → is_bound_in bs x ≡ false → Some c ≡ slice_get cs i → IsLeftBy bs c x q → IsLeft bs cs x q
-left_at bs cs i c x q t e g h = record {
+left-at : (bs : List Binding) (cs : List Con) (i : ℕ) (c : Con) (x : ℕ) (q : Number) → Triangular bs → is_bound_in bs x ≡ false → Some c ≡ slice_get cs i → IsLeftBy bs c x q → IsLeft bs cs x q
+left-at bs cs i c x q t e g h = record {
   unbound = unbound-self bs x e;
   others = λ r more n.
       let new = new_binding bs (binding x (num r)) e refl in
       let tri = more-triangular bs (binding x (num r)) t new.0 new.1 in
       false_fails (bs ++ binding x (num r) ∷ []) cs more tri (record { at = i; con = c; there = g; fails = other-false bs c x q r tri h n });
 }
+
+pub left_some : (bs : List Binding) (cs : List Con) (i : ℕ) (c : Con) (x : ℕ) (o : Option Number) → Some c ≡ slice_get cs i → is_bound_in bs x ≡ false → (Triangular bs → IfSome o (IsLeftBy bs c x))
+    → Triangular bs → IfSome o (IsLeft bs cs x)
+left_some bs cs i c x None g e h t = tt
+left_some bs cs i c x (Some q) g e h t = left-at bs cs i c x q t e g (h t)

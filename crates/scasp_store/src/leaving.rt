@@ -33,14 +33,14 @@ fn is_about(alloc: Global, bound: &Bound, x: u64, constraint: &Con) -> Result<bo
 }
 
 /// The number of the binding, if it is of the variable and to a number.
-fn number_for(binding: Binding, x: u64) -> Option<Rat>
-    ensures { IfSome result (λ q. binding ≡ record { x = x; term = Term.Num q }) }
+fn number_for(binding: &Binding, x: u64) -> Option<Rat>
+    ensures { IfSome result (λ q. binding.now ≡ record { x = x; term = Term.Num q }) }
 {
     if binding.x != x {
         return None;
     }
-    match binding.term {
-        Term::Num(value) => Some(value),
+    match &binding.term {
+        Term::Num(value) => Some(*value),
         Term::Var(_) | Term::App(_, _) => None,
     }
 }
@@ -53,7 +53,7 @@ fn left_by(alloc: Global, bound: &Bound, x: u64, constraint: &Con) -> Result<Opt
         return Ok(None);
     }
     match left_over(alloc, bound, constraint)? {
-        Some(binding) => Ok(number_for(binding, x)),
+        Some(binding) => Ok(number_for(&binding, x)),
         None => Ok(None),
     }
 }
@@ -61,7 +61,7 @@ fn left_by(alloc: Global, bound: &Bound, x: u64, constraint: &Con) -> Result<Opt
 // ---- the given rows
 
 /// The number that the constraint at the place leaves to the unbound variable, if it leaves one.
-#[tactic(auto, using(crate::proofs::LeftLemmas::left_at))]
+#[tactic(auto, using(crate::proofs::LeftLemmas::left_some))]
 fn left_at(
     alloc: Global,
     bound: &Bound,
