@@ -1,8 +1,8 @@
 use Rattle.scasp_hint.specs.Satisfying.{sat}
 use Rattle.scasp_search_rules.specs.Successors.Assumptions.{assume}
-use Rattle.scasp_search_rules.specs.Successors.Differences.{same_shape, same_value}
+use Rattle.scasp_search_rules.specs.Successors.Differences.{differ_terms, differ_value, same_shape, same_value}
 use Rattle.scasp_search_rules.specs.Successors.Equations.{equate_terms}
-use Rattle.scasp_search_steps.proofs.ForkLemmas.{one_way}
+use Rattle.scasp_search_steps.proofs.ForkLemmas.{forks_if, one_way}
 use Rattle.scasp_search_steps.proofs.steps.done.Goals as goal
 use Rattle.scasp_syntax.specs.View.{tm_of}
 
@@ -31,7 +31,13 @@ returns-in-Shape g c =
     (g.M.Situation.points c.same_shape.new.at) (g.M.Situation.points c.args.at.now) c.same_shape.result c.same_shape.ensures.now c.same_shape.ensures.points)
 
 pub returns-in-Differ : goal.returns-in-Differ
-returns-in-Differ g c = rw c.in-Differ.is (c.differ_terms.ensures c.args.program.now)
+returns-in-Differ g c =
+    rw c.in-Differ.is
+    (forks_if g.M.Foresees.foresees c.args.program.now (differ_terms sat (g.M.Situation.now c.args.at.now) c.in-Differ.pairs c.in-Differ.aim) (g.M.Situation.now c.differ_terms.new.at)
+    (g.M.Situation.points c.differ_terms.new.at) (g.M.Situation.points c.args.at.now) c.differ_terms.result (c.differ_terms.ensures c.args.program.now))
 
 pub returns-in-Avoid : goal.returns-in-Avoid
-returns-in-Avoid g c = rw c.in-Avoid.is (c.differ_value.ensures c.args.program.now)
+returns-in-Avoid g c =
+    rw c.in-Avoid.is
+    (forks_if g.M.Foresees.foresees c.args.program.now (differ_value sat (g.M.Situation.now c.args.at.now) c.in-Avoid.x c.in-Avoid.value c.in-Avoid.rest c.in-Avoid.aim) (g.M.Situation.now c.differ_value.new.at)
+    (g.M.Situation.points c.differ_value.new.at) (g.M.Situation.points c.args.at.now) c.differ_value.result (c.differ_value.ensures c.args.program.now))
