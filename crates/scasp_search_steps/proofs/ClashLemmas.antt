@@ -1,7 +1,7 @@
 -- A rule whose head clashes with what is known of the call's first argument comes to nothing.
-use Rattle.std.specs.Prelude.{◌≡◌, ◌≢◌, ℕ, zero, suc, nat_eq, Bool, true, false, ◌&&◌, not, if◌then◌else◌, None, Some, List, [], ◌∷◌, ◌++◌, filter, length, map, replicate, slice_get, refl}
+use Rattle.std.specs.Prelude.{◌≡◌, ℕ, zero, suc, nat_eq, Bool, true, false, ◌&&◌, not, if◌then◌else◌, None, Some, List, [], ◌∷◌, ◌++◌, filter, length, map, replicate, slice_get, refl}
 use Rattle.std.specs.List.{flat_map}
-use Rattle.std.proofs.Common.{ap, append-nil, subst, sym, ◌∙◌}
+use Rattle.std.proofs.Common.{ap, append-nil, sym, ◌∙◌}
 use Rattle.std.proofs.lemmas.Bool.{and_from, and_parts, eqb-true, true≢false}
 use Rattle.std.proofs.lemmas.Bool.Decides.{Decides-eqb}
 use Rattle.scasp_hint.specs.Satisfying.{sat}
@@ -22,7 +22,7 @@ use Rattle.scasp_search_rules.specs.Successors.Reading.{holds_always}
 use Rattle.scasp_search_rules.specs.Successors.Regions.{asked_with, before, with_given}
 use Rattle.scasp_search_rules.specs.Successors.Replacing.{close_overflows}
 use Rattle.scasp_search_rules.specs.Successors.Search.{pays_for, step_at}
-use Rattle.scasp_search_rules.specs.Successors.Steps.{Step, only_if}
+use Rattle.scasp_search_rules.specs.Successors.Steps.{only_if}
 use Rattle.scasp_search_rules.specs.Successors.Variables.{bind, is_empty, is_kind_universal, is_universal, made_or, meaning, next_variable, universals_of, with_binding}
 use Rattle.scasp_search_steps.specs.Foresight.{ComesToNothing, Expects, ExpectsFirst, IsLeft, clashes, first_clashes, head_clashes}
 use Rattle.scasp_search_steps.specs.declared.expected.Expected.{Expected}

@@ -1,5 +1,5 @@
 -- States in front that are left out.
-use Rattle.std.specs.Prelude.{◌≡◌, ◌⊎◌, ℕ, Bool, true, false, None, Some, List, [], ◌∷◌, ◌++◌, slice_get, refl}
+use Rattle.std.specs.Prelude.{◌≡◌, ℕ, Bool, true, false, None, Some, List, [], ◌∷◌, ◌++◌, slice_get, refl}
 use Rattle.std.proofs.Common.{inl, inr, ap, subst, sym, ◌∙◌}
 use Rattle.std.proofs.lemmas.Bool.{true≢false}
 use Rattle.scasp_search_rules.specs.declared.states.state.State.{State}
