@@ -5,6 +5,7 @@ mod ahead;
 mod asking;
 mod closing;
 mod copied;
+mod foresight;
 mod literals;
 mod tasks;
 

@@ -1,7 +1,9 @@
 pub mod CallLemmas
 pub mod CaseLemmas
+pub mod ClashLemmas
 pub mod ClauseLemmas
 pub mod ForkLemmas
 pub mod LeafLemmas
+pub mod SkipLemmas
 pub mod StepLemmas
 pub mod TestLemmas

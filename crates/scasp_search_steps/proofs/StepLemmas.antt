@@ -6,23 +6,20 @@ use Rattle.scasp_search_constraints.specs.declared.assuming.step.SearchErr.{Sear
 use Rattle.scasp_search_rules.specs.declared.states.state.State.{State}
 use Rattle.scasp_search_rules.specs.declared.states.tasks.Task.{Task}
 use Rattle.scasp_search_rules.specs.Successors.Search.{done, step_at}
-use Rattle.scasp_search_state.specs.Choices.{Forks, Point, Taken, TakesTask, left, waiting}
+use Rattle.scasp_search_state.specs.Choices.{Point, Taken, TakesTask, left, waiting}
 use Rattle.scasp_search_state.specs.declared.choice.Choice.{Choice}
+use Rattle.scasp_search_steps.specs.Foresight.{ForksIf}
 use Rattle.scasp_syntax.specs.declared.program.Program.{Program}
 
 -- ---- tasks
 
-pub task_done : (p : Program) (s t now : State) (ts : List Task) (u : Task) (new mid old : List Point) (r : Result Bool SearchErr) → TakesTask s ts t (Some u) → mid ≡ old
-    → Forks p (done p sat t u) now new mid r → Forks p (step_at p sat s ts) now new old r
-task_done p s t now [] u new mid old r k m h = absurd k
-task_done p s t now (v ∷ ts) u new mid old r (e, w) m h =
-    subst (λ (x : Task). Forks p (done p sat (record s { work = ts }) x) now new old r) e
-    (subst (λ (x : State). Forks p (done p sat x u) now new old r) w
-    (subst (λ (qs : List Point). Forks p (done p sat t u) now new qs r) m h))
-
-pub no_task : (p : Program) (s t : State) (ts : List Task) → TakesTask s ts t None → (step_at p sat s ts).states ≡ []
-no_task p s t [] k = refl
-no_task p s t (v ∷ ts) k = absurd k
+pub task_done : (may : Bool) (p : Program) (s t now : State) (ts : List Task) (u : Task) (new mid old : List Point) (r : Result Bool SearchErr) → TakesTask s ts t (Some u) → mid ≡ old
+    → ForksIf may p (done p sat t u) now new mid r → ForksIf may p (step_at p sat s ts) now new old r
+task_done may p s t now [] u new mid old r k m h = absurd k
+task_done may p s t now (v ∷ ts) u new mid old r (e, w) m h =
+    subst (λ (x : Task). ForksIf may p (done p sat (record s { work = ts }) x) now new old r) e
+    (subst (λ (x : State). ForksIf may p (done p sat x u) now new old r) w
+    (subst (λ (qs : List Point). ForksIf may p (done p sat t u) now new qs r) m h))
 
 -- ---- points
 

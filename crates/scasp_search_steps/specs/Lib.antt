@@ -1,3 +1,4 @@
 pub mod Cases
+pub mod Foresight
 pub mod Leaves
 pub mod Tests

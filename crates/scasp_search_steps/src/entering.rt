@@ -3,9 +3,11 @@ ghost use Rattle.std.specs.Prelude.{◌≡◌, ◌++◌, ◌∷◌, [], IfOk, On
 ghost use Rattle.scasp_search_rules.specs.Successors.Calls.{by_no_rule, by_rule, covered, entered, vars_of_clause};
 ghost use Rattle.scasp_search_rules.specs.Successors.Items.{body_of};
 ghost use Rattle.scasp_search_state.specs.Choices.{Forked, left};
+ghost use Rattle.scasp_search_steps.specs.Foresight.{ForkedIf};
 ghost use Rattle.scasp_unify.specs.Negations.{new_parts};
 
 use crate::clauses::{body_length, next_rule};
+use crate::foresight::{Foresees, go_behind};
 use scasp_lines_places::new_parts;
 use scasp_list::Memory;
 use scasp_search_calls::{rules_of, vars_of_clause};
@@ -117,17 +119,35 @@ pub fn by_no_rule<M: Situation>(
     Ok(())
 }
 
-/// Whether there is a state in which the literal is gone into; the first is the present one, and the others wait.
-pub fn entered<M: Situation>(
+/// Whether a rule of the literal is left to be tried; the first one is, and the others wait. Where they may, rules in front that
+/// come to nothing are left out.
+#[tactic(auto, using(crate::proofs::ForkLemmas::behind_forked))]
+fn by_rules<M: Foresees>(
     alloc: Global,
     program: &Program,
     at: &mut M,
     lit: &Lit,
 ) -> Result<bool, Memory>
-    ensures { IfOk result (λ went. Forked program.now (entered program.now (M.now at.old) lit.now) (M.now at.new) (M.points at.new) (M.points at.old) went) }
+    ensures { IfOk result (λ went. ForkedIf M.foresees program.now (left program.now (Choice.ByRules lit.now 0) (M.now at.old)) (M.now at.new) (M.points at.new) (M.points at.old) went) }
+{
+    let behind = go_behind(alloc, program, at, lit, 0)?;
+    let went = try_rules(alloc, program, at, lit, behind)?;
+    Ok(went)
+}
+
+/// Whether there is a state in which the literal is gone into; the first is the present one, and the others wait. Where they may,
+/// states in front that come to nothing are left out.
+#[tactic(auto, using(crate::proofs::ForkLemmas::one_forked))]
+pub fn entered<M: Foresees>(
+    alloc: Global,
+    program: &Program,
+    at: &mut M,
+    lit: &Lit,
+) -> Result<bool, Memory>
+    ensures { IfOk result (λ went. ForkedIf M.foresees program.now (entered program.now (M.now at.old) lit.now) (M.now at.new) (M.points at.new) (M.points at.old) went) }
 {
     if lit.positive {
-        return try_rules(alloc, program, at, lit, 0);
+        return by_rules(alloc, program, at, lit);
     }
     by_no_rule(alloc, program, at, lit)?;
     Ok(true)

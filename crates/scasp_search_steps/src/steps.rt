@@ -1,29 +1,30 @@
 //! Steps of the search.
 ghost use Rattle.scasp_hint.specs.Satisfying.{sat};
 ghost use Rattle.scasp_search_rules.specs.Successors.Search.{done, shown, step};
-ghost use Rattle.scasp_search_state.specs.Choices.{Forks};
+ghost use Rattle.scasp_search_steps.specs.Foresight.{ForksIf};
 
 use crate::calls::call;
 use crate::cases::{begin_cases, check_clause, close_case};
 use crate::entering::covered;
+use crate::foresight::Foresees;
 use crate::tests::show_test;
 use scasp_search_assuming::{
     assume, differ_terms, differ_value, equate_terms, same_shape, same_value,
 };
 use scasp_search_constraints::SearchErr;
 use scasp_search_rules::{Line, Task};
-use scasp_search_state::{Begun, Situation};
+use scasp_search_state::Begun;
 use scasp_syntax::{FlatItem, Program};
 use std::alloc::Global;
 
 /// An item is to be true.
-fn shown<M: Situation>(
+fn shown<M: Foresees>(
     alloc: Global,
     program: &Program,
     at: &mut M,
     item: &FlatItem,
 ) -> Result<bool, SearchErr>
-    ensures { Forks program.now (shown program.now sat (M.now at.old) item.now) (M.now at.new) (M.points at.new) (M.points at.old) result }
+    ensures { ForksIf M.foresees program.now (shown program.now sat (M.now at.old) item.now) (M.now at.new) (M.points at.new) (M.points at.old) result }
 {
     match item {
         FlatItem::Call(lit) => call(alloc, program, at, lit),
@@ -32,13 +33,14 @@ fn shown<M: Situation>(
 }
 
 /// What comes of the task, in the state whose work is the rest.
-fn done<M: Situation>(
+#[tactic(auto, using(crate::proofs::ForkLemmas::forks_if, crate::proofs::ForkLemmas::leaves_forked))]
+fn done<M: Foresees>(
     alloc: Global,
     program: &Program,
     at: &mut M,
     task: Task,
 ) -> Result<bool, SearchErr>
-    ensures { Forks program.now (done program.now sat (M.now at.old) task) (M.now at.new) (M.points at.new) (M.points at.old) result }
+    ensures { ForksIf M.foresees program.now (done program.now sat (M.now at.old) task) (M.now at.new) (M.points at.new) (M.points at.old) result }
 {
     match task {
         Task::Show(item) => shown(alloc, program, at, &item),
@@ -91,11 +93,11 @@ fn done<M: Situation>(
     }
 }
 
-/// Whether a state comes of the first task; the first is the present one then, and the others wait. Overflow only where a list
-/// that the step asks overflows.
-#[tactic(auto, using(crate::proofs::StepLemmas::task_done, crate::proofs::StepLemmas::no_task))]
-pub fn step<M: Situation>(alloc: Global, program: &Program, at: &mut M) -> Result<bool, SearchErr>
-    ensures { Forks program.now (step program.now sat (M.now at.old)) (M.now at.new) (M.points at.new) (M.points at.old) result }
+/// Whether a state comes of the first task; the first is the present one then, and the others wait. Where they may, states in
+/// front that come to nothing are left out. Overflow only where a list that the step asks overflows.
+#[tactic(auto, using(crate::proofs::StepLemmas::task_done, crate::proofs::ForkLemmas::no_task))]
+pub fn step<M: Foresees>(alloc: Global, program: &Program, at: &mut M) -> Result<bool, SearchErr>
+    ensures { ForksIf M.foresees program.now (step program.now sat (M.now at.old)) (M.now at.new) (M.points at.new) (M.points at.old) result }
 {
     match at.take_task()? {
         Some(task) => done(alloc, program, at, task),

@@ -1,6 +1,7 @@
 //! The states that are still to be gone through, as an object over a state that is changed in place.
 ghost use Rattle.std.specs.Prelude.{◌≡◌, [], IfOk, false, true};
 ghost use Rattle.scasp_search_state.specs.Choices.{states};
+ghost use Rattle.scasp_search_steps.specs.Foresight.{SkipsIf};
 ghost use Rattle.scasp_search_walk.specs.Slices.{Steps};
 ghost use Rattle.scasp_written.specs.Written.Rests.{machine, problem_in};
 
@@ -9,7 +10,7 @@ use scasp_cert::Cert;
 use scasp_list::Memory;
 use scasp_search_constraints::SearchErr;
 use scasp_search_state::Situation;
-use scasp_search_steps::{resume, step};
+use scasp_search_steps::{Foresees, resume, resume_ahead, step};
 use scasp_search_walk::{Frontier, Look};
 use scasp_syntax::Program;
 use scasp_written::Goal;
@@ -43,8 +44,25 @@ fn settle<M: Situation>(
     }
 }
 
+/// Whether a state is ahead behind a step: where none has come of it, those that wait are gone back to. Where they may, states in
+/// front that come to nothing are left out.
+fn go_back<M: Foresees>(
+    alloc: Global,
+    program: &Program,
+    at: &mut M,
+    went: bool,
+) -> Result<bool, Memory>
+    ensures { IfOk result (λ is. SkipsIf M.foresees program.now (states program.now went (M.now at.old) (M.points at.old)) (states program.now is (M.now at.new) (M.points at.new))) }
+{
+    if went {
+        Ok(true)
+    } else {
+        resume_ahead(alloc, program, at)
+    }
+}
+
 /// Puts what comes after the present state, which is ahead, in its place.
-fn step_on<M: Situation>(
+fn step_on<M: Foresees>(
     alloc: Global,
     goal: &Goal,
     at: &mut M,
@@ -53,15 +71,18 @@ fn step_on<M: Situation>(
     ensures { Steps (machine (problem_in goal.now) goal.now.queried) (states goal.now.program true (M.now at.old) (M.points at.old)) (states goal.now.program is_ahead.new (M.now at.new) (M.points at.new)) result }
 {
     match step(alloc, &goal.program, at) {
-        Ok(went) => {
-            *is_ahead = went;
-            Ok(())
-        }
+        Ok(went) => match go_back(alloc, &goal.program, at, went) {
+            Ok(is) => {
+                *is_ahead = is;
+                Ok(())
+            }
+            Err(_) => Err(SearchErr::Memory),
+        },
         Err(error) => Err(error),
     }
 }
 
-impl<M: Situation> Frontier<Cert> for Suspended<M> {
+impl<M: Foresees> Frontier<Cert> for Suspended<M> {
     ghost use Rattle.scasp_cert.specs.Certificate.{Certificate, certificate_of};
     ghost use Rattle.scasp_search_rules.specs.declared.states.state.State.{State as ThisState};
     ghost use Rattle.scasp_search_state.specs.Choices.{states};

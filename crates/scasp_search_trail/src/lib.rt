@@ -4,6 +4,7 @@
 mod closing;
 mod copying;
 mod covers;
+mod foresight;
 mod partings;
 mod parts;
 mod questions;

@@ -29,7 +29,7 @@ pub(crate) struct Saved {
 /// A state that is changed in place, and marks of those that wait.
 #[derive(Drop)]
 pub struct Trail {
-    parts: Parts,
+    pub(crate) parts: Parts,
     /// The latest last.
     saved: Vec<Saved>,
 }

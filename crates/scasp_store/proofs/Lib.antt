@@ -2,6 +2,7 @@ pub mod AskLemmas
 pub mod FailLemmas
 pub mod FixLemmas
 pub mod KeepLemmas
+pub mod LeftLemmas
 pub mod NewLemmas
 pub mod OpenLemmas
 pub mod SolvedLemmas

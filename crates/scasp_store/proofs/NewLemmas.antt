@@ -52,7 +52,7 @@ all-both f g (y ∷ ys) e =
     let rest = all-both f g ys k.1 in
     (and_from (f y) (list_all f ys) one.0 rest.0, and_from (g y) (list_all g ys) one.1 rest.1)
 
-turned : (x y : ℕ) → nat_eq x y ≡ false → nat_eq y x ≡ false
+pub turned : (x y : ℕ) → nat_eq x y ≡ false → nat_eq y x ≡ false
 turned x y e = by (nat_eq y x) refl
   where
     by : (b : Bool) → nat_eq y x ≡ b → b ≡ false

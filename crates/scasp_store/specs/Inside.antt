@@ -1,4 +1,5 @@
 pub mod Asking
 pub mod Failing
 pub mod Fixing
+pub mod Leaving
 pub mod Open

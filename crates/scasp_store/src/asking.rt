@@ -93,7 +93,12 @@ fn is_told(alloc: Global, bound: &Bound, told: &[u64], x: u64) -> Result<bool, M
 }
 
 /// Whether each variable of the row counts as a number.
-fn are_told(alloc: Global, bound: &Bound, told: &[u64], coeffs: &[Coeff]) -> Result<bool, Memory>
+pub(crate) fn are_told(
+    alloc: Global,
+    bound: &Bound,
+    told: &[u64],
+    coeffs: &[Coeff],
+) -> Result<bool, Memory>
     ensures { IfOk result (λ answer. answer ≡ list_all (λ k. is_told told.now (sub_of bound.now.now k.x)) coeffs.now) }
 {
     for coeff in coeffs {

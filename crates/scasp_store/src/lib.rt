@@ -5,6 +5,7 @@ mod answering;
 mod asking;
 mod failing;
 mod fixing;
+mod leaving;
 mod opening;
 mod store;
 

@@ -23,15 +23,15 @@ use std::marker::Model;
 /// What the variables of a search stand for, and what is given of those that stand for nothing yet.
 #[derive(Drop)]
 pub struct Store {
-    bound: Bound,
-    given: Given,
+    pub(crate) bound: Bound,
+    pub(crate) given: Given,
     /// The places of the given constraints that are to be asked: one that holds as it reads, whatever its variables stand
     /// for, is not. They are in no order.
-    places: Trailed<usize>,
+    pub(crate) places: Trailed<usize>,
     /// Whether each binding was of an unbound variable, to a term of unbound variables, so that none leads back to itself.
-    is_solved: bool,
+    pub(crate) is_solved: bool,
     /// Whether no change has failed since the latest mark.
-    is_known: bool,
+    pub(crate) is_known: bool,
 }
 
 impl Model for Store {
@@ -237,7 +237,7 @@ impl Store {
     }
 }
 
-fn both(one: bool, other: bool) -> bool
+pub(crate) fn both(one: bool, other: bool) -> bool
     ensures { result ≡ (one && other) }
 {
     one && other

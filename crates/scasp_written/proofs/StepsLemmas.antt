@@ -1,6 +1,7 @@
 -- The states that come of a step, one by one.
-use Rattle.std.specs.Prelude.{◌≡◌, ◌<◌, ◌++◌, Bool, true, false, Ok, Err, List, [], ◌∷◌, length}
+use Rattle.std.specs.Prelude.{◌≡◌, ◌<◌, ◌++◌, Bool, true, false, Err, List, [], ◌∷◌, length}
 use Rattle.std.proofs.Common.{append_assoc, arith, ap, subst, sym, ◌∙◌}
+use Rattle.std.proofs.lemmas.Bool.{true≢false}
 use Rattle.std.proofs.lemmas.List.{append-nil}
 use Rattle.scasp_hint.specs.Satisfying.{sat}
 use Rattle.scasp_search_constraints.specs.Assuming.Taken.{Gives}
@@ -8,7 +9,8 @@ use Rattle.scasp_search_constraints.specs.declared.assuming.step.SearchErr.{Sear
 use Rattle.scasp_search_constraints.specs.declared.assuming.step.SearchErr.TheVariants as errors
 use Rattle.scasp_search_rules.specs.Successors.Search.{step}
 use Rattle.scasp_search_rules.specs.declared.states.state.State.{State}
-use Rattle.scasp_search_state.specs.Choices.{Forked, Forks, Point, states, waiting}
+use Rattle.scasp_search_state.specs.Choices.{Forked, Point, states, waiting}
+use Rattle.scasp_search_steps.specs.Foresight.{ForkedIf, ForksIf}
 use Rattle.scasp_syntax.specs.declared.program.Program.{Program}
 
 -- ---- the states that are still to be gone through
@@ -44,11 +46,20 @@ all_forked : (p : Program) (ss : List State) (now : State) (new old : List Point
 all_forked p ss now new old true e h = h ∙ (ap (λ (qs : List Point). ss ++ waiting p qs) e ∙ append-nil ss)
 all_forked p ss now new old false e h = ap (λ (qs : List Point). waiting p qs) (h.1 ∙ e) ∙ sym h.0
 
-pub all_stepped : (p : Program) (s now : State) (new old : List Point) (went : Bool) (all : List State) → old ≡ [] → Forks p (step p sat s) now new old (Ok went)
+-- where no state may be left out, the states are all of them
+pub all_there : (may : Bool) (p : Program) (ss : List State) (now : State) (new old : List Point) (went : Bool) → may ≡ false → old ≡ [] → ForkedIf may p ss now new old went
+    → Forked p ss now new old went
+all_there true p ss now new old went m e h = absurd (true≢false m)
+all_there false p ss now new old true m e h = h
+all_there false p ss now new old false m e h =
+    let same : ss ++ waiting p old ≡ ss = ap (λ (qs : List Point). ss ++ waiting p qs) e ∙ append-nil ss in
+    (sym same ∙ sym h.0 ∙ ap (λ (qs : List Point). waiting p qs) e, h.1)
+
+pub all_stepped : (p : Program) (s now : State) (new old : List Point) (went : Bool) (all : List State) → old ≡ [] → Forked p (step p sat s).states now new old went
     → all ≡ states p went now new → all ≡ (step p sat s).states
 all_stepped p s now new old went all n h a = a ∙ all_forked p (step p sat s).states now new old went n h
 
-pub not_stepped : (p : Program) (s now : State) (new old : List Point) (e : SearchErr) → Forks p (step p sat s) now new old (Err e)
+pub not_stepped : (may : Bool) (p : Program) (s now : State) (new old : List Point) (e : SearchErr) → ForksIf may p (step p sat s) now new old (Err e)
     → Gives (Err e) (step p sat s).states (step p sat s).asked
-not_stepped p s now new old errors.Overflow h = h
-not_stepped p s now new old errors.Memory h = tt
+not_stepped may p s now new old errors.Overflow h = h
+not_stepped may p s now new old errors.Memory h = tt

@@ -10,7 +10,7 @@ use scasp_search_constraints::SearchErr;
 use scasp_search_copies::Copied;
 use scasp_search_rules::State;
 use scasp_search_state::Situation;
-use scasp_search_steps::{resume, step};
+use scasp_search_steps::{Foresees, resume, step};
 use scasp_syntax::Program;
 use std::alloc::Global;
 
@@ -37,12 +37,9 @@ fn all_states<M: Situation>(
 }
 
 /// Copies of the states that come of the present one, behind which none waits.
-fn all_after<M: Situation>(
-    alloc: Global,
-    program: &Program,
-    at: &mut M,
-) -> Result<States, SearchErr>
-    requires { M.points at.old ≡ [] }
+fn all_after<M: Foresees>(alloc: Global, program: &Program, at: &mut M) -> Result<States, SearchErr>
+    requires open { M.foresees ≡ false }
+    requires none { M.points at.old ≡ [] }
     ensures { Gives result (step program.now sat (M.now at.old)).states (step program.now sat (M.now at.old)).asked }
 {
     match step(alloc, program, at) {
