@@ -1,4 +1,6 @@
 pub mod Asking
+pub mod Behind
 pub mod Failing
 pub mod Fixing
 pub mod Open
+pub mod Reads

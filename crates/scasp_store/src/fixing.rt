@@ -99,7 +99,11 @@ fn is_equal(constraint: &Con) -> bool {
 
 /// What the constraint, with the numbers put into it, leaves to a variable, if it is an equation of one variable then.
 #[tactic(auto, using(crate::proofs::FixLemmas::leaves_read))]
-fn left_over(alloc: Global, fixed: &Bound, constraint: &Con) -> Result<Option<Binding>, Memory>
+pub(crate) fn left_over(
+    alloc: Global,
+    fixed: &Bound,
+    constraint: &Con,
+) -> Result<Option<Binding>, Memory>
     ensures { Triangular fixed.now.now → IfOk result (λ found. IfSome found (Leaves fixed.now.now constraint.now)) }
 {
     note_row(constraint);

@@ -2,10 +2,14 @@
 #![tactic(auto)]
 
 mod answering;
+mod asked;
 mod asking;
+mod behind;
 mod failing;
 mod fixing;
+mod keeping;
 mod opening;
+mod rest;
 mod store;
 
 pub use store::Store;
