@@ -75,7 +75,7 @@ fn end_case(
 {
     loops.end_case(alloc, store.bound(), universals)?;
     join_read(alloc, told, store.bound())?;
-    store.end_case(universals, but)?;
+    store.end_case(alloc, universals, but)?;
     Ok(())
 }
 

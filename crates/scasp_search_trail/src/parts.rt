@@ -47,12 +47,12 @@ impl Parts {
     }
 
     /// Marks each part.
-    pub(crate) fn mark(&mut self) -> Result<(), Memory>
+    pub(crate) fn mark(&mut self, alloc: Global) -> Result<(), Memory>
         ensures now { OnOk result (state_of self.new ≡ state_of self.old) }
         ensures marks { OnOk result (marks_of self.new ≡ with_mark (lists_of self.old) (marks_of self.old)) }
     {
         self.variables.mark()?;
-        self.store.mark()?;
+        self.store.mark(alloc)?;
         self.scopes.mark()?;
         self.told.mark()?;
         self.loops.mark()?;

@@ -275,8 +275,9 @@ impl Situation for Trail {
 
     #[tactic(auto, using(crate::proofs::MarkLemmas::saved_last))]
     fn save(&mut self, choice: Choice) -> Result<(), Memory> {
+        let alloc = self.alloc();
         let cases = self.parts.cases;
-        self.parts.mark()?;
+        self.parts.mark(alloc)?;
         self.saved.push(Saved { choice, cases })?;
         Ok(())
     }

@@ -5,7 +5,7 @@ use Rattle.std.specs.Prelude.{⊤}
 use Rattle.std.proofs.lemmas.Bool.{and_parts, eqb-true, true≢false}
 use Rattle.std.proofs.lemmas.Int.{ints}
 use Rattle.scasp_bound.specs.Bounds.{as_variable}
-use Rattle.scasp_hint.specs.AskedRows.{RowsNormal, given_rows}
+use Rattle.scasp_hint.specs.AskedRows.{RowsNormal}
 use Rattle.scasp_hint.specs.ExactRows.{differing, exact_rows}
 use Rattle.scasp_hint.specs.Satisfying.{is_apart, sat}
 use Rattle.scasp_hint.proofs.SatisfyingLemmas.{sat-point}
@@ -15,7 +15,7 @@ use Rattle.scasp_law_parts.proofs.ReadLemmas.{con-read}
 use Rattle.scasp_law_parts.proofs.TriangularLemmas.{solved-self}
 use Rattle.scasp_list.specs.Each.{Each}
 use Rattle.scasp_list.proofs.EachLemmas.{Each-at, Each-left, Each-right}
-use Rattle.scasp_num.specs.Linear.{Compares, IsNormal, Linear, compares}
+use Rattle.scasp_num.specs.Linear.{Compares, Linear, compares}
 use Rattle.scasp_num.specs.Number.{Number}
 use Rattle.scasp_num.specs.Values.{numerator_under, row_sum}
 use Rattle.scasp_num.specs.declared.linear.Coeff.{Coeff}
@@ -64,7 +64,7 @@ tells_at s cs i t x e g = record { at = i; term = t; there = g; reads = only-var
 
 -- ---- a number test and its denial
 
-any-at : (q : Con → Bool) (cs : List Con) (i : ℕ) (c : Con) → Some c ≡ slice_get cs i → q c ≡ true → list_any q cs ≡ true
+pub any-at : (q : Con → Bool) (cs : List Con) (i : ℕ) (c : Con) → Some c ≡ slice_get cs i → q c ≡ true → list_any q cs ≡ true
 any-at q [] i c g e = absurd (cc g)
 any-at q (d ∷ cs) zero c g e =
     let p : c ≡ d = cc in

@@ -1,10 +1,10 @@
 -- Numbers that a list leaves to variables may be put into it.
-use Rattle.std.proofs.Common.{◌≡◌, ◌≢◌, ◌↔◌, ◌⊎◌, inl, inr, ℕ, Bool, true, false, ◌&&◌, ◌||◌, nat_eq, if◌then◌else◌, List, [], ◌∷◌, ◌++◌, Some, slice_get, zero, suc, ℤ, pos, negsuc, ◌+ℤ◌, ◌*ℤ◌, neg_ℤ, refl, sym, ap, subst, arith, ◌∙◌}
+use Rattle.std.proofs.Common.{◌≡◌, ◌≢◌, ◌⊎◌, inl, inr, ℕ, Bool, true, false, ◌&&◌, ◌||◌, nat_eq, if◌then◌else◌, List, [], ◌∷◌, ◌++◌, Some, slice_get, zero, suc, ℤ, pos, negsuc, ◌+ℤ◌, ◌*ℤ◌, neg_ℤ, refl, sym, ap, subst, arith, ◌∙◌}
 use Rattle.std.specs.List.{list_all}
 use Rattle.std.proofs.lemmas.Bool.{and_parts, eqb-true, true≢false}
 use Rattle.std.proofs.lemmas.Int.{ints}
 use Rattle.std.proofs.Math.IntN.{*ℤ_comm}
-use Rattle.scasp_hint.specs.AskedRows.{RowsNormal, given_rows}
+use Rattle.scasp_hint.specs.AskedRows.{RowsNormal}
 use Rattle.scasp_hint.specs.Satisfying.{sat}
 use Rattle.scasp_hint.proofs.SatisfyingLemmas.{sat-sorted}
 use Rattle.scasp_law_parts.specs.Bound.{Triangular, equations}
@@ -13,7 +13,7 @@ use Rattle.scasp_law_parts.proofs.BoundLemmas.{absorbed}
 use Rattle.scasp_law_parts.proofs.ReadLemmas.{con-read, list-met, same-truth}
 use Rattle.scasp_law_parts.proofs.TriangularLemmas.{more-triangular, solved-self}
 use Rattle.scasp_list.specs.Each.{Each}
-use Rattle.scasp_num.specs.Linear.{IsNormal, Linear, compares, is_zero}
+use Rattle.scasp_num.specs.Linear.{Linear, compares, is_zero}
 use Rattle.scasp_num.specs.Number.{IsFraction, Number}
 use Rattle.scasp_num.specs.Values.{numerator_under, row_sum}
 use Rattle.scasp_num.specs.declared.linear.Coeff.{Coeff}
@@ -38,9 +38,9 @@ use Rattle.scasp_unify.specs.declared.bindings.Binding.{Binding}
 use Rattle.scasp_unify.proofs.SolvingLemmas.{under-var}
 use Rattle.scasp_unify.proofs.ValuationLemmas.{ground-under}
 use Rattle.scasp_store.specs.Inside.Asking.{is_readable, one_var, read_by, told_by, told_var}
-use Rattle.scasp_store.specs.Inside.Fixing.{AreFixed, IsOnly, Leaves, Says, counts_alone, left_by, one_left}
+use Rattle.scasp_store.specs.Inside.Fixing.{AreFixed, IsOnly, Leaves, Says, counts_alone, left_by}
 use Rattle.scasp_store.specs.Inside.Open.{IsNew}
-use Rattle.scasp_store.proofs.AskLemmas.{all-read, alone_typed, either-among, read-con}
+use Rattle.scasp_store.proofs.AskLemmas.{all-read, alone_typed, either-among, goes_through, read-con}
 use Rattle.scasp_store.proofs.TrueLemmas.{always}
 
 -- ---- an equation of one variable
@@ -86,10 +86,6 @@ only_one r k q h n f = record {
 
 -- ---- what is fixed
 
--- what makes the equations true reads nothing else through them
-pub goes_through : (v : Sub) (fs : List Binding) → Each (Equal v) (equations fs) → then_by (sub_of fs) v ≡ v
-goes_through v fs e = λ i y. absorbed v fs e y i
-
 pub leaves_read : (fs : List Binding) (c : Con) (b : Binding) → Triangular fs → RowsNormal (c ∷ []) → is_readable (sub_of fs) c ≡ true → Leaves [] (con_under (sub_of fs) c) b → Leaves fs c b
 leaves_read fs c b t n r l = record {
   number = l.number;
@@ -126,12 +122,12 @@ told-number v y (c ∷ cs) a m =
     by (inl e) h rest = rest e
     by (inr e) h rest = one-number v y c e h
 
-number-same : (v : Sub) (t : Tm) → is_number t ≡ true → under v t ≡ t
+pub number-same : (v : Sub) (t : Tm) → is_number t ≡ true → under v t ≡ t
 number-same v (var x) e = absurd (true≢false (sym e))
 number-same v (num q) e = refl
 number-same v (app f ts) e = absurd (true≢false (sym e))
 
-each-more : (v : Sub) (fs : List Binding) (b : Binding) → Each (Equal v) (equations fs) → v b.x ≡ under v (tm_of b.term) → Each (Equal v) (equations (fs ++ b ∷ []))
+pub each-more : (v : Sub) (fs : List Binding) (b : Binding) → Each (Equal v) (equations fs) → v b.x ≡ under v (tm_of b.term) → Each (Equal v) (equations (fs ++ b ∷ []))
 each-more v [] b e g = (g, tt)
 each-more v (f ∷ fs) b e g = (e.0, each-more v fs b e.1 g)
 
@@ -147,7 +143,7 @@ one_fixed cs c ys fs b a n l s t h = record {
 pub none_fixed : (cs : List Con) → AreFixed cs []
 none_fixed cs = record { triangular = tt; follow = λ v m. tt }
 
-says-there : (v : Sub) (cs : List Con) (i : ℕ) (c : Con) → Some c ≡ slice_get cs i → list_all (holds v) cs ≡ true → holds v c ≡ true
+pub says-there : (v : Sub) (cs : List Con) (i : ℕ) (c : Con) → Some c ≡ slice_get cs i → list_all (holds v) cs ≡ true → holds v c ≡ true
 says-there v [] i c g m = absurd (cc g)
 says-there v (d ∷ cs) zero c g m = let p : c ≡ d = cc in ap (holds v) p ∙ (and_parts (holds v d) (list_all (holds v) cs) m).0
 says-there v (d ∷ cs) (suc i) c g m = says-there v cs i c g (and_parts (holds v d) (list_all (holds v) cs) m).1

@@ -1,26 +1,31 @@
 -- What the store knows stays right.
-use Rattle.std.proofs.Common.{◌≡◌, ◌↔◌, ◌<◌, ℕ, Bool, true, false, ◌&&◌, ◌||◌, not, nat_eq, cond, List, [], ◌∷◌, ◌++◌, length, refl, sym, ap, subst, arith, ◌∙◌}
+use Rattle.std.proofs.Common.{◌≡◌, ℕ, Bool, true, false, ◌&&◌, ◌||◌, not, nat_eq, cond, if◌then◌else◌, List, [], ◌∷◌, ◌++◌, length, refl, sym, ap, subst, ◌∙◌}
 use Rattle.std.specs.List.{list_all, list_any}
 use Rattle.std.proofs.lemmas.Bool.{and_from, and_parts, eqb-true, true≢false}
 use Rattle.std.proofs.lemmas.Bool.Decides.{Decides-eqb}
 use Rattle.scasp_list.specs.Each.{Each}
-use Rattle.scasp_law_parts.specs.Bound.{Triangular}
-use Rattle.scasp_law_parts.proofs.TriangularLemmas.{fewer-triangular, more-triangular}
 use Rattle.scasp_num.specs.declared.linear.Coeff.{Coeff}
 use Rattle.scasp_syntax.specs.Constraints.{holds, is_number}
-use Rattle.scasp_syntax.specs.Values.{Sub, under}
+use Rattle.scasp_syntax.specs.Values.{Sub}
 use Rattle.scasp_syntax.specs.View.{tm_of}
 use Rattle.scasp_syntax.specs.declared.con.Con.{Con}
 use Rattle.scasp_syntax.specs.declared.con.Con.TheVariants as con
 use Rattle.scasp_trail.specs.Past.{Past}
-use Rattle.scasp_unify.specs.Parts.{occurs}
 use Rattle.scasp_unify.specs.Solving.{sub_of}
 use Rattle.scasp_unify.specs.Unification.{single, then_by}
 use Rattle.scasp_unify.specs.declared.bindings.Binding.{Binding}
 use Rattle.scasp_unify.proofs.SolvingLemmas.{sub-push, then-assoc}
 use Rattle.scasp_bound.specs.Bounds.{among, is_bound_in, unbound}
-use Rattle.scasp_store.specs.Inside.Open.{AreGoodIf, AreOpen, IsGood, IsGoodIf, IsKept, IsNew, IsSettled, Reopens, has_values, is_taken}
-use Rattle.scasp_store.proofs.OpenLemmas.{all-open, one_more, open-under}
+use Rattle.scasp_trail.specs.Past.{earlier, is_marked, latest}
+use Rattle.scasp_unify.specs.Numbers.{is_num_of}
+use Rattle.scasp_law_parts.proofs.AgreeLemmas.{split-all}
+use Rattle.scasp_store.specs.Inside.Open.{AreGoodIf, AreOpen, IsKept, IsKnown, IsNew, IsSettled, KnownOf, SameMarks, has_values, is_taken}
+use Rattle.scasp_store.specs.Inside.Reads.{counts_by}
+use Rattle.scasp_store.specs.declared.rest.Known.{Known}
+use Rattle.scasp_store.specs.declared.rest.Known.TheVariants as known
+use Rattle.scasp_store.specs.declared.rest.Rest.{Rest}
+use Rattle.scasp_store.proofs.AskLemmas.{any-left}
+use Rattle.scasp_store.proofs.OpenLemmas.{one_more, open-under}
 use Rattle.scasp_store.proofs.TrueLemmas.{number-stays}
 
 numbers-stay : (s r : Sub) (ks : List Coeff) → list_all (λ k. is_number (s k.x)) ks ≡ true → list_all (λ k. is_number (then_by s r k.x)) ks ≡ true
@@ -44,16 +49,10 @@ stays-settled s r c h = record {
   values = values-stay s r c h.values;
 }
 
-pub good_bound : (bs : List Binding) (cs : List Con) (ps : List ℕ) (b : Binding) → IsNew bs b → IsGood bs cs ps → IsGood (bs ++ b ∷ []) cs ps
-good_bound bs cs ps b n h =
+pub open-more : (bs : List Binding) (cs : List Con) (ps : List ℕ) (b : Binding) → AreOpen (sub_of bs) cs ps → AreOpen (sub_of (bs ++ b ∷ [])) cs ps
+open-more bs cs ps b h =
     let g : Sub = single b.x (tm_of b.term) in
-    record {
-      triangular = more-triangular bs b h.triangular n.0 n.1;
-      places = subst (λ (r : Sub). AreOpen r cs ps) (sym (sub-push bs b)) (open-under (sub_of bs) (then_by (sub_of bs) g) (stays-settled (sub_of bs) g) cs ps h.places);
-    }
-
-pub good_given : (bs : List Binding) (cs : List Con) (ps : List ℕ) (c : Con) → IsGood bs cs ps → IsGood bs (cs ++ c ∷ []) (ps ++ length cs ∷ [])
-good_given bs cs ps c h = record { triangular = h.triangular; places = one_more (sub_of bs) cs ps c h.places }
+    subst (λ (r : Sub). AreOpen r cs ps) (sym (sub-push bs b)) (open-under (sub_of bs) (then_by (sub_of bs) g) (stays-settled (sub_of bs) g) cs ps h)
 
 -- ---- the end of a case
 
@@ -93,27 +92,112 @@ all-bound all (b ∷ bs) f = (f b.x itself, all-bound all bs (λ x e. f x (later
 pub all-left : (us but : List ℕ) (bs : List Binding) → list_any (is_taken bs but) us ≡ false → unbound us but bs ≡ bs
 all-left us but bs e = left-in us but bs bs e (all-bound bs bs (λ x k. k))
 
-pub good_fewer : (us but : List ℕ) (bs : List Binding) (cs : List Con) (ps qs : List ℕ) (n : ℕ) (taken : Bool) → taken ≡ list_any (is_taken bs but) us → length cs ≡ n → Reopens taken n ps qs → IsGood bs cs ps → IsGood (unbound us but bs) cs qs
-good_fewer us but bs cs ps qs n true t e k h = record {
-  triangular = fewer-triangular (λ b. not (among b.x us) || among b.x but) bs h.triangular;
-  places = all-open (sub_of (unbound us but bs)) cs qs (λ i l. k i (omega (arith, l, e)));
-}
-good_fewer us but bs cs ps qs n false t e k h =
-    let same = sym (all-left us but bs (sym t)) in
-    subst (λ ds. IsGood ds cs qs) same (subst (IsGood bs cs) (sym k) h)
+-- ---- what is known
 
-pub good_places : (bs : List Binding) (cs : List Con) (ps qs : List ℕ) → (AreOpen (sub_of bs) cs ps → AreOpen (sub_of bs) cs qs) → IsGood bs cs ps → IsGood bs cs qs
-good_places bs cs ps qs k h = record { triangular = h.triangular; places = k h.places }
-
-good-if : (b : Bool) (bs : List Binding) (cs ds : List Con) (ps qs : List ℕ) → (IsGood bs cs ps → IsGood bs ds qs) → IsGoodIf b bs cs ps → IsGoodIf b bs ds qs
-good-if true bs cs ds ps qs f k = f k
-good-if false bs cs ds ps qs f k = tt
-
-pub kept_given : (a b : Bool) (bs : Past Binding) (cs ds : Past Con) (ps qs : Past ℕ) (c : Con) (n : ℕ) → ds.now ≡ cs.now ++ c ∷ [] → ds.before ≡ cs.before → qs.now ≡ ps.now ++ n ∷ [] → qs.before ≡ ps.before → n ≡ length cs.now → IsKept a b bs cs ps → IsKept a b bs ds qs
-kept_given a b bs cs ds ps qs c n e f g h l k = record {
-  now = good-if (a && b) bs.now cs.now ds.now ps.now qs.now good k.now;
-  before = subst (λ xs. AreGoodIf a bs.before xs qs.before) (sym f) (subst (λ ys. AreGoodIf a bs.before cs.before ys) (sym h) k.before);
-}
+counts-longer : (s : Sub) (cs ds : List Con) (x : ℕ) → counts_by s cs x ≡ true → counts_by s (cs ++ ds) x ≡ true
+counts-longer s cs ds x e = by (is_number (s x)) e
   where
-    good : IsGood bs.now cs.now ps.now → IsGood bs.now ds.now qs.now
-    good x = subst (λ xs. IsGood bs.now xs qs.now) (sym e) (subst (λ ys. IsGood bs.now (cs.now ++ c ∷ []) ys) (sym (g ∙ ap (λ m. ps.now ++ m ∷ []) l)) (good_given bs.now cs.now ps.now c x))
+    by : (b : Bool) → (b || list_any (is_num_of s (s x)) cs) ≡ true → (b || list_any (is_num_of s (s x)) (cs ++ ds)) ≡ true
+    by true f = refl
+    by false f = any-left (is_num_of s (s x)) cs ds f
+
+given-met : (v : Sub) (cs : List Con) (c : Con) → list_all (holds v) (cs ++ c ∷ []) ≡ true → list_all (holds v) cs ≡ true
+given-met v cs c m = (split-all (holds v) cs (c ∷ []) m).0
+
+known_given : (a : Bool) (k : Known) (bs : List Binding) (cs : List Con) (ds : List Binding) (fs ps : List ℕ) (c : Con) → IsKnown a k bs cs ds fs ps → IsKnown a k bs (cs ++ c ∷ []) ds fs (ps ++ length cs ∷ [])
+known_given false k bs cs ds fs ps c h = tt
+known_given true known.Nothing bs cs ds fs ps c h = tt
+known_given true known.Read bs cs ds fs ps c h = record {
+  triangular = h.triangular;
+  reads = record {
+    triangular = h.reads.triangular;
+    follow = λ v e m. h.reads.follow v e (given-met v cs c m);
+    back = h.reads.back;
+    variables = h.reads.variables;
+    numbers = λ x e. counts-longer (sub_of bs) cs (c ∷ []) x (h.reads.numbers x e);
+  };
+  places = one_more (sub_of ds) cs ps c h.places;
+  plain = h.plain;
+}
+known_given true known.Contrary bs cs ds fs ps c h = record {
+  triangular = h.triangular;
+  never = λ v e m. h.never v e (given-met v cs c m);
+  alike = record {
+    numbers = λ x e. counts-longer (sub_of bs) cs (c ∷ []) x (h.alike.numbers x e);
+    same = h.alike.same;
+  };
+  places = one_more (sub_of ds) cs ps c h.places;
+}
+
+-- ---- what is kept
+
+marks-moved : (a : Bool) (bs es : List (List Binding)) (cs gs : List (List Con)) (r q : Rest) → es ≡ bs → gs ≡ cs → SameMarks r q → AreGoodIf a bs cs r.reading.before r.fixed.before r.places.before → AreGoodIf a es gs q.reading.before q.fixed.before q.places.before
+marks-moved a bs es cs gs r q e f m h =
+    subst (λ x. AreGoodIf a x gs q.reading.before q.fixed.before q.places.before) (sym e)
+    (subst (λ x. AreGoodIf a bs x q.reading.before q.fixed.before q.places.before) (sym f)
+    (subst (λ x. AreGoodIf a bs cs x q.fixed.before q.places.before) (sym m.reading)
+    (subst (λ x. AreGoodIf a bs cs r.reading.before x q.places.before) (sym m.fixed)
+    (subst (λ x. AreGoodIf a bs cs r.reading.before r.fixed.before x) (sym m.places) h))))
+
+pub kept_changed : (a : Bool) (k l : Known) (bs es : Past Binding) (cs : Past Con) (r q : Rest) → (KnownOf true k bs.now cs.now r → KnownOf true l es.now cs.now q) → es.before ≡ bs.before → SameMarks r q → IsKept a k bs cs r → IsKept a l es cs q
+kept_changed false k l bs es cs r q f e m h = record { now = tt; before = tt }
+kept_changed true k l bs es cs r q f e m h = record { now = f h.now; before = marks-moved true bs.before es.before cs.before cs.before r q e refl m h.before }
+
+pub kept_lost : (a : Bool) (k : Known) (bs es : Past Binding) (cs gs : Past Con) (r q : Rest) → es.before ≡ bs.before → gs.before ≡ cs.before → SameMarks r q → IsKept a k bs cs r → IsKept a known.Nothing es gs q
+kept_lost false k bs es cs gs r q e f m h = record { now = tt; before = tt }
+kept_lost true k bs es cs gs r q e f m h = record { now = tt; before = marks-moved true bs.before es.before cs.before gs.before r q e f m h.before }
+
+pub kept_bound : (a n : Bool) (k l : Known) (bs es : Past Binding) (cs : Past Con) (r q : Rest) (b : Binding) → (n ≡ true → IsNew bs.now b) → (IsNew bs.now b → KnownOf true k bs.now cs.now r → KnownOf true l es.now cs.now q) → es.before ≡ bs.before → SameMarks r q → IsKept a k bs cs r → IsKept (a && n) l es cs q
+kept_bound false n k l bs es cs r q b g f e m h = record { now = tt; before = tt }
+kept_bound true false k l bs es cs r q b g f e m h = record { now = tt; before = tt }
+kept_bound true true k l bs es cs r q b g f e m h = record { now = f (g refl) h.now; before = marks-moved true bs.before es.before cs.before cs.before r q e refl m h.before }
+
+pub kept_given : (a : Bool) (k : Known) (bs : Past Binding) (cs gs : Past Con) (r q : Rest) (c : Con) (n : ℕ) → gs.now ≡ cs.now ++ c ∷ [] → gs.before ≡ cs.before → q.reading ≡ r.reading → q.fixed ≡ r.fixed → q.places.now ≡ r.places.now ++ n ∷ [] → q.places.before ≡ r.places.before → n ≡ length cs.now → IsKept a k bs cs r → IsKept a k bs gs q
+kept_given a k bs cs gs r q c n e f g h i j l kept = record {
+  now =
+      subst (λ x. IsKnown a k bs.now x q.reading.now q.fixed.now q.places.now) (sym e)
+      (subst (λ x. IsKnown a k bs.now (cs.now ++ c ∷ []) x.now q.fixed.now q.places.now) (sym g)
+      (subst (λ x. IsKnown a k bs.now (cs.now ++ c ∷ []) r.reading.now x.now q.places.now) (sym h)
+      (subst (λ x. IsKnown a k bs.now (cs.now ++ c ∷ []) r.reading.now r.fixed.now x) (sym (i ∙ ap (λ m. r.places.now ++ m ∷ []) l))
+      (known_given a k bs.now cs.now r.reading.now r.fixed.now r.places.now c kept.now))));
+  before = marks-moved a bs.before bs.before cs.before gs.before r q refl f record { reading = ap (λ (x : Past Binding). x.before) g; fixed = ap (λ (x : Past ℕ). x.before) h; places = j } kept.before;
+}
+
+-- ---- marks
+
+left-good : (a : Bool) (k : Known) (bs : List Binding) (cs : List Con) (ds : List Binding) (fs ps : List ℕ) (bss : List (List Binding)) (css : List (List Con)) (dss : List (List Binding)) (fss pss : List (List ℕ)) → IsKnown a k bs cs ds fs ps → AreGoodIf a bss css dss fss pss → IsKnown a (if is_marked bss then known.Read else k) (latest bs bss) (latest cs css) (latest ds dss) (latest fs fss) (latest ps pss) × AreGoodIf a (earlier bss) (earlier css) (earlier dss) (earlier fss) (earlier pss)
+left-good false k bs cs ds fs ps bss css dss fss pss h g = (tt, tt)
+left-good true k bs cs ds fs ps [] [] [] [] [] h g = (h, tt)
+left-good true k bs cs ds fs ps [] [] [] [] (p ∷ pss) h g = absurd g
+left-good true k bs cs ds fs ps [] [] [] (f ∷ fss) pss h g = absurd g
+left-good true k bs cs ds fs ps [] [] (d ∷ dss) fss pss h g = absurd g
+left-good true k bs cs ds fs ps [] (c ∷ css) dss fss pss h g = absurd g
+left-good true k bs cs ds fs ps (b ∷ bss) [] dss fss pss h g = absurd g
+left-good true k bs cs ds fs ps (b ∷ bss) (c ∷ css) [] fss pss h g = absurd g
+left-good true k bs cs ds fs ps (b ∷ bss) (c ∷ css) (d ∷ dss) [] pss h g = absurd g
+left-good true k bs cs ds fs ps (b ∷ bss) (c ∷ css) (d ∷ dss) (f ∷ fss) [] h g = absurd g
+left-good true k bs cs ds fs ps (b ∷ bss) (c ∷ css) (d ∷ dss) (f ∷ fss) (p ∷ pss) h g = (g.0, g.1)
+
+-- what each part is at its latest mark
+pub record IsLeft {T : Type 0} (old new : Past T) : Type 0 where
+  pub now : new.now ≡ latest old.now old.before
+  pub before : new.before ≡ earlier old.before
+
+pub kept_left : (a : Bool) (k l : Known) (bs es : Past Binding) (cs gs : Past Con) (r q : Rest) → l ≡ (if is_marked bs.before then known.Read else k) → IsLeft bs es → IsLeft cs gs → IsLeft r.reading q.reading → IsLeft r.fixed q.fixed → IsLeft r.places q.places → IsKept a k bs cs r → IsKept a l es gs q
+kept_left a k l bs es cs gs r q m e f g h i kept =
+    let both = left-good a k bs.now cs.now r.reading.now r.fixed.now r.places.now bs.before cs.before r.reading.before r.fixed.before r.places.before kept.now kept.before in
+    record {
+      now =
+          subst (λ x. IsKnown a x es.now gs.now q.reading.now q.fixed.now q.places.now) (sym m)
+          (subst (λ x. IsKnown a (if is_marked bs.before then known.Read else k) x gs.now q.reading.now q.fixed.now q.places.now) (sym e.now)
+          (subst (λ x. IsKnown a (if is_marked bs.before then known.Read else k) (latest bs.now bs.before) x q.reading.now q.fixed.now q.places.now) (sym f.now)
+          (subst (λ x. IsKnown a (if is_marked bs.before then known.Read else k) (latest bs.now bs.before) (latest cs.now cs.before) x q.fixed.now q.places.now) (sym g.now)
+          (subst (λ x. IsKnown a (if is_marked bs.before then known.Read else k) (latest bs.now bs.before) (latest cs.now cs.before) (latest r.reading.now r.reading.before) x q.places.now) (sym h.now)
+          (subst (λ x. IsKnown a (if is_marked bs.before then known.Read else k) (latest bs.now bs.before) (latest cs.now cs.before) (latest r.reading.now r.reading.before) (latest r.fixed.now r.fixed.before) x) (sym i.now) both.0)))));
+      before =
+          subst (λ x. AreGoodIf a x gs.before q.reading.before q.fixed.before q.places.before) (sym e.before)
+          (subst (λ x. AreGoodIf a (earlier bs.before) x q.reading.before q.fixed.before q.places.before) (sym f.before)
+          (subst (λ x. AreGoodIf a (earlier bs.before) (earlier cs.before) x q.fixed.before q.places.before) (sym g.before)
+          (subst (λ x. AreGoodIf a (earlier bs.before) (earlier cs.before) (earlier r.reading.before) x q.places.before) (sym h.before)
+          (subst (λ x. AreGoodIf a (earlier bs.before) (earlier cs.before) (earlier r.reading.before) (earlier r.fixed.before) x) (sym i.before) both.1))));
+    }

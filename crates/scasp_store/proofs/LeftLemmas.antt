@@ -28,7 +28,9 @@ use Rattle.scasp_unify.proofs.SolvingLemmas.{sub-push}
 use Rattle.scasp_store.specs.Inside.Asking.{is_told}
 use Rattle.scasp_store.specs.Inside.Failing.{IsFalse, has_numbers}
 use Rattle.scasp_store.specs.Inside.Leaving.{IsLeftBy, is_about}
+use Rattle.scasp_store.specs.Inside.Open.{GoodOf}
 use Rattle.scasp_store.specs.Leaving.{IsLeft}
+use Rattle.scasp_store.specs.declared.rest.Rest.{Rest}
 use Rattle.scasp_store.proofs.FailLemmas.{false_fails}
 use Rattle.scasp_store.proofs.NewLemmas.{new_binding, turned}
 
@@ -37,24 +39,24 @@ use Rattle.scasp_store.proofs.NewLemmas.{new_binding, turned}
 -- an unbound variable reads as itself
 unbound-self : (bs : List Binding) (x : ℕ) → is_bound_in bs x ≡ false → sub_of bs x ≡ var x
 unbound-self [] x e = refl
-unbound-self (b ∷ bs) x e = by (nat_eq b.x x) refl e
+unbound-self (b ∷ bs) x e = by (nat_eq b.x x) refl e (unbound-self bs x)
   where
-    by : (c : Bool) → nat_eq b.x x ≡ c → (c || is_bound_in bs x) ≡ false → under (sub_of bs) (single b.x (tm_of b.term) x) ≡ var x
-    by true k f = absurd (true≢false f)
-    by false k f =
+    by : (c : Bool) → nat_eq b.x x ≡ c → (c || is_bound_in bs x) ≡ false → (is_bound_in bs x ≡ false → sub_of bs x ≡ var x) → under (sub_of bs) (single b.x (tm_of b.term) x) ≡ var x
+    by true k f later = absurd (true≢false f)
+    by false k f later =
         let apart : nat_eq x b.x ≡ false = turned b.x x k in
-        ap (λ (c : Bool). under (sub_of bs) (if c then tm_of b.term else var x)) apart ∙ unbound-self bs x f
+        ap (λ (c : Bool). under (sub_of bs) (if c then tm_of b.term else var x)) apart ∙ later f
 
 -- what makes the equations true reads a bound variable as it reads its term
 followed : (v : Sub) (bs : List Binding) (x : ℕ) (b : Binding) → Each (Equal v) (equations bs) → bound_in x bs ≡ Some b → v x ≡ under v (tm_of b.term)
 followed v [] x b e f = absurd (cc f)
-followed v (c ∷ bs) x b e f = by (nat_eq c.x x) refl f
+followed v (c ∷ bs) x b e f = by (nat_eq c.x x) refl f (followed v bs x b e.1)
   where
-    by : (d : Bool) → nat_eq c.x x ≡ d → (if d then Some c else bound_in x bs) ≡ Some b → v x ≡ under v (tm_of b.term)
-    by true k g =
+    by : (d : Bool) → nat_eq c.x x ≡ d → (if d then Some c else bound_in x bs) ≡ Some b → (bound_in x bs ≡ Some b → v x ≡ under v (tm_of b.term)) → v x ≡ under v (tm_of b.term)
+    by true k g later =
         let same : c ≡ b = cc g in
         sym (ap v (eqb-true c.x x k)) ∙ e.0 ∙ ap (λ (a : Binding). under v (tm_of a.term)) same
-    by false k g = followed v bs x b e.1 g
+    by false k g later = later g
 
 -- a term and what it was led to read alike, and so does the term of the next binding
 pub reached_next : (bs : List Binding) (x : ℕ) (b : Binding) (t : Tm) → Some b ≡ bound_in x bs → (Triangular bs → under (sub_of bs) (var x) ≡ under (sub_of bs) t) → Triangular bs
@@ -127,3 +129,8 @@ pub left_some : (bs : List Binding) (cs : List Con) (i : ℕ) (c : Con) (x : ℕ
     → Triangular bs → IfSome o (IsLeft bs cs x)
 left_some bs cs i c x None g e h t = tt
 left_some bs cs i c x (Some q) g e h t = left-at bs cs i c x q t e g (h t)
+
+-- ---- what is known
+
+pub good_triangular : (bs : List Binding) (cs : List Con) (r : Rest) → GoodOf bs cs r → Triangular bs
+good_triangular bs cs r h = h.triangular

@@ -1,4 +1,5 @@
 pub mod AskLemmas
+pub mod BehindLemmas
 pub mod FailLemmas
 pub mod FixLemmas
 pub mod KeepLemmas

@@ -1,5 +1,5 @@
 -- What triangular bindings, as equations before others, make of variables.
-use Rattle.std.proofs.Common.{◌≡◌, ℕ, Bool, true, false, nat_eq, List, [], ◌∷◌, ◌++◌, length, Option, None, Some, refl, sym, ap, ◌∙◌}
+use Rattle.std.proofs.Common.{◌≡◌, ℕ, false, nat_eq, List, [], ◌∷◌, ◌++◌, length, Option, None, Some, refl, sym, ap, ◌∙◌}
 use Rattle.scasp_list.specs.Each.{Each}
 use Rattle.scasp_law_parts.specs.Bound.{IsFree, Triangular, equations}
 use Rattle.scasp_num.specs.Arithmetic.{◌>>=◌}

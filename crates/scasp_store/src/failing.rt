@@ -67,7 +67,7 @@ fn tells_at(bound: &Bound, list: &[Con], at: usize, x: u64) -> bool
 }
 
 /// Whether one of the constraints at the places says of the variable that it is a number.
-fn tells(bound: &Bound, given: &[Con], places: &[usize], x: u64) -> bool
+pub(crate) fn tells(bound: &Bound, given: &[Con], places: &[usize], x: u64) -> bool
     ensures { result ≡ true → Tells (sub_of bound.now.now) x given.now }
 {
     for place in places {

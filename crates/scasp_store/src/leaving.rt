@@ -1,16 +1,20 @@
 //! What the bindings lead a term to, and the number that a given row leaves to an unbound variable.
-ghost use Rattle.std.specs.Prelude.{◌≡◌, IfOk, IfSome, false, option_copied};
+ghost use Rattle.std.specs.Prelude.{◌≡◌, IfOk, IfSome, List, false, option_copied, true};
 ghost use Rattle.scasp_bound.specs.Bounds.{is_bound_in};
 ghost use Rattle.scasp_law_parts.specs.Bound.{Triangular};
 ghost use Rattle.scasp_store.specs.Inside.Leaving.{IsLeftBy, is_about};
+ghost use Rattle.scasp_store.specs.Inside.Open.{GoodOf, KnownOf};
 ghost use Rattle.scasp_store.specs.Leaving.{IsLeft};
+ghost use Rattle.scasp_store.specs.declared.rest.Rest.{Rest as ThisRest};
+ghost use Rattle.scasp_syntax.specs.declared.con.Con.{Con as ThisCon};
 ghost use Rattle.scasp_syntax.specs.Values.{under};
 ghost use Rattle.scasp_syntax.specs.View.{tm_of};
 ghost use Rattle.scasp_unify.specs.Solving.{sub_of};
 
 use crate::asking::are_told;
 use crate::fixing::left_over;
-use crate::store::{Store, both};
+use crate::rest::{Known, Rest};
+use crate::store::Store;
 use scasp_bound::Bound;
 use scasp_list::Memory;
 use scasp_num::Rat;
@@ -61,7 +65,6 @@ fn left_by(alloc: Global, bound: &Bound, x: u64, constraint: &Con) -> Result<Opt
 // ---- the given rows
 
 /// The number that the constraint at the place leaves to the unbound variable, if it leaves one.
-#[tactic(auto, using(crate::proofs::LeftLemmas::left_some))]
 fn left_at(
     alloc: Global,
     bound: &Bound,
@@ -81,23 +84,61 @@ fn left_at(
     }
 }
 
-/// The number that one of the constraints at the places leaves to the unbound variable, if one does.
-fn left_among(
+/// The number that one of the constraints before the place leaves to the unbound variable, if one does, from the last one back.
+fn left_before(
     alloc: Global,
     bound: &Bound,
     x: u64,
     given: &[Con],
-    places: &[usize],
+    count: usize,
 ) -> Result<Option<Rat>, Memory>
     requires { is_bound_in bound.now.now x ≡ false }
     ensures { Triangular bound.now.now → IfOk result (λ found. IfSome found (IsLeft bound.now.now given.now x)) }
 {
-    for place in places {
-        if let Some(value) = left_at(alloc, bound, x, given, *place)? {
+    let mut place = count;
+    while place > 0 {
+        place -= 1;
+        if let Some(value) = left_at(alloc, bound, x, given, place)? {
             return Ok(Some(value));
         }
     }
     Ok(None)
+}
+
+/// The number that a given constraint leaves to the variable, if one does and the variable is unbound. They are gone through
+/// only if a number is known to be left to the variable.
+#[tactic(auto, using(crate::proofs::LeftLemmas::good_triangular))]
+fn left_read(
+    alloc: Global,
+    bound: &Bound,
+    given: &[Con],
+    rest: &Rest,
+    x: u64,
+) -> Result<Option<Rat>, Memory>
+    ensures { GoodOf bound.now.now given.now rest.now → IfOk result (λ found. IfSome found (IsLeft bound.now.now given.now x)) }
+{
+    if bound.is_bound(x) || !rest.reading.is_bound(x) {
+        return Ok(None);
+    }
+    let found = left_before(alloc, bound, x, given, given.len())?;
+    Ok(found)
+}
+
+/// As `left_read`, by what is known.
+fn left_known(
+    alloc: Global,
+    known: Known,
+    bound: &Bound,
+    given: &[Con],
+    rest: &Rest,
+    x: u64,
+) -> Result<Option<Rat>, Memory>
+    ensures { KnownOf true known bound.now.now given.now rest.now → IfOk result (λ found. IfSome found (IsLeft bound.now.now given.now x)) }
+{
+    match known {
+        Known::Read => left_read(alloc, bound, given, rest, x),
+        Known::Nothing | Known::Contrary => Ok(None),
+    }
 }
 
 // ---- what terms lead to
@@ -123,16 +164,26 @@ fn reached<'a>(bound: &'a Bound, term: &'a Term) -> &'a Term
     reached
 }
 
+/// As `reached`, by what is known.
+fn reached_known<'a>(known: Known, bound: &'a Bound, term: &'a Term) -> Option<&'a Term>
+    ensures { (cs : List ThisCon) (rest : ThisRest) → KnownOf true known bound.now.now cs rest → IfSome (option_copied result) (λ found. under (sub_of bound.now.now) (tm_of found) ≡ under (sub_of bound.now.now) (tm_of term.now)) }
+{
+    match known {
+        Known::Read => Some(reached(bound, term)),
+        Known::Nothing | Known::Contrary => None,
+    }
+}
+
 impl Store {
     /// The number that a given row leaves to the variable, if one does and the variable is unbound.
     pub fn left_to(&self, alloc: Global, x: u64) -> Result<Option<Rat>, Memory>
         ensures { IfOk result (λ found. IfSome found (IsLeft self.now.bound.now self.now.given.now x)) }
     {
-        if !both(self.is_solved, self.is_known) || self.bound.is_bound(x) {
+        if !self.is_solved {
             return Ok(None);
         }
         let given = self.given.as_slice();
-        let found = left_among(alloc, &self.bound, x, given, self.places.as_slice())?;
+        let found = left_known(alloc, self.known, &self.bound, given, &self.rest, x)?;
         Ok(found)
     }
 
@@ -140,9 +191,9 @@ impl Store {
     pub fn reached<'a>(&'a self, term: &'a Term) -> Option<&'a Term>
         ensures { IfSome (option_copied result) (λ found. under (sub_of self.now.bound.now) (tm_of found) ≡ under (sub_of self.now.bound.now) (tm_of term.now)) }
     {
-        if !both(self.is_solved, self.is_known) {
+        if !self.is_solved {
             return None;
         }
-        Some(reached(&self.bound, term))
+        reached_known(self.known, &self.bound, term)
     }
 }

@@ -2,11 +2,15 @@
 #![tactic(auto)]
 
 mod answering;
+mod asked;
 mod asking;
+mod behind;
 mod failing;
 mod fixing;
+mod keeping;
 mod leaving;
 mod opening;
+mod rest;
 mod store;
 
 pub use store::Store;

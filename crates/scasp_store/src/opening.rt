@@ -1,15 +1,18 @@
 //! Given constraints that need not be asked any more.
 ghost use Rattle.std.specs.Prelude.{◌≡◌, ◌++◌, ◌<◌, ◌+◌, ◌-◌, ℕ, IfOk, List, OnOk, Some, length, slice_get, true};
 ghost use Rattle.std.specs.List.{list_all, list_any};
-ghost use Rattle.scasp_bound.specs.Bounds.{among, unbound};
+ghost use Rattle.scasp_bound.specs.Bounds.{among};
 ghost use Rattle.scasp_law_parts.specs.Bound.{Triangular};
-ghost use Rattle.scasp_store.specs.Inside.Open.{AreOpen, IsGood, IsNew, IsSettled, Reopens, is_taken, is_unbound, one_of, opened};
+ghost use Rattle.scasp_store.specs.Inside.Open.{GoodOf, IsNew, IsSettled, SameMarks, is_taken, is_unbound, one_of, opened};
 ghost use Rattle.scasp_syntax.specs.View.{tm_of};
 ghost use Rattle.scasp_syntax.specs.declared.con.Con.{Con as ThisCon};
 ghost use Rattle.scasp_unify.specs.Solving.{sub_of};
 ghost use Rattle.scasp_unify.specs.Unification.{term_vars};
+ghost use Rattle.scasp_unify.specs.declared.bindings.Binding.{Binding as ThisBinding};
 
 use crate::asking::{has_values, is_readable, note_row};
+use crate::keeping::fix_at;
+use crate::rest::Rest;
 use scasp_bound::Bound;
 use scasp_list::Memory;
 use scasp_readings::{is_among, read_con};
@@ -69,25 +72,21 @@ fn take_away(places: &mut Trailed<usize>, at: usize) -> Result<(), Memory>
     Ok(())
 }
 
-/// Takes the place at `at` away where its constraint is settled. Returns at which to go on.
-fn settle_at(
-    alloc: Global,
-    bound: &Bound,
-    given: &[Con],
-    places: &mut Trailed<usize>,
-    at: usize,
-) -> Result<usize, Memory>
-    requires { at < length places.old.now }
-    ensures places { Triangular bound.now.now → AreOpen (sub_of bound.now.now) given.now places.old.now → AreOpen (sub_of bound.now.now) given.now places.new.now }
-    ensures less { IfOk result (λ next. length places.new.now - next < length places.old.now - at) }
-    ensures before { places.new.before ≡ places.old.before }
+/// Fixes what the constraint of the place at `at` leaves to a variable, and takes the place away where its constraint is
+/// settled. Returns at which to go on.
+fn settle_at(alloc: Global, given: &[Con], rest: &mut Rest, at: usize) -> Result<usize, Memory>
+    requires { at < length rest.old.places.now }
+    ensures good { OnOk result ((bs : List ThisBinding) → GoodOf bs given.now rest.old → GoodOf bs given.now rest.new) }
+    ensures less { IfOk result (λ next. length rest.new.places.now - next < length rest.old.places.now - at) }
+    ensures marks { SameMarks rest.old rest.new }
 {
-    let behind = next_of(places.len(), at);
-    let place = place_at(places.as_slice(), at);
-    if !is_settled_at(alloc, bound, given, place)? {
+    let behind = next_of(rest.places.len(), at);
+    let place = place_at(rest.places.as_slice(), at);
+    fix_at(alloc, given, place, rest)?;
+    if !is_settled_at(alloc, &rest.reading, given, place)? {
         return Ok(behind);
     }
-    take_away(places, at)?;
+    take_away(&mut rest.places, at)?;
     Ok(at)
 }
 
@@ -99,37 +98,32 @@ fn next_of(len: usize, at: usize) -> usize
     at + 1
 }
 
-/// Takes the places of all settled constraints away.
-pub(crate) fn settle(
-    alloc: Global,
-    bound: &Bound,
-    given: &[Con],
-    places: &mut Trailed<usize>,
-) -> Result<(), Memory>
-    ensures places { Triangular bound.now.now → AreOpen (sub_of bound.now.now) given.now places.old.now → AreOpen (sub_of bound.now.now) given.now places.new.now }
-    ensures before { places.new.before ≡ places.old.before }
+/// Fixes what open constraints leave to variables, and takes the places of all settled ones away.
+pub(crate) fn settle(alloc: Global, given: &[Con], rest: &mut Rest) -> Result<(), Memory>
+    ensures good { OnOk result ((bs : List ThisBinding) → GoodOf bs given.now rest.old → GoodOf bs given.now rest.new) }
+    ensures marks { SameMarks rest.old rest.new }
 {
     let mut at = 0;
-    while at < places.len() {
-        at = settle_at(alloc, bound, given, places, at)?;
+    while at < rest.places.len() {
+        at = settle_at(alloc, given, rest, at)?;
     }
     Ok(())
 }
 
-/// Takes all places away.
-fn clear(places: &mut Trailed<usize>) -> Result<(), Memory>
-    ensures { places.new.before ≡ places.old.before }
+/// Takes all items away.
+pub(crate) fn clear<T: Drop>(items: &mut Trailed<T>) -> Result<(), Memory>
+    ensures { items.new.before ≡ items.old.before }
 {
-    'all: for _ in 0..places.len() {
-        places.pop()?;
+    'all: for _ in 0..items.len() {
+        items.pop()?;
     }
     Ok(())
 }
 
 /// All constraints are open again, of which there are so many.
 #[tactic(auto, using(crate::proofs::OpenLemmas::one_open))]
-fn open_all(places: &mut Trailed<usize>, count: usize) -> Result<(), Memory>
-    ensures now { OnOk result (Reopens true count places.old.now places.new.now) }
+pub(crate) fn open_all(places: &mut Trailed<usize>, count: usize) -> Result<(), Memory>
+    ensures now { OnOk result ((i : ℕ) → i < count → among i places.new.now ≡ true) }
     ensures before { places.new.before ≡ places.old.before }
 {
     clear(places)?;
@@ -141,42 +135,11 @@ fn open_all(places: &mut Trailed<usize>, count: usize) -> Result<(), Memory>
     Ok(())
 }
 
-/// All constraints are open again, of which there are so many, if that is asked for.
-fn open_if(places: &mut Trailed<usize>, is_asked: bool, count: usize) -> Result<(), Memory>
-    ensures now { OnOk result (Reopens is_asked count places.old.now places.new.now) }
-    ensures before { places.new.before ≡ places.old.before }
-{
-    if is_asked {
-        open_all(places, count)?;
-    }
-    Ok(())
-}
-
 /// Whether a variable of the list that is not in the other one is bound.
-fn takes_out(bound: &Bound, xs: &[u64], but: &[u64]) -> bool
+pub(crate) fn takes_out(bound: &Bound, xs: &[u64], but: &[u64]) -> bool
     ensures { result ≡ list_any (is_taken bound.now.now but.now) xs.now }
 {
     xs.iter().any(|x| bound.is_bound(*x) && !is_among(*x, but))
-}
-
-/// Takes the bindings of the variables of a list out, but for those that are also in another one. All of so many
-/// constraints are open again, unless there is no such binding.
-pub(crate) fn take_out(
-    bound: &mut Bound,
-    places: &mut Trailed<usize>,
-    count: usize,
-    xs: &[u64],
-    but: &[u64],
-) -> Result<(), Memory>
-    ensures bound { OnOk result (bound.new.now ≡ unbound xs.now but.now bound.old.now) }
-    ensures good { OnOk result ((cs : List ThisCon) → length cs ≡ count → IsGood bound.old.now cs places.old.now → IsGood bound.new.now cs places.new.now) }
-    ensures before { bound.new.before ≡ bound.old.before }
-    ensures places_before { places.new.before ≡ places.old.before }
-{
-    let is_less = takes_out(bound, xs, but);
-    bound.end_case(xs, but)?;
-    open_if(places, is_less, count)?;
-    Ok(())
 }
 
 /// Puts a copy of the constraint at the place behind those of a list, if there is one.

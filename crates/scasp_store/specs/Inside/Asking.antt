@@ -76,9 +76,13 @@ is_counted s ys (con.NotNum t) = true
 abbrev pub read_by : Sub → List Con → List Con
 read_by s cs = map (con_under s) cs
 
+-- the variables of each row count as numbers
+abbrev pub are_counted : Sub → List Con → Bool
+are_counted s cs = list_all (is_counted s (told_by s cs)) cs
+
 -- no equation is there, and the variables of each row count as numbers
 abbrev pub counts_all : Sub → List Con → Bool
-counts_all s cs = not (list_any is_equation cs) && list_all (is_counted s (told_by s cs)) cs
+counts_all s cs = not (list_any is_equation cs) && are_counted s cs
 
 -- there is no row, or each row's variables count as numbers, in the list as it stands and as it reads
 abbrev pub is_sorted : Sub → List Con → Bool

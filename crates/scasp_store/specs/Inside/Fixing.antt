@@ -1,5 +1,5 @@
 -- Numbers that a list of constraints leaves to variables, and what is left of the list where they are put into it.
-use Rattle.std.specs.Prelude.{◌≡◌, Bool, true, false, ◌||◌, not, if◌then◌else◌, List, [], ◌∷◌}
+use Rattle.std.specs.Prelude.{◌≡◌, Bool, true, ◌||◌, not, if◌then◌else◌, List, [], ◌∷◌}
 use Rattle.std.specs.List.{flat_map, list_all, list_any}
 use Rattle.scasp_law_parts.specs.Bound.{Triangular, equations}
 use Rattle.scasp_list.specs.Each.{Each}

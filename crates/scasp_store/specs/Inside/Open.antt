@@ -1,8 +1,8 @@
 -- Given constraints that need not be asked any more, and which of them are still open.
-use Rattle.std.specs.Prelude.{◌≡◌, ◌<◌, Bool, true, false, ◌&&◌, not, nat_eq, ℕ, List, [], ◌∷◌, Option, None, Some, slice_get, ⊤}
+use Rattle.std.specs.Prelude.{◌≡◌, Bool, true, false, ◌&&◌, not, nat_eq, ℕ, List, [], ◌∷◌, Option, None, Some, slice_get, ⊤}
 use Rattle.std.specs.List.{flat_map, list_all}
 use Rattle.scasp_bound.specs.Bounds.{among, is_bound_in}
-use Rattle.scasp_law_parts.specs.Bound.{IsFree, Triangular}
+use Rattle.scasp_law_parts.specs.Bound.{IsFree, Triangular, equations}
 use Rattle.scasp_list.specs.Each.{Each}
 use Rattle.scasp_syntax.specs.Constraints.{holds, is_number}
 use Rattle.scasp_syntax.specs.Values.{Sub}
@@ -11,9 +11,14 @@ use Rattle.scasp_syntax.specs.declared.con.Con.{Con}
 use Rattle.scasp_syntax.specs.declared.con.Con.TheVariants as con
 use Rattle.scasp_trail.specs.Past.{Past}
 use Rattle.scasp_unify.specs.Parts.{occurs}
+use Rattle.scasp_unify.specs.Resolver.{Equal}
 use Rattle.scasp_unify.specs.Solving.{sub_of}
 use Rattle.scasp_unify.specs.Unification.{then_by}
 use Rattle.scasp_unify.specs.declared.bindings.Binding.{Binding}
+use Rattle.scasp_store.specs.Inside.Reads.{AreAlike, Reads}
+use Rattle.scasp_store.specs.declared.rest.Known.{Known}
+use Rattle.scasp_store.specs.declared.rest.Known.TheVariants as known
+use Rattle.scasp_store.specs.declared.rest.Rest.{Rest}
 
 -- it is no equation, and a row whose variables all stand for numbers
 abbrev pub has_values : Sub → Con → Bool
@@ -42,40 +47,65 @@ opened cs ps = flat_map (λ p. one_of (slice_get cs p)) ps
 pub record AreOpen (s : Sub) (cs : List Con) (ps : List ℕ) : Type 0 where
   pub settled : (i : ℕ) (c : Con) → Some c ≡ slice_get cs i → among i ps ≡ false → IsSettled s c
 
--- the first places, so many, are among the new ones where they are asked for; else nothing is changed
-abbrev pub Reopens : Bool → ℕ → List ℕ → List ℕ → Type 0
-Reopens true n ps qs = (i : ℕ) → i < n → among i qs ≡ true
-Reopens false n ps qs = qs ≡ ps
-
 -- the variable is bound, and not in the list
 abbrev pub is_taken : List Binding → List ℕ → ℕ → Bool
 is_taken bs but x = is_bound_in bs x && not (among x but)
 
--- the bindings may leave the lists that are asked, and so may what is not open
-pub record IsGood (bs : List Binding) (cs : List Con) (ps : List ℕ) : Type 0 where
+-- The bindings may leave the lists that are asked, and so may what is not open. Where no number is left to a variable, the bindings alone
+-- read the constraints.
+pub record IsGood (bs : List Binding) (cs : List Con) (ds : List Binding) (fs ps : List ℕ) : Type 0 where
   pub triangular : Triangular bs
-  pub places : AreOpen (sub_of bs) cs ps
+  pub reads : Reads bs ds cs
+  pub places : AreOpen (sub_of ds) cs ps
+  pub plain : fs ≡ [] → ds ≡ bs
 
-abbrev pub IsGoodIf : Bool → List Binding → List Con → List ℕ → Type 0
-IsGoodIf false bs cs ps = ⊤
-IsGoodIf true bs cs ps = IsGood bs cs ps
+-- nothing meets the bindings and the constraints
+pub record IsContrary (bs : List Binding) (cs : List Con) (ds : List Binding) (ps : List ℕ) : Type 0 where
+  pub triangular : Triangular bs
+  pub never : (v : Sub) → Each (Equal v) (equations bs) → list_all (holds v) cs ≡ true → ⊥
+  pub alike : AreAlike bs ds cs
+  pub places : AreOpen (sub_of ds) cs ps
 
-abbrev pub AreGood : List (List Binding) → List (List Con) → List (List ℕ) → Type 0
-AreGood [] [] [] = ⊤
-AreGood [] [] (ps ∷ pss) = ⊥
-AreGood [] (cs ∷ css) pss = ⊥
-AreGood (bs ∷ bss) [] pss = ⊥
-AreGood (bs ∷ bss) (cs ∷ css) [] = ⊥
-AreGood (bs ∷ bss) (cs ∷ css) (ps ∷ pss) = IsGood bs cs ps × AreGood bss css pss
+-- what is known of them
+abbrev pub IsKnown : Bool → Known → List Binding → List Con → List Binding → List ℕ → List ℕ → Type 0
+IsKnown false k bs cs ds fs ps = ⊤
+IsKnown true known.Nothing bs cs ds fs ps = ⊤
+IsKnown true known.Read bs cs ds fs ps = IsGood bs cs ds fs ps
+IsKnown true known.Contrary bs cs ds fs ps = IsContrary bs cs ds ps
 
-abbrev pub AreGoodIf : Bool → List (List Binding) → List (List Con) → List (List ℕ) → Type 0
-AreGoodIf false bss css pss = ⊤
-AreGoodIf true bss css pss = AreGood bss css pss
+abbrev pub AreGood : List (List Binding) → List (List Con) → List (List Binding) → List (List ℕ) → List (List ℕ) → Type 0
+AreGood [] [] [] [] [] = ⊤
+AreGood [] [] [] [] (ps ∷ pss) = ⊥
+AreGood [] [] [] (fs ∷ fss) pss = ⊥
+AreGood [] [] (ds ∷ dss) fss pss = ⊥
+AreGood [] (cs ∷ css) dss fss pss = ⊥
+AreGood (bs ∷ bss) [] dss fss pss = ⊥
+AreGood (bs ∷ bss) (cs ∷ css) [] fss pss = ⊥
+AreGood (bs ∷ bss) (cs ∷ css) (ds ∷ dss) [] pss = ⊥
+AreGood (bs ∷ bss) (cs ∷ css) (ds ∷ dss) (fs ∷ fss) [] = ⊥
+AreGood (bs ∷ bss) (cs ∷ css) (ds ∷ dss) (fs ∷ fss) (ps ∷ pss) = IsGood bs cs ds fs ps × AreGood bss css dss fss pss
+
+abbrev pub AreGoodIf : Bool → List (List Binding) → List (List Con) → List (List Binding) → List (List ℕ) → List (List ℕ) → Type 0
+AreGoodIf false bss css dss fss pss = ⊤
+AreGoodIf true bss css dss fss pss = AreGood bss css dss fss pss
+
+-- the same of the parts
+abbrev pub GoodOf : List Binding → List Con → Rest → Type 0
+GoodOf bs cs r = IsGood bs cs r.reading.now r.fixed.now r.places.now
+
+abbrev pub KnownOf : Bool → Known → List Binding → List Con → Rest → Type 0
+KnownOf solved k bs cs r = IsKnown solved k bs cs r.reading.now r.fixed.now r.places.now
 
 -- so it is at each mark, and now where no change has failed since
-pub record IsKept (is_solved is_known : Bool) (bound : Past Binding) (given : Past Con) (places : Past ℕ) : Type 0 where
-  pub now : IsGoodIf (is_solved && is_known) bound.now given.now places.now
-  pub before : AreGoodIf is_solved bound.before given.before places.before
+pub record IsKept (is_solved : Bool) (k : Known) (bound : Past Binding) (given : Past Con) (rest : Rest) : Type 0 where
+  pub now : KnownOf is_solved k bound.now given.now rest
+  pub before : AreGoodIf is_solved bound.before given.before rest.reading.before rest.fixed.before rest.places.before
+
+-- the marks are the same
+pub record SameMarks (old new : Rest) : Type 0 where
+  pub reading : new.reading.before ≡ old.reading.before
+  pub fixed : new.fixed.before ≡ old.fixed.before
+  pub places : new.places.before ≡ old.places.before
 
 -- y is another variable than x, and unbound
 abbrev pub is_unbound : List Binding → ℕ → ℕ → Bool

@@ -1,4 +1,4 @@
-use Rattle.std.proofs.Common.{◌≢◌, ◌-ℤ◌, pos, neg_ℤ, of_z, sym, subst, to_z}
+use Rattle.std.proofs.Common.{◌≢◌, ◌-ℤ◌, pos, of_z, sym, subst, to_z}
 use Rattle.std.specs.Int.{w128}
 use Rattle.scasp_list.specs.Each.{Each}
 use Rattle.scasp_num.specs.Number.{InRange, IsFraction}

@@ -1,4 +1,4 @@
-use Rattle.std.proofs.Common.{◌≡◌, true, ap, sym, ◌∙◌}
+use Rattle.std.proofs.Common.{ap, sym, ◌∙◌}
 use Rattle.std.specs.List.{list_all}
 use Rattle.scasp_store.specs.Inside.Open.{is_unbound}
 use Rattle.scasp_store.proofs.NewLemmas.{new_binding}

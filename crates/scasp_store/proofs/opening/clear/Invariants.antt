@@ -2,4 +2,4 @@ use Rattle.std.proofs.Common.{◌≡◌}
 use Rattle.scasp_store.proofs.opening.clear.Given as goal
 
 abbrev pub invariant-all : goal.invariant-all
-invariant-all l = l.places.before ≡ l.fn.places.before
+invariant-all g l = l.items.before ≡ l.fn.items.before

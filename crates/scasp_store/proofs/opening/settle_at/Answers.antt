@@ -1,10 +1,17 @@
-use Rattle.std.proofs.Common.{slice_get, ap, ◌∙◌}
+use Rattle.std.proofs.Common.{ℕ, slice_get, ap, sym, ◌∙◌}
+use Rattle.scasp_trail.specs.Past.{Past}
 use Rattle.scasp_unify.specs.Solving.{sub_of}
 use Rattle.scasp_store.proofs.OpenLemmas.{one_settled}
 use Rattle.scasp_store.proofs.opening.settle_at.Goals as goal
 
-pub returns-in_err-take_away-clause-places : goal.returns-in_err-take_away-clause-places
-returns-in_err-take_away-clause-places c = λ t h. one_settled (sub_of c.args.bound.now.now) c.args.given.now c.args.places.now.now c.take_away.new.places.now c.args.at c.place_at-place.result (c.place_at-place.ensures ∙ ap (λ xs. slice_get xs c.args.at) c.as_slice.ensures) (λ d g. c.in_ok-is_settled_at.ensures d t g c.if-not-branch.false) c.take_away.ensures.stay h
-
-pub returns-clause-places : goal.returns-clause-places
-returns-clause-places c = λ t h. one_settled (sub_of c.args.bound.now.now) c.args.given.now c.args.places.now.now c.take_away.new.places.now c.args.at c.place_at-place.result (c.place_at-place.ensures ∙ ap (λ xs. slice_get xs c.args.at) c.as_slice.ensures) (λ d g. c.in_ok-is_settled_at.ensures d t g c.if-not-branch.false) c.take_away.ensures.stay h
+pub returns-clause-good : goal.returns-clause-good
+returns-clause-good c = λ bs h.
+    let r = c.fix_at.new.rest in
+    let good = c.in_ok-fix_at.ensures.good bs h in
+    let there = c.place_at-place.ensures ∙ ap (λ xs. slice_get xs c.args.at) (c.as_slice.ensures ∙ sym (ap (λ (p : Past ℕ). p.now) c.fix_at.ensures.places)) in
+    record {
+      triangular = good.triangular;
+      reads = good.reads;
+      places = one_settled (sub_of r.reading.now) c.args.given.now r.places.now c.take_away.new.places.now c.args.at c.place_at-place.result there (λ d g. c.in_ok-is_settled_at.ensures d good.reads.triangular g c.if-not-branch.false) c.take_away.ensures.stay good.places;
+      plain = good.plain;
+    }
