@@ -85,7 +85,7 @@ module _ (G : ℕ → Type 0) (n first : ℕ) (g : (z : ℕ) → first ≤ z →
   raised-side : (t : Term) → is_below n (tm_of t) ≡ true → EachVar G (tm_of (term_raised 0 first t))
   raised-side t e = subst (EachVar G) (sym (viewed (under (raising 0 first) (tm_of t)))) (each-under (λ y. y < n) G (raising 0 first) raised-one (tm_of t) (below-each n (tm_of t) e))
 
-  raised-coeffs : (ks : List Coeff) → Each (λ k. k.x < n) ks → Each (λ k. G k.x) (map (λ k. record { x = raised_from 0 first k.x; c = k.c }) ks)
+  raised-coeffs : (ks : List Coeff) → Each (λ k. k.x < n) ks → Each (λ (k : Coeff). G k.x) (map (λ (k : Coeff). record { x = raised_from 0 first k.x; c = k.c }) ks)
   raised-coeffs [] h = tt
   raised-coeffs (k ∷ ks) h = (raised-one k.x h.0, raised-coeffs ks h.1)
 
@@ -95,13 +95,13 @@ module _ (G : ℕ → Type 0) (n first : ℕ) (g : (z : ℕ) → first ≤ z →
 
   row-of : (l : Lin) → (lists_variables l && list_all (λ x. nat_lt x n) l.vars && is_normal l.row) ≡ true → SidesOf G (item_raised first (flat.Test (con.Row l.row))) × Each (λ x. x < n) l.vars
   row-of l e =
-      let p = and_parts (lists_variables l) (list_all (λ x. nat_lt x n) l.vars && is_normal l.row) e in
-      let q = and_parts (list_all (λ x. nat_lt x n) l.vars) (is_normal l.row) p.1 in
+      let q = and_parts (lists_variables l && list_all (λ x. nat_lt x n) l.vars) (is_normal l.row) e in
+      let p = and_parts (lists_variables l) (list_all (λ x. nat_lt x n) l.vars) q.0 in
       let r : Linear = row_raised 0 first l.row in
       let normal : IsNormal (row_raised 0 first l.row) = renamed-normal (raised_from 0 first) (raised-lt first) l.row ((normal-decided l.row).0 q.1) in
-      let all : Each (λ k. G k.x) (row_raised 0 first l.row).coeffs = raised-coeffs l.row.coeffs (number-below l n p.0 q.0) in (
+      let all : Each (λ k. G k.x) (row_raised 0 first l.row).coeffs = raised-coeffs l.row.coeffs (number-below l n p.0 p.1) in (
         ((all, (normal, tt)), (negated-each G (not (is_symmetric r.op)) r.coeffs all, negated-normal 0 (con.Row r) (normal, tt))),
-        Each-from_test (λ x. nat_lt x n) (λ x. x < n) (λ x f. ltb-true x n f) l.vars q.0,
+        Each-from_test (λ x. nat_lt x n) (λ x. x < n) (λ x f. ltb-true x n f) l.vars p.1,
       )
 
   flat-of : (seen : List ℕ) (is : List Item) → list_all (is_item_below n) is ≡ true → Each (λ i. SidesOf G (item_raised first i)) (flat_after seen is)
@@ -155,12 +155,12 @@ flat-query n seen (item.Differ t u ∷ is) e =
     (((below-each n (tm_of t) o.0, below-each n (tm_of u) o.1), tt), flat-query n seen is q.1)
 flat-query n seen (item.Linear l ∷ is) e =
     let q = and_parts (is_item_below n (item.Linear l)) (list_all (is_item_below n) is) e in
-    let p = and_parts (lists_variables l) (list_all (λ x. nat_lt x n) l.vars && is_normal l.row) q.0 in
-    let o = and_parts (list_all (λ x. nat_lt x n) l.vars) (is_normal l.row) p.1 in
-    let vars : Each (λ x. x < n) l.vars = Each-from_test (λ x. nat_lt x n) (λ x. x < n) (λ x f. ltb-true x n f) l.vars o.0 in
+    let o = and_parts (lists_variables l && list_all (λ x. nat_lt x n) l.vars) (is_normal l.row) q.0 in
+    let p = and_parts (lists_variables l) (list_all (λ x. nat_lt x n) l.vars) o.0 in
+    let vars : Each (λ x. x < n) l.vars = Each-from_test (λ x. nat_lt x n) (λ x. x < n) (λ x f. ltb-true x n f) l.vars p.1 in
     Each-append (ItemOf (λ y. y < n)) (map number_test (unseen seen l.vars)) (flat.Test (con.Row l.row) ∷ flat_after (seen ++ l.vars) is)
     (tests (unseen seen l.vars) (Each-filter (λ x. x < n) (λ x. not (list_any (nat_eq x) seen)) l.vars vars))
-    ((number-below l n p.0 o.0, ((normal-decided l.row).0 o.1, tt)), flat-query n (seen ++ l.vars) is q.1)
+    ((number-below l n p.0 p.1, ((normal-decided l.row).0 o.1, tt)), flat-query n (seen ++ l.vars) is q.1)
   where
     tests : (xs : List ℕ) → Each (λ x. x < n) xs → Each (ItemOf (λ y. y < n)) (map number_test xs)
     tests [] h = tt

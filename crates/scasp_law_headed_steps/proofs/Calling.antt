@@ -58,17 +58,17 @@ at-named : (n : ℕ) (f : Literal → Literal) → ((a : Literal) → Named a �
 at-named n f k xs h = at-number-each Named n f k xs h
 
 module _ (p : Program) (s : State) (t : Task) (empty : left_by t ≡ []) (gs : List Con) (kept : KeptAt s.made s.bound (s.given ++ gs) s.covers) where
-  u : State
+  abbrev u : State
   u = record s { given = s.given ++ gs }
 
-  none-left : (v : Valuation) (cs : List Con) → Meets v.of cs → Meets v.of (left_by t)
-  none-left v cs m = subst (λ (ds : List Con). Meets v.of ds) (sym empty) refl
+  none-left : (v : Valuation) → Meets v.of (left_by t)
+  none-left v = subst (λ (ds : List Con). Meets v.of ds) (sym empty) refl
 
   -- with a line of which nothing is said, and other literals
   told-moves : (l : Line) → ((cs : List Con) → Tells cs l) → (xs : List Literal) → (Each Named s.literals → Each Named xs) → (ts : List Task) → Each (TaskFits p s.made s.bound) ts
       → Moves p s t (record s { given = s.given ++ gs; literals = xs; lines = s.lines ++ l ∷ []; work = ts ++ s.work })
   told-moves l f xs named ts fit =
-      settles p s t gs (s.given ++ gs) refl kept xs named (l ∷ []) (s.lines ++ l ∷ []) refl ts (ts ++ s.work) refl fit (λ v m. none-left v ((map equation s.bound ++ (s.given ++ gs)) ++ left_of ts) m)
+      settles p s t gs (s.given ++ gs) refl kept xs named (l ∷ []) (s.lines ++ l ∷ []) refl ts (ts ++ s.work) refl fit (λ v m. none-left v)
       (f ((map equation s.bound ++ (s.given ++ gs)) ++ left_of ts), tt)
 
   -- ---- a literal that is gone into
@@ -96,7 +96,7 @@ module _ (p : Program) (s : State) (t : Task) (empty : left_by t ≡ []) (gs : L
         (Each-mapped (TaskFits p fresh.made s.bound) task.Show (body_of p k n)
         (Each-map (SidesOf (FirmIn fresh.made s.bound)) (ItemOf (FirmIn fresh.made s.bound)) (λ i a. a.0) (body_of p k n) (body-sides (FirmIn fresh.made s.bound) p k n (λ z a b. kinded-firm fresh z (new.fresh z a (omega (arith, b, long))))))))
         (tt, tt);
-    shows = λ v m. none-left v _ m;
+    shows = λ v m. none-left v;
     more_lines = line.Pos l.atom k (new_parts n (vars_of_clause p k)) (length (body_of p k n)) ∷ [];
     lines = refl;
     told = (tt, tt);

@@ -137,7 +137,7 @@ module _ (p : Program) (s : State) (t : Task) (rest : List Task) (e : s.work ≡
   work-left = (subst (Each (TaskFits p s.made s.bound)) e h.work).1
 
   -- with the cover c, of these bound variables, and one line
-  opened : Cover → State
+  abbrev pub opened : Cover → State
   opened c = record s { covers = c ∷ s.covers; cases = suc s.cases; lines = []; work = rest }
 
   module _ (c : Cover) (universals : c.universals ≡ []) (region : c.region ≡ []) (waiting : c.waiting ≡ []) (bound : AreBound p s.bound c.clause c.first) (before_it : c.before ≡ s.lines) where

@@ -40,11 +40,20 @@ pub pairs-right : (ts us : Tms) (z : ℕ) → length (items ts) ≡ length (item
 pairs-right nil nil z e f = f
 pairs-right nil (cons u us) z e f = absurd (omega (arith, e))
 pairs-right (cons t ts) nil z e f = absurd (omega (arith, e))
-pairs-right (cons t ts) (cons u us) z e f = by (or_cases (occurs z u) (occurs_among z us) f)
+pairs-right (cons t ts) (cons u us) z e f = by (pairs-right ts us z (omega (arith, e))) (or_cases (occurs z u) (occurs_among z us) f)
   where
-    by : (occurs z u ≡ true) ⊎ (occurs_among z us ≡ true) → (occurs z (tm_of (term_with u)) || in_rights (pairs ts us) z) ≡ true
-    by (inl g) = or_left (occurs z (tm_of (term_with u))) (in_rights (pairs ts us) z) (ap (occurs z) (viewed u) ∙ g)
-    by (inr g) = or_right (occurs z (tm_of (term_with u))) (in_rights (pairs ts us) z) (pairs-right ts us z (omega (arith, e)) g)
+    by : (occurs_among z us ≡ true → in_rights (pairs ts us) z ≡ true) → (occurs z u ≡ true) ⊎ (occurs_among z us ≡ true) → (occurs z (tm_of (term_with u)) || in_rights (pairs ts us) z) ≡ true
+    by rec (inl g) = or_left (occurs z (tm_of (term_with u))) (in_rights (pairs ts us) z) (ap (occurs z) (viewed u) ∙ g)
+    by rec (inr g) = or_right (occurs z (tm_of (term_with u))) (in_rights (pairs ts us) z) (rec g)
+
+names-right : (z h g : ℕ) (ts us : Tms) → occurs_among z us ≡ true → (length (items ts) ≡ length (items us) → in_rights (all_pairs_of ts us) z ≡ true)
+    → (b : Bool) → (nat_eq h g && nat_eq (length (items ts)) (length (items us))) ≡ b → in_rights (if b then all_pairs_of ts us else pair (app h ts) (app g us) ∷ []) z ≡ true
+names-right z h g ts us e rec true k = rec (eqb-true (length (items ts)) (length (items us)) (and_parts (nat_eq h g) (nat_eq (length (items ts)) (length (items us))) k).1)
+names-right z h g ts us e rec false k = one-right (app h ts) (app g us) z e
+
+either-right : (z : ℕ) (ps qs : List Pair) (a b : Bool) → (a ≡ true → in_rights ps z ≡ true) → (b ≡ true → in_rights qs z ≡ true) → (a || b) ≡ true → (in_rights ps z || in_rights qs z) ≡ true
+either-right z ps qs true b f g e = or_left (in_rights ps z) (in_rights qs z) (f refl)
+either-right z ps qs false b f g e = or_right (in_rights ps z) (in_rights qs z) (g e)
 
 -- what the first term does not have
 mutual
@@ -63,11 +72,6 @@ mutual
   kept-right z (app h ts) (num r) e f = absurd (true≢false (sym e))
   kept-right z (app h ts) (app g us) e f = names-right z h g ts us e (λ l. kept-rights z ts us l e f) (nat_eq h g && nat_eq (length (items ts)) (length (items us))) refl
 
-  names-right : (z h g : ℕ) (ts us : Tms) → occurs_among z us ≡ true → (length (items ts) ≡ length (items us) → in_rights (all_pairs_of ts us) z ≡ true)
-      → (b : Bool) → (nat_eq h g && nat_eq (length (items ts)) (length (items us))) ≡ b → in_rights (if b then all_pairs_of ts us else pair (app h ts) (app g us) ∷ []) z ≡ true
-  names-right z h g ts us e rec true k = rec (eqb-true (length (items ts)) (length (items us)) (and_parts (nat_eq h g) (nat_eq (length (items ts)) (length (items us))) k).1)
-  names-right z h g ts us e rec false k = one-right (app h ts) (app g us) z e
-
   kept-rights : (z : ℕ) (ts us : Tms) → length (items ts) ≡ length (items us) → occurs_among z us ≡ true → occurs_among z ts ≡ false → in_rights (all_pairs_of ts us) z ≡ true
   kept-rights z nil nil l e f = absurd (true≢false (sym e))
   kept-rights z nil (cons u us) l e f = absurd (omega (arith, l))
@@ -77,9 +81,10 @@ mutual
       rights-append (pairs_of t u) (all_pairs_of ts us) z
       ∙ either-right z (pairs_of t u) (all_pairs_of ts us) (occurs z u) (occurs_among z us) (λ g. kept-right z t u g p.0) (λ g. kept-rights z ts us (omega (arith, l)) g p.1) e
 
-  either-right : (z : ℕ) (ps qs : List Pair) (a b : Bool) → (a ≡ true → in_rights ps z ≡ true) → (b ≡ true → in_rights qs z ≡ true) → (a || b) ≡ true → (in_rights ps z || in_rights qs z) ≡ true
-  either-right z ps qs true b f g e = or_left (in_rights ps z) (in_rights qs z) (f refl)
-  either-right z ps qs false b f g e = or_right (in_rights ps z) (in_rights qs z) (g e)
+
+among-under : (a b c d : Bool) → (a ≡ true → c ≡ true) → (b ≡ true → d ≡ true) → (a || b) ≡ true → (c || d) ≡ true
+among-under true b c d f g e = or_left c d (f refl)
+among-under false b c d f g e = or_right c d (g e)
 
 mutual
   occurs-under : (v : Sub) (z : ℕ) → v z ≡ var z → (t : Tm) → occurs z t ≡ true → occurs z (under v t) ≡ true
@@ -91,9 +96,6 @@ mutual
   occurs-all-under v z s nil e = absurd (true≢false (sym e))
   occurs-all-under v z s (cons t ts) e = among-under (occurs z t) (occurs_among z ts) (occurs z (under v t)) (occurs_among z (all_under v ts)) (occurs-under v z s t) (occurs-all-under v z s ts) e
 
-  among-under : (a b c d : Bool) → (a ≡ true → c ≡ true) → (b ≡ true → d ≡ true) → (a || b) ≡ true → (c || d) ≡ true
-  among-under true b c d f g e = or_left c d (f refl)
-  among-under false b c d f g e = or_right c d (g e)
 
 -- ---- the first pair that comes to something
 
@@ -168,7 +170,7 @@ covers-clause p a k c e f g = by c.head refl
         arity : length (items a.args) ≡ length (items h.args)
         arity =
             eqb-true (length (items a.args)) (length (items h.args))
-            (and_parts (nat_eq a.name h.name) (nat_eq (length (items a.args)) (length (items h.args))) (and_parts (same_bool a.minus h.minus) (nat_eq a.name h.name && nat_eq (length (items a.args)) (length (items h.args))) same).1).1
+            (and_parts (same_bool a.minus h.minus && nat_eq a.name h.name) (nat_eq (length (items a.args)) (length (items h.args))) same).1
 
         args : (first : ℕ) → head_args p k first ≡ all_under (raised first) h.args
         args first = ap (λ (o : Option Clause). all_under (raised first) (args_in o)) e ∙ ap (λ (o : Option Atom). all_under (raised first) (args_in (Some (record c { head = o })))) d
@@ -190,16 +192,15 @@ covers-clause p a k c e f g = by c.head refl
 
 rules-cover : (p : Program) (a : Atom) (before cs : List Clause) → p.clauses ≡ before ++ cs → list_all is_headed cs ≡ true → Each (Covers p a) (rules_from (length before + 1) cs (pred_of a))
 rules-cover p a before [] e h = tt
-rules-cover p a before (c ∷ cs) e h = by (is_rule_of (pred_of a) c) refl rest
+rules-cover p a before (c ∷ cs) e h =
+    by (is_rule_of (pred_of a) c) refl
+    (subst (λ (n : ℕ). Each (Covers p a) (rules_from n cs (pred_of a))) next (rules-cover p a (before ++ c ∷ []) cs (e ∙ sym (append_assoc before (c ∷ []) cs)) q.1))
   where
     q : (is_headed c ≡ true) × (list_all is_headed cs ≡ true)
     q = and_parts (is_headed c) (list_all is_headed cs) h
 
     next : length (before ++ c ∷ []) + 1 ≡ (length before + 1) + 1
     next = ap (λ (n : ℕ). n + 1) (length-append before (c ∷ []))
-
-    rest : Each (Covers p a) (rules_from ((length before + 1) + 1) cs (pred_of a))
-    rest = subst (λ (n : ℕ). Each (Covers p a) (rules_from n cs (pred_of a))) next (rules-cover p a (before ++ c ∷ []) cs (e ∙ sym (append_assoc before (c ∷ []) cs)) q.1)
 
     here : numbered p.clauses (length before + 1) ≡ Some c
     here = ap (numbered p.clauses) plus ∙ ap (λ (ds : List Clause). slice_get ds (length before)) e ∙ got before

@@ -108,6 +108,16 @@ parts-many k (suc n) = ap suc (parts-many (suc k) n)
 one-equal : (v : Sub) (t u : Tm) → PairEqual v (pair t u) → under v t ≡ under v u
 one-equal v t u h = ap (under v) (sym (viewed t)) ∙ h ∙ ap (under v) (viewed u)
 
+names-equal : (v : Sub) (f g : ℕ) (ts us : Tms) → (length (items ts) ≡ length (items us) → Each (PairEqual v) (all_pairs_of ts us) → all_under v ts ≡ all_under v us)
+    → (b : Bool) → (nat_eq f g && nat_eq (length (items ts)) (length (items us))) ≡ b → Each (PairEqual v) (if b then all_pairs_of ts us else pair (app f ts) (app g us) ∷ [])
+    → app f (all_under v ts) ≡ app g (all_under v us)
+names-equal v f g ts us rec true e k =
+    let q = and_parts (nat_eq f g) (nat_eq (length (items ts)) (length (items us))) e in
+    let name : f ≡ g = eqb-true f g q.0 in
+    let args : all_under v ts ≡ all_under v us = rec (eqb-true (length (items ts)) (length (items us)) q.1) k in
+    λ i. app (name i) (args i)
+names-equal v f g ts us rec false e k = k.0
+
 -- the pairs that two terms come to are equal only where the terms are
 mutual
   pub pairs-equal : (v : Sub) (t u : Tm) → Each (PairEqual v) (pairs_of t u) → under v t ≡ under v u
@@ -129,16 +139,6 @@ mutual
   pairs-equal v (app f ts) (num r) h = h.0
   pairs-equal v (app f ts) (app g us) h =
       names-equal v f g ts us (all-pairs-equal v ts us) (nat_eq f g && nat_eq (length (items ts)) (length (items us))) refl h
-
-  names-equal : (v : Sub) (f g : ℕ) (ts us : Tms) → (length (items ts) ≡ length (items us) → Each (PairEqual v) (all_pairs_of ts us) → all_under v ts ≡ all_under v us)
-      → (b : Bool) → (nat_eq f g && nat_eq (length (items ts)) (length (items us))) ≡ b → Each (PairEqual v) (if b then all_pairs_of ts us else pair (app f ts) (app g us) ∷ [])
-      → app f (all_under v ts) ≡ app g (all_under v us)
-  names-equal v f g ts us rec true e k =
-      let q = and_parts (nat_eq f g) (nat_eq (length (items ts)) (length (items us))) e in
-      let name : f ≡ g = eqb-true f g q.0 in
-      let args : all_under v ts ≡ all_under v us = rec (eqb-true (length (items ts)) (length (items us)) q.1) k in
-      λ i. app (name i) (args i)
-  names-equal v f g ts us rec false e k = k.0
 
   all-pairs-equal : (v : Sub) (ts us : Tms) → length (items ts) ≡ length (items us) → Each (PairEqual v) (all_pairs_of ts us) → all_under v ts ≡ all_under v us
   all-pairs-equal v nil nil e h = refl

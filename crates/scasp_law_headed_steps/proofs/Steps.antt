@@ -185,22 +185,22 @@ module _ (p : Program) (s : State) (solved : Solved (length s.made) s.bound) (bi
         where
           by : (a : Aim) → aim ≡ a → AimFits p s.bound a (λ z. occurs z u || in_rights rest z) → AimFits p s.bound a (in_rights rest)
           by aims.Test e k = tt
-          by (aims.Head k first) e f z l m = one (f z l m)
+          by (aims.Head k first) e f = λ z l m. one z l m (f z l m)
             where
-              one : (is_bound_in s.bound z ≡ true) ⊎ ((occurs z u || in_rights rest z) ≡ true) → (is_bound_in s.bound z ≡ true) ⊎ (in_rights rest z ≡ true)
-              one (inl b) = inl b
-              one (inr b) = inr (ap (λ (i : Bool). i || in_rights rest z) (sym (none k first e z l m)) ∙ b)
+              one : (z : ℕ) → first ≤ z → z < first + vars_of_clause p k → (is_bound_in s.bound z ≡ true) ⊎ ((occurs z u || in_rights rest z) ≡ true) → (is_bound_in s.bound z ≡ true) ⊎ (in_rights rest z ≡ true)
+              one z l m (inl b) = inl b
+              one z l m (inr b) = inr (ap (λ (i : Bool). i || in_rights rest z) (sym (none k first e z l m)) ∙ b)
 
       anywhere : (ts : Tms) → AimFits p s.bound aim (in_rights rest) → AimFits p s.bound aim (λ z. occurs_among z ts || in_rights rest z)
       anywhere ts g = by aim g
         where
           by : (a : Aim) → AimFits p s.bound a (in_rights rest) → AimFits p s.bound a (λ z. occurs_among z ts || in_rights rest z)
           by aims.Test k = tt
-          by (aims.Head k first) f z l m = one (f z l m)
+          by (aims.Head k first) f = λ z l m. one z (f z l m)
             where
-              one : (is_bound_in s.bound z ≡ true) ⊎ (in_rights rest z ≡ true) → (is_bound_in s.bound z ≡ true) ⊎ ((occurs_among z ts || in_rights rest z) ≡ true)
-              one (inl b) = inl b
-              one (inr b) = inr (or_right (occurs_among z ts) (in_rights rest z) b)
+              one : (z : ℕ) → (is_bound_in s.bound z ≡ true) ⊎ (in_rights rest z ≡ true) → (is_bound_in s.bound z ≡ true) ⊎ ((occurs_among z ts || in_rights rest z) ≡ true)
+              one z (inl b) = inl b
+              one z (inr b) = inr (or_right (occurs_among z ts) (in_rights rest z) b)
 
       -- the variables of the head, if one is being matched
       module _ (heads : (k first : ℕ) → aim ≡ aims.Head k first → (z : ℕ) → first ≤ z → z < first + vars_of_clause p k → is_loose s z ≡ true) where
@@ -246,15 +246,15 @@ module _ (p : Program) (s : State) (solved : Solved (length s.made) s.bound) (bi
 
             by : (i : Aim) → AimFits p s.bound i (λ z. nat_eq z y || in_rights rest z) → AimFits p (s.bound ++ binding y a ∷ []) i (in_rights rest)
             by aims.Test k = tt
-            by (aims.Head k first) f z m n = one (f z m n)
+            by (aims.Head k first) f = λ z m n. one z (f z m n)
               where
-                here : (nat_eq z y ≡ true) ⊎ (in_rights rest z ≡ true) → (is_bound_in (s.bound ++ binding y a ∷ []) z ≡ true) ⊎ (in_rights rest z ≡ true)
-                here (inl e) = inl (bound-push s.bound (binding y a) z ∙ or_right (is_bound_in s.bound z) (nat_eq y z) (eq-eqb y z (sym (eqb-true z y e))))
-                here (inr e) = inr e
+                here : (z : ℕ) → (nat_eq z y ≡ true) ⊎ (in_rights rest z ≡ true) → (is_bound_in (s.bound ++ binding y a ∷ []) z ≡ true) ⊎ (in_rights rest z ≡ true)
+                here z (inl e) = inl (bound-push s.bound (binding y a) z ∙ or_right (is_bound_in s.bound z) (nat_eq y z) (eq-eqb y z (sym (eqb-true z y e))))
+                here z (inr e) = inr e
 
-                one : (is_bound_in s.bound z ≡ true) ⊎ ((nat_eq z y || in_rights rest z) ≡ true) → (is_bound_in (s.bound ++ binding y a ∷ []) z ≡ true) ⊎ (in_rights rest z ≡ true)
-                one (inl e) = inl (still-bound s.bound (binding y a) z e)
-                one (inr e) = here (or_cases (nat_eq z y) (in_rights rest z) e)
+                one : (z : ℕ) → (is_bound_in s.bound z ≡ true) ⊎ ((nat_eq z y || in_rights rest z) ≡ true) → (is_bound_in (s.bound ++ binding y a ∷ []) z ≡ true) ⊎ (in_rights rest z ≡ true)
+                one z (inl e) = inl (still-bound s.bound (binding y a) z e)
+                one z (inr e) = here z (or_cases (nat_eq z y) (in_rights rest z) e)
 
         first-moves : (a b : Tm) → EachVar (Found s) a → EachVar (Free (length s.made) s.bound) b → Apart a b → AimFits p s.bound aim (λ z. occurs z b || in_rights rest z)
             → EachState (Moves p s t) (differ_first sat s a b rest aim).states
@@ -316,20 +316,17 @@ module _ (p : Program) (s : State) (solved : Solved (length s.made) s.bound) (bi
 
       by : (a : Aim) → aim ≡ a → AimFits p s.bound a (in_rights ps) → AimFits p s.bound a (in_rights (from_first (meaning s) ps))
       by aims.Test e k = tt
-      by (aims.Head k first) e i z l m = one (is_bound_in s.bound z) refl (i z l m)
+      by (aims.Head k first) e i = λ z l m. one z l m (is_bound_in s.bound z) refl (i z l m)
         where
-          loose : is_loose s z ≡ true
-          loose = heads k first e z l m
-
-          absent : Each (λ o. occurs z (under (meaning s) (tm_of o.left)) ≡ false) ps
-          absent =
+          absent : (z : ℕ) → first ≤ z → z < first + vars_of_clause p k → Each (λ o. occurs z (under (meaning s) (tm_of o.left)) ≡ false) ps
+          absent z l m =
               Each-map (λ (o : Pair). EachVar (Found s) (under (meaning s) (tm_of o.left)) × EachVar (Free (length s.made) s.bound) (under (meaning s) (tm_of o.right))) (λ o. occurs z (under (meaning s) (tm_of o.left)) ≡ false)
-              (λ o q. each-absent z (under (meaning s) (tm_of o.left)) (each-weaker (Found s) (λ y. y ≢ z) (λ y w c. true≢false (sym loose ∙ ap (is_loose s) (sym c) ∙ w.0.1)) (under (meaning s) (tm_of o.left)) q.0)) ps both
+              (λ o q. each-absent z (under (meaning s) (tm_of o.left)) (each-weaker (Found s) (λ y. y ≢ z) (λ y w c. true≢false (sym (heads k first e z l m) ∙ ap (is_loose s) (sym c) ∙ w.0.1)) (under (meaning s) (tm_of o.left)) q.0)) ps both
 
-          one : (b : Bool) → is_bound_in s.bound z ≡ b → (is_bound_in s.bound z ≡ true) ⊎ (in_rights ps z ≡ true) → (is_bound_in s.bound z ≡ true) ⊎ (in_rights (from_first (meaning s) ps) z ≡ true)
-          one true c d = inl c
-          one false c (inl d) = inl d
-          one false c (inr d) = inr (first-rights (meaning s) z (unbound-self s.bound z c) ps absent d)
+          one : (z : ℕ) → first ≤ z → z < first + vars_of_clause p k → (b : Bool) → is_bound_in s.bound z ≡ b → (is_bound_in s.bound z ≡ true) ⊎ (in_rights ps z ≡ true) → (is_bound_in s.bound z ≡ true) ⊎ (in_rights (from_first (meaning s) ps) z ≡ true)
+          one z l m true c d = inl c
+          one z l m false c (inl d) = inl d
+          one z l m false c (inr d) = inr (first-rights (meaning s) z (unbound-self s.bound z c) ps (absent z l m) d)
 
   pub become-moves : (x : ℕ) (t : Term) (rest : List Pair) (aim : Aim) → Found s x → EachVar (Found s) (tm_of t) → Apart (var x) (tm_of t) → AimFits p s.bound aim (in_rights rest)
       → EachState (Moves p s (task.Become x t rest aim)) (same_value sat s x (tm_of t) rest aim).states
@@ -351,19 +348,19 @@ module _ (p : Program) (s : State) (solved : Solved (length s.made) s.bound) (bi
     where
       by : (i : Aim) → AimFits p s.bound i (λ z. occurs_among z us || in_rights rest z) → AimFits p s.bound i (in_rights (pairs (new_parts (next_variable s) (length (items us))) us ++ rest))
       by aims.Test k = tt
-      by (aims.Head k first) k2 z l m = one (k2 z l m)
+      by (aims.Head k first) f2 = λ z l m. one z (f2 z l m)
         where
-          there : (occurs_among z us ≡ true) ⊎ (in_rights rest z ≡ true) → in_rights (pairs (new_parts (next_variable s) (length (items us))) us ++ rest) z ≡ true
-          there (inl e) =
+          there : (z : ℕ) → (occurs_among z us ≡ true) ⊎ (in_rights rest z ≡ true) → in_rights (pairs (new_parts (next_variable s) (length (items us))) us ++ rest) z ≡ true
+          there z (inl e) =
               rights-append (pairs (new_parts (next_variable s) (length (items us))) us) rest z
               ∙ or_left (in_rights (pairs (new_parts (next_variable s) (length (items us))) us) z) (in_rights rest z) (pairs-right (new_parts (next_variable s) (length (items us))) us z (parts-many (next_variable s) (length (items us))) e)
-          there (inr e) =
+          there z (inr e) =
               rights-append (pairs (new_parts (next_variable s) (length (items us))) us) rest z
               ∙ or_right (in_rights (pairs (new_parts (next_variable s) (length (items us))) us) z) (in_rights rest z) e
 
-          one : (is_bound_in s.bound z ≡ true) ⊎ ((occurs_among z us || in_rights rest z) ≡ true) → (is_bound_in s.bound z ≡ true) ⊎ (in_rights (pairs (new_parts (next_variable s) (length (items us))) us ++ rest) z ≡ true)
-          one (inl e) = inl e
-          one (inr e) = inr (there (or_cases (occurs_among z us) (in_rights rest z) e))
+          one : (z : ℕ) → (is_bound_in s.bound z ≡ true) ⊎ ((occurs_among z us || in_rights rest z) ≡ true) → (is_bound_in s.bound z ≡ true) ⊎ (in_rights (pairs (new_parts (next_variable s) (length (items us))) us ++ rest) z ≡ true)
+          one z (inl e) = inl e
+          one z (inr e) = inr (there z (or_cases (occurs_among z us) (in_rights rest z) e))
 
   pub assume-moves : (c : Con) → ConAll (Firm s) c → NoRow c → EachState (Moves p s (task.Assume c)) (assume sat s c).states
   assume-moves c a n =

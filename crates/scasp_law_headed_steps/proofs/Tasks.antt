@@ -67,11 +67,11 @@ module _ (p : Program) where
 
   pub aim-later : (bs cs : List Binding) → ((z : ℕ) → is_bound_in bs z ≡ true → is_bound_in cs z ≡ true) → (aim : Aim) (there : ℕ → Bool) → AimFits bs aim there → AimFits cs aim there
   aim-later bs cs f aims.Test there h = tt
-  aim-later bs cs f (aims.Head k first) there h z l m = by (h z l m)
+  aim-later bs cs f (aims.Head k first) there h = λ z l m. by z (h z l m)
     where
-      by : (is_bound_in bs z ≡ true) ⊎ (there z ≡ true) → (is_bound_in cs z ≡ true) ⊎ (there z ≡ true)
-      by (inl e) = inl (f z e)
-      by (inr e) = inr e
+      by : (z : ℕ) → (is_bound_in bs z ≡ true) ⊎ (there z ≡ true) → (is_bound_in cs z ≡ true) ⊎ (there z ≡ true)
+      by z (inl e) = inl (f z e)
+      by z (inr e) = inr e
 
   module _ (s r : State) (o : Onto s r) (more : (z : ℕ) → is_bound_in s.bound z ≡ true → is_bound_in r.bound z ≡ true) where
     pub task-later : (t : Task) → TaskFits s.made s.bound t → TaskFits r.made r.bound t
