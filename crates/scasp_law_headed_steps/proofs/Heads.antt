@@ -81,7 +81,6 @@ mutual
       rights-append (pairs_of t u) (all_pairs_of ts us) z
       ∙ either-right z (pairs_of t u) (all_pairs_of ts us) (occurs z u) (occurs_among z us) (λ g. kept-right z t u g p.0) (λ g. kept-rights z ts us (omega (arith, l)) g p.1) e
 
-
 among-under : (a b c d : Bool) → (a ≡ true → c ≡ true) → (b ≡ true → d ≡ true) → (a || b) ≡ true → (c || d) ≡ true
 among-under true b c d f g e = or_left c d (f refl)
 among-under false b c d f g e = or_right c d (g e)
@@ -95,7 +94,6 @@ mutual
   occurs-all-under : (v : Sub) (z : ℕ) → v z ≡ var z → (ts : Tms) → occurs_among z ts ≡ true → occurs_among z (all_under v ts) ≡ true
   occurs-all-under v z s nil e = absurd (true≢false (sym e))
   occurs-all-under v z s (cons t ts) e = among-under (occurs z t) (occurs_among z ts) (occurs z (under v t)) (occurs_among z (all_under v ts)) (occurs-under v z s t) (occurs-all-under v z s ts) e
-
 
 -- ---- the first pair that comes to something
 

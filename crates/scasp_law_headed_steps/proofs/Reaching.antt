@@ -20,7 +20,6 @@ use Rattle.scasp_law_parts.proofs.BoundLemmas.{absorbed}
 use Rattle.scasp_law_parts.proofs.TriangularLemmas.{solved-self}
 use Rattle.scasp_law_parts.specs.Bound.{Triangular}
 use Rattle.scasp_law_sorted.proofs.Evenness.{Bare, Tame, even-new}
-use Rattle.scasp_law_sorted.proofs.Numbers.{reads}
 use Rattle.scasp_law_sorted.proofs.Reaching.{asked-decided}
 use Rattle.scasp_law_sorted.specs.Asking.{ComesPlainly, asked_next, begins as at_start, goes_on, has_universal_made}
 use Rattle.scasp_list.proofs.EachLemmas.{Each-append, Each-from_test, Each-left, Each-map}
@@ -35,7 +34,7 @@ use Rattle.scasp_search_rules.specs.Successors.Equations.{equate_terms}
 use Rattle.scasp_search_rules.specs.Successors.Falls.{EachState}
 use Rattle.scasp_search_rules.specs.Successors.Items.{show_test, with_line}
 use Rattle.scasp_search_rules.specs.Successors.Problems.{Problem}
-use Rattle.scasp_search_rules.specs.Successors.Regions.{before, equation}
+use Rattle.scasp_search_rules.specs.Successors.Regions.{equation}
 use Rattle.scasp_search_rules.specs.Successors.Search.{done, nothing, search_for, start, step, step_at}
 use Rattle.scasp_search_rules.specs.Successors.Splits.{is_bound_in}
 use Rattle.scasp_search_rules.specs.Successors.Variables.{is_kind_matched, is_kind_universal, meaning, with_new}

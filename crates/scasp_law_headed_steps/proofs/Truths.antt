@@ -3,7 +3,6 @@ use Rattle.std.specs.Prelude.{Bool, List, None, Option, Some, [], false, not, tr
 use Rattle.std.proofs.Common.{ap, arith, is_none, pos, refl, sym, ◌*ℤ◌, ◌+ℤ◌, ◌∙◌}
 use Rattle.std.proofs.lemmas.Bool.{true≢false}
 use Rattle.std.proofs.lemmas.Int.{ints}
-use Rattle.scasp_law_no_circle.proofs.Tasks.{plain}
 use Rattle.scasp_law_parts.proofs.BoundLemmas.{absorbed}
 use Rattle.scasp_law_parts.proofs.ReadLemmas.{con-read}
 use Rattle.scasp_law_parts.proofs.TriangularLemmas.{solved-self}

@@ -1,9 +1,8 @@
 -- Programs to which the laws apply, and one to which they do not, with their searches computed.
-use Rattle.std.specs.Prelude.{◌≡◌, ℕ, zero, suc, Bool, true, false, ◌&&◌, ◌||◌, not, None, List, [], ◌∷◌, ◌++◌, pos, negsuc}
+use Rattle.std.specs.Prelude.{◌≡◌, ℕ, zero, suc, Bool, true, false, ◌||◌, None, List, [], ◌∷◌, ◌++◌, pos, negsuc}
 use Rattle.std.specs.List.{list_any}
 use Rattle.std.proofs.Common.{refl}
 use Rattle.scasp_checker_rules.specs.ExampleWords.{program, row}
-use Rattle.scasp_hint.specs.Satisfying.{sat}
 use Rattle.scasp_lines.specs.Samples.{ask, atom, constant, one, is_true, is_not, rule}
 use Rattle.scasp_num.specs.Arithmetic.{IsReduced-from_test}
 use Rattle.scasp_num.specs.Gcd.{gcd, gcd_within}
