@@ -3,6 +3,7 @@ use Rattle.std.specs.List.{list_all}
 use Rattle.std.specs.Prelude.{Bool, List, None, Option, Some, [], false, filter, if◌then◌else◌, length, map, not, true, ℕ, ◌&&◌, ◌++◌, ◌+◌, ◌∷◌, ◌≡◌}
 use Rattle.std.proofs.Common.{arith, inr, refl, subst, sym}
 use Rattle.std.proofs.lemmas.List.{append-nil}
+use Rattle.std.proofs.lemmas.List.Elements.{Contains-push}
 use Rattle.scasp_hint.specs.Satisfying.{sat}
 use Rattle.scasp_law_first_event.proofs.Bindings.{Solved}
 use Rattle.scasp_law_first_event.proofs.Calls.{at-number-each, each-of}
@@ -49,6 +50,7 @@ use Rattle.scasp_law_headed_steps.proofs.Assuming.{Kept, KeptAt, assume-each}
 use Rattle.scasp_law_headed_steps.proofs.Bodies.{ItemOf, SidesOf, body-sides}
 use Rattle.scasp_law_headed_steps.proofs.Forms.{ConAll, all-con-weaker}
 use Rattle.scasp_law_headed_steps.proofs.Heads.{Covers, headed-covers, pairs-right}
+use Rattle.scasp_law_headed_steps.proofs.Joining.{args-equal}
 use Rattle.scasp_law_headed_steps.proofs.Tasks.{Moves, Named, TaskFits, Tells, equations-fit, settles}
 use Rattle.scasp_law_headed_steps.specs.Calm.{holds_of, left_by, left_of}
 use Rattle.scasp_law_headed_steps.specs.Headed.{is_headed}
@@ -65,7 +67,7 @@ module _ (p : Program) (s : State) (t : Task) (empty : left_by t ≡ []) (gs : L
   none-left v = subst (λ (ds : List Con). Meets v.of ds) (sym empty) refl
 
   -- with a line of which nothing is said, and other literals
-  told-moves : (l : Line) → ((cs : List Con) → Tells cs l) → (xs : List Literal) → (Each Named s.literals → Each Named xs) → (ts : List Task) → Each (TaskFits p s.made s.bound) ts
+  told-moves : (l : Line) → ((cs : List Con) → Tells cs l) → (xs : List Literal) → (Each Named s.literals → Each Named xs) → (ts : List Task) → Each (TaskFits p s.made s.bound (s.lines ++ l ∷ [])) ts
       → Moves p s t (record s { given = s.given ++ gs; literals = xs; lines = s.lines ++ l ∷ []; work = ts ++ s.work })
   told-moves l f xs named ts fit =
       settles p s t gs (s.given ++ gs) refl kept xs named (l ∷ []) (s.lines ++ l ∷ []) refl ts (ts ++ s.work) refl fit (λ v m. none-left v)
@@ -91,19 +93,22 @@ module _ (p : Program) (s : State) (t : Task) (empty : left_by t ≡ []) (gs : L
     tasks = (equations_of (pairs l.atom.args (head_args p k n)) ++ map task.Show (body_of p k n)) ++ task.Leave ∷ [];
     work = refl;
     fit =
-        Each-append (TaskFits p fresh.made s.bound) (equations_of (pairs l.atom.args (head_args p k n)) ++ map task.Show (body_of p k n)) (task.Leave ∷ [])
-        (Each-append (TaskFits p fresh.made s.bound) (equations_of (pairs l.atom.args (head_args p k n))) (map task.Show (body_of p k n)) (equations-fit p fresh.made s.bound (pairs l.atom.args (head_args p k n)))
-        (Each-mapped (TaskFits p fresh.made s.bound) task.Show (body_of p k n)
+        Each-append (TaskFits p fresh.made s.bound (s.lines ++ told ∷ [])) (equations_of (pairs l.atom.args (head_args p k n)) ++ map task.Show (body_of p k n)) (task.Leave ∷ [])
+        (Each-append (TaskFits p fresh.made s.bound (s.lines ++ told ∷ [])) (equations_of (pairs l.atom.args (head_args p k n))) (map task.Show (body_of p k n)) (equations-fit p fresh.made s.bound (s.lines ++ told ∷ []) (pairs l.atom.args (head_args p k n)))
+        (Each-mapped (TaskFits p fresh.made s.bound (s.lines ++ told ∷ [])) task.Show (body_of p k n)
         (Each-map (SidesOf (FirmIn fresh.made s.bound)) (ItemOf (FirmIn fresh.made s.bound)) (λ i a. a.0) (body_of p k n) (body-sides (FirmIn fresh.made s.bound) p k n (λ z a b. kinded-firm fresh z (new.fresh z a (omega (arith, b, long))))))))
         (tt, tt);
     shows = λ v m. none-left v;
-    more_lines = line.Pos l.atom k (new_parts n (vars_of_clause p k)) (length (body_of p k n)) ∷ [];
+    more_lines = told ∷ [];
     lines = refl;
     told = (tt, tt);
   }
     where
       n : ℕ
       n = length s.made
+
+      told : Line
+      told = line.Pos l.atom k (new_parts n (vars_of_clause p k)) (length (body_of p k n))
 
       fresh : State
       fresh = with_new u Existential (length s.covers) (vars_of_clause p k)
@@ -117,14 +122,14 @@ module _ (p : Program) (s : State) (t : Task) (empty : left_by t ≡ []) (gs : L
       long : length (with_new u Existential (length s.covers) (vars_of_clause p k)).made ≡ length s.made + vars_of_clause p k
       long = new-length u Existential (length s.covers) (vars_of_clause p k)
 
-  covers-fit : (a : Atom) (ks : List ℕ) → Each (Covers p a) ks → Each (TaskFits p s.made s.bound) (map (task.Cover a) ks)
-  covers-fit a [] c = tt
-  covers-fit a (k ∷ ks) c = (c.0, covers-fit a ks c.1)
+  covers-fit : (ls : List Line) (a : Atom) (ks : List ℕ) → Each (Covers p a) ks → Each (TaskFits p s.made s.bound ls) (map (task.Cover a) ks)
+  covers-fit ls a [] c = tt
+  covers-fit ls a (k ∷ ks) c = (c.0, covers-fit ls a ks c.1)
 
   no-rule-moves : (l : Lit) → Each (Covers p l.atom) (rules_of p (pred_of l.atom)) → Moves p s t (by_no_rule p (record s { given = s.given ++ gs }) l)
   no-rule-moves l c =
       told-moves (line.Neg l.atom (length (rules_of p (pred_of l.atom)))) (λ cs. tt) _ (λ h. Each-append Named s.literals _ h (refl, tt)) (map (task.Cover l.atom) (rules_of p (pred_of l.atom)) ++ task.Leave ∷ [])
-      (Each-append (TaskFits p s.made s.bound) (map (task.Cover l.atom) (rules_of p (pred_of l.atom))) (task.Leave ∷ []) (covers-fit l.atom (rules_of p (pred_of l.atom)) c) (tt, tt))
+      (Each-append (TaskFits p s.made s.bound (s.lines ++ line.Neg l.atom (length (rules_of p (pred_of l.atom))) ∷ [])) (map (task.Cover l.atom) (rules_of p (pred_of l.atom))) (task.Leave ∷ []) (covers-fit (s.lines ++ line.Neg l.atom (length (rules_of p (pred_of l.atom))) ∷ []) l.atom (rules_of p (pred_of l.atom)) c) (tt, tt))
 
   entered-moves : (l : Lit) → Each (Covers p l.atom) (rules_of p (pred_of l.atom)) → EachState (Moves p s t) (entered p (record s { given = s.given ++ gs }) l)
   entered-moves l c = by l.positive
@@ -230,7 +235,17 @@ module _ (p : Program) (headed : list_all is_headed p.clauses ≡ true) (s : Sta
     named = λ m. m;
     tasks = task.Differ (pairs a.args (head_args p k (length s.made))) (aims.Head k (length s.made)) ∷ [];
     work = refl;
-    fit = ((λ z l m. inr (pairs-right a.args (head_args p k (length s.made)) z (c.many (length s.made)) (c.all (length s.made) z l m))), tt);
+    fit = (
+      (
+        (λ z l m. inr (pairs-right a.args (head_args p k (length s.made)) z (c.many (length s.made)) (c.all (length s.made) z l m))),
+        record {
+          atom = a;
+          told = Contains-push s.lines (line.Rule a k (length s.made));
+          reads = λ v e f. sym (args-equal v a.args (head_args p k (length s.made)) (c.many (length s.made)) f);
+        },
+      ),
+      tt,
+    );
     shows = λ v m. refl;
     more_lines = line.Rule a k (length s.made) ∷ [];
     lines = refl;

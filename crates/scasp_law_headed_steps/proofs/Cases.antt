@@ -1,8 +1,9 @@
 -- States, with their work, their covers, and what was told; and the steps that open and close a case.
-use Rattle.std.specs.List.{list_all, list_any}
+use Rattle.std.specs.List.{Contains, list_all, list_any}
 use Rattle.std.specs.Prelude.{Bool, List, None, Option, Some, [], false, if◌then◌else◌, length, map, not, true, zero, ℕ, ◌++◌, ◌+◌, ◌<◌, ◌∷◌, ◌≡◌, ◌≤◌}
 use Rattle.std.proofs.Common.{ap, arith, inr, refl, subst, suc, sym, ◌∙◌}
 use Rattle.std.proofs.lemmas.Bool.{or_from, true≢false}
+use Rattle.std.proofs.lemmas.List.Elements.{Contains-append_left, Contains-push}
 use Rattle.scasp_hint.specs.Satisfying.{sat}
 use Rattle.scasp_law_first_event.proofs.Calls.{each-of}
 use Rattle.scasp_law_first_event.proofs.EachStates.{each_append}
@@ -20,7 +21,7 @@ use Rattle.scasp_law_sorted.proofs.Rows.{read-of}
 use Rattle.scasp_list.proofs.EachLemmas.{Each-append, Each-map}
 use Rattle.scasp_list.specs.Each.{Each}
 use Rattle.scasp_num.specs.Linear.{IsNormal, Linear}
-use Rattle.scasp_search_rules.specs.Successors.Calls.{lit_under, vars_of_clause}
+use Rattle.scasp_search_rules.specs.Successors.Calls.{head_args, lit_under, vars_of_clause}
 use Rattle.scasp_search_rules.specs.Successors.Cases.{after_case, begin_cases, begin_cover, cases_of, cases_where, check_clause, close_case, cover_for, ended_case, failing_at, head_call, kept_literal, leaf_at, line_under, unbound, unbound_of, with_head, with_items}
 use Rattle.scasp_search_rules.specs.Successors.Falls.{EachState}
 use Rattle.scasp_search_rules.specs.Successors.Items.{body_of, with_line}
@@ -40,8 +41,8 @@ use Rattle.scasp_search_rules.specs.declared.states.tasks.Task.{Task}
 use Rattle.scasp_search_rules.specs.declared.states.tasks.Task.TheVariants as task
 use Rattle.scasp_syntax.specs.Constraints.{Meets, has_shape, holds, is_number}
 use Rattle.scasp_syntax.specs.Programs.{numbered}
-use Rattle.scasp_syntax.specs.Tm.{Tm, app, num, var}
-use Rattle.scasp_syntax.specs.Values.{Sub, Valuation, under}
+use Rattle.scasp_syntax.specs.Tm.{Tm, Tms, app, nil, num, var}
+use Rattle.scasp_syntax.specs.Values.{Sub, Valuation, all_under, under}
 use Rattle.scasp_syntax.specs.declared.atom.Atom.{Atom}
 use Rattle.scasp_syntax.specs.declared.clause.Clause.{Clause}
 use Rattle.scasp_syntax.specs.declared.clause.FlatItem.{FlatItem}
@@ -49,32 +50,61 @@ use Rattle.scasp_syntax.specs.declared.con.Con.{Con}
 use Rattle.scasp_syntax.specs.declared.con.Con.TheVariants as con
 use Rattle.scasp_syntax.specs.declared.program.Program.{Program}
 use Rattle.scasp_unify.proofs.ResolvedRowLemmas.{resolved}
+use Rattle.scasp_unify.proofs.UnificationLemmas.{resolved-twice}
 use Rattle.scasp_unify.specs.ResolvedRows.{resolved_row}
 use Rattle.scasp_unify.specs.SimpleForm.{term_with}
+use Rattle.scasp_unify.specs.Solving.{sub_of}
 use Rattle.scasp_unify.specs.Unification.{Absorbs, terms_vars}
 use Rattle.scasp_unify.specs.declared.bindings.Binding.{Binding}
 use Rattle.scasp_law_headed_steps.proofs.Assuming.{Kept}
 use Rattle.scasp_law_headed_steps.proofs.Bodies.{ItemOf, SidesOf, body-sides}
 use Rattle.scasp_law_headed_steps.proofs.Forms.{ConAll, all-con-weaker}
-use Rattle.scasp_law_headed_steps.proofs.Tasks.{Moves, Named, TaskFits, Tells, bound-more, left-append, meets-before, task-later, tells-more}
+use Rattle.scasp_law_headed_steps.proofs.Tasks.{Moves, Named, TaskFits, Tells, bound-more, equal-earlier, left-append, meets-before, task-later, tells-more}
 use Rattle.scasp_law_headed_steps.proofs.Truths.{RowReads, under-holds}
-use Rattle.scasp_law_headed_steps.specs.Calm.{AreBound, holds_of, left_by, left_of, promised}
+use Rattle.scasp_law_headed_steps.specs.Calm.{AreBound, HasLine, IsOf, holds_of, left_by, left_of, promised}
 
--- of an open cover nothing waits, it has no universal variable, and its clause's variables are bound
+-- an open cover has no universal variable, its clause's variables are bound, and its head reads as its literal
 abbrev pub CoverFits : Program → List Binding → Cover → Type 0
-CoverFits p bs c = (c.universals ≡ []) × AreBound p bs c.clause c.first
+CoverFits p bs c = (c.universals ≡ []) × AreBound p bs c.clause c.first × HasLine p (sub_of bs) c.clause c.first c.before
 
 pub record Whole (p : Program) (s : State) : Type 0 where
   pub kept : Kept s
   pub covers : Each (CoverFits p s.bound) s.covers
   pub named : Each Named s.literals
-  pub work : Each (TaskFits p s.made s.bound) s.work
+  pub work : Each (TaskFits p s.made s.bound s.lines) s.work
   pub lines : Each (Tells (promised s)) s.lines
   pub before : Each (λ c. Each (Tells (promised s)) c.before) s.covers
 
 -- the state is whole, and has these bindings and given constraints
 abbrev pub Stays : Program → List Binding → List Con → State → Type 0
 Stays p bs gs s = Whole p s × (s.bound ≡ bs) × (s.given ≡ gs)
+
+-- ---- heads that read as literals
+
+abbrev args_of : Tm → Tms
+args_of (var x) = nil
+args_of (num q) = nil
+args_of (app f ts) = ts
+
+-- what reads the same does so later on
+is-later : (p : Program) (v w : Sub) → Absorbs w v → (k first : ℕ) (l : Line) → IsOf p v k first l → IsOf p w k first l
+is-later p v w a k first (line.Rule b n m) h = (h.0, h.1, sym (on (head_args p k first)) ∙ ap (all_under w) h.2 ∙ on b.args)
+  where
+    on : (ts : Tms) → all_under w (all_under v ts) ≡ all_under w ts
+    on ts = ap args_of (resolved-twice w v (app 0 ts) a)
+is-later p v w a k first (line.Check n m) h = h
+is-later p v w a k first (line.Test c) h = absurd h
+is-later p v w a k first (line.Split c parts) h = absurd h
+is-later p v w a k first (line.Pos b n ts m) h = absurd h
+is-later p v w a k first (line.Neg b n) h = absurd h
+is-later p v w a k first (line.Loop l at) h = absurd h
+is-later p v w a k first (line.Seen l at) h = absurd h
+is-later p v w a k first line.Void h = absurd h
+is-later p v w a k first (line.Leaf n) h = absurd h
+is-later p v w a k first (line.Head n) h = absurd h
+
+has-later : (p : Program) (v w : Sub) → Absorbs w v → (k first : ℕ) (ls : List Line) → HasLine p v k first ls → HasLine p w k first ls
+has-later p v w a k first ls h = (h.0, h.1, is-later p v w a k first h.0 h.2)
 
 -- ---- steps that open and close no case
 
@@ -87,11 +117,11 @@ tells-covers cs ds f os h = Each-map (λ (c : Cover). Each (Tells cs) c.before) 
 pub moved-whole : (p : Program) (s : State) (t : Task) (rest : List Task) → s.work ≡ t ∷ rest → Whole p s → (r : State) → Moves p (record s { work = rest }) t r → Whole p r
 moved-whole p s t rest e h r m = record {
   kept = m.kept;
-  covers = subst (Each (CoverFits p r.bound)) (sym m.covers) (Each-map (CoverFits p s.bound) (CoverFits p r.bound) (λ c k. (k.0, λ z l n. more z (k.1 z l n))) s.covers h.covers);
+  covers = subst (Each (CoverFits p r.bound)) (sym m.covers) (Each-map (CoverFits p s.bound) (CoverFits p r.bound) (λ c k. (k.0, (λ z l n. more z (k.1 z l n)), has-later p (meaning s) (meaning r) absorbs c.clause c.first c.before k.2)) s.covers h.covers);
   named = m.named h.named;
-  work = subst (Each (TaskFits p r.made r.bound)) (sym m.work)
-      (Each-append (TaskFits p r.made r.bound) m.tasks rest m.fit
-      (Each-map (TaskFits p s.made s.bound) (TaskFits p r.made r.bound) (task-later p u r m.onto more) rest (subst (Each (TaskFits p s.made s.bound)) e h.work).1));
+  work = subst (Each (TaskFits p r.made r.bound r.lines)) (sym m.work)
+      (Each-append (TaskFits p r.made r.bound r.lines) m.tasks rest m.fit
+      (Each-map (TaskFits p s.made s.bound s.lines) (TaskFits p r.made r.bound r.lines) (task-later p u r m.onto more (equal-earlier u r m.more_bound m.bound) longer) rest (subst (Each (TaskFits p s.made s.bound s.lines)) e h.work).1));
   lines = subst (Each (Tells (promised r))) (sym m.lines)
       (Each-append (Tells (promised r)) s.lines m.more_lines (tells-each (promised s) (promised r) older s.lines h.lines) (tells-each (holds_of r ++ left_of m.tasks) (promised r) newer m.more_lines m.told));
   before = subst (λ (cs : List Cover). Each (λ c. Each (Tells (promised r)) c.before) cs) (sym m.covers) (tells-covers (promised s) (promised r) older s.covers h.before);
@@ -99,6 +129,12 @@ moved-whole p s t rest e h r m = record {
   where
     u : State
     u = record s { work = rest }
+
+    absorbs : Absorbs (meaning r) (meaning s)
+    absorbs = absorbed (meaning r) s.bound (equal-earlier u r m.more_bound m.bound (meaning r) (solved-self r.bound m.kept.triangular))
+
+    longer : (l : Line) → Contains s.lines l → Contains r.lines l
+    longer l i = subst (λ (ls : List Line). Contains ls l) (sym m.lines) (Contains-append_left s.lines m.more_lines l i)
 
     more : (z : ℕ) → is_bound_in s.bound z ≡ true → is_bound_in r.bound z ≡ true
     more z b = subst (λ (bs : List Binding). is_bound_in bs z ≡ true) (sym m.bound) (bound-more s.bound m.more_bound z b)
@@ -122,25 +158,23 @@ moved-whole p s t rest e h r m = record {
 
 -- ---- a case begins
 
-items-fit : (p : Program) (made : List Made) (bs : List Binding) (is : List FlatItem) → Each (ItemOf (FirmIn made bs)) is → Each (TaskFits p made bs) (map task.Show is ++ task.Close ∷ [])
-items-fit p made bs is h = Each-append (TaskFits p made bs) (map task.Show is) (task.Close ∷ []) (Each-mapped (TaskFits p made bs) task.Show is h) (tt, tt)
+items-fit : (p : Program) (made : List Made) (bs : List Binding) (ls : List Line) (is : List FlatItem) → Each (ItemOf (FirmIn made bs)) is → Each (TaskFits p made bs ls) (map task.Show is ++ task.Close ∷ [])
+items-fit p made bs ls is h = Each-append (TaskFits p made bs ls) (map task.Show is) (task.Close ∷ []) (Each-mapped (TaskFits p made bs ls) task.Show is h) (tt, tt)
 
 shows-nothing : (is : List FlatItem) (rest : List Task) → left_of ((map task.Show is ++ task.Close ∷ []) ++ rest) ≡ left_of rest
 shows-nothing [] rest = refl
 shows-nothing (i ∷ is) rest = shows-nothing is rest
 
-module _ (p : Program) (s : State) (t : Task) (rest : List Task) (e : s.work ≡ t ∷ rest) (empty : left_by t ≡ []) (h : Whole p s) where
+module _ (p : Program) (s : State) (t : Task) (rest : List Task) (e : s.work ≡ t ∷ rest) (empty : left_by t ≡ []) (h : Whole p s) (calm : (ls : List Line) → Each (TaskFits p s.made s.bound ls) rest) where
   promised-by : promised s ≡ holds_of s ++ left_of rest
   promised-by = ap (λ (ts : List Task). holds_of s ++ left_of ts) e ∙ ap (λ (cs : List Con). holds_of s ++ (cs ++ left_of rest)) empty
-
-  work-left : Each (TaskFits p s.made s.bound) rest
-  work-left = (subst (Each (TaskFits p s.made s.bound)) e h.work).1
 
   -- with the cover c, of these bound variables, and one line
   abbrev pub opened : Cover → State
   opened c = record s { covers = c ∷ s.covers; cases = suc s.cases; lines = []; work = rest }
 
-  module _ (c : Cover) (universals : c.universals ≡ []) (region : c.region ≡ []) (waiting : c.waiting ≡ []) (bound : AreBound p s.bound c.clause c.first) (before_it : c.before ≡ s.lines) where
+  module _ (c : Cover) (universals : c.universals ≡ []) (region : c.region ≡ []) (waiting : c.waiting ≡ []) (bound : AreBound p s.bound c.clause c.first) (before_it : c.before ≡ s.lines)
+      (head : HasLine p (meaning s) c.clause c.first s.lines) where
     items-whole : (l : Line) → ((cs : List Con) → Tells cs l) → (is : List FlatItem) → Each (ItemOf (Firm s)) is → Whole p (with_items (opened c) l is)
     items-whole l f is k = record {
       kept = record {
@@ -149,9 +183,9 @@ module _ (p : Program) (s : State) (t : Task) (rest : List Task) (e : s.work ≡
         met = h.kept.met;
         firm = h.kept.firm;
       };
-      covers = ((universals, bound), h.covers);
+      covers = ((universals, bound, subst (HasLine p (meaning s) c.clause c.first) (sym before_it) head), h.covers);
       named = h.named;
-      work = Each-append (TaskFits p s.made s.bound) (map task.Show is ++ task.Close ∷ []) rest (items-fit p s.made s.bound is k) work-left;
+      work = Each-append (TaskFits p s.made s.bound (l ∷ [])) (map task.Show is ++ task.Close ∷ []) rest (items-fit p s.made s.bound (l ∷ []) is k) (calm (l ∷ []));
       lines = (f (promised (with_items (opened c) l is)), tt);
       before = (
         subst (Each (Tells (promised (with_items (opened c) l is)))) (sym before_it) (tells-each (promised s) (promised (with_items (opened c) l is)) same s.lines h.lines),
@@ -210,17 +244,18 @@ module _ (p : Program) (s : State) (t : Task) (rest : List Task) (e : s.work ≡
       by true g rec = rec
       by false g rec = absurd (true≢false (sym g))
 
-  pub begin-whole : (k first : ℕ) (checks_head : Bool) → AreBound p s.bound k first → first + vars_of_clause p k ≤ length s.made → EachState (Stays p s.bound s.given) (begin_cases p sat (record s { work = rest }) k first checks_head).states
-  begin-whole k first checks_head bound below =
+  pub begin-whole : (k first : ℕ) (checks_head : Bool) → AreBound p s.bound k first → HasLine p (meaning s) k first s.lines → first + vars_of_clause p k ≤ length s.made → EachState (Stays p s.bound s.given) (begin_cases p sat (record s { work = rest }) k first checks_head).states
+  begin-whole k first checks_head bound head below =
       subst (λ (us : List ℕ). EachState (Stays p s.bound s.given) (begin_cover p sat (record s { work = rest }) (cover_for p (record s { work = rest }) k first checks_head us)).states) (sym (none-unbound first (vars_of_clause p k) bound))
-      (cases-whole (cover_for p (record s { work = rest }) k first checks_head []) refl refl refl bound refl below)
+      (cases-whole (cover_for p (record s { work = rest }) k first checks_head []) refl refl refl bound refl head below)
 
 -- ---- a clause that is checked
 
-pub check-whole : (p : Program) (s : State) (k : ℕ) (checks_head : Bool) (rest : List Task) → s.work ≡ task.Check k checks_head ∷ rest → Whole p s → vars_of_clause p k ≡ 0
+pub check-whole : (p : Program) (s : State) (k : ℕ) (checks_head : Bool) (rest : List Task) → s.work ≡ task.Check k checks_head ∷ rest → Whole p s → ((ls : List Line) → Each (TaskFits p (with_new s Matched 0 (vars_of_clause p k)).made s.bound ls) rest) → vars_of_clause p k ≡ 0
     → EachState (Stays p s.bound s.given) (check_clause p sat (record s { work = rest }) k checks_head).states
-check-whole p s k checks_head rest e h none =
-    begin-whole p made_state (task.Check k checks_head) rest refl refl now k (length s.made) checks_head (λ z l m. absurd (omega (arith, l, m, none)))
+check-whole p s k checks_head rest e h calm none =
+    begin-whole p made_state (task.Check k checks_head) rest refl refl now calm k (length s.made) checks_head (λ z l m. absurd (omega (arith, l, m, none)))
+    (line.Check k (next_variable s), Contains-push s.lines (line.Check k (next_variable s)), (refl, refl))
     (let long = new-length s Matched 0 (vars_of_clause p k) in omega (arith, long))
   where
     made_state : State
@@ -242,7 +277,7 @@ check-whole p s k checks_head rest e h none =
       };
       covers = h.covers;
       named = h.named;
-      work = Each-map (TaskFits p s.made s.bound) (TaskFits p made_state.made s.bound) (task-later p s (with_new s Matched 0 (vars_of_clause p k)) o (λ z b. b)) (task.Check k checks_head ∷ rest) (subst (Each (TaskFits p s.made s.bound)) e h.work);
+      work = (none, calm made_state.lines);
       lines =
           Each-append (Tells (holds_of s ++ left_of rest)) s.lines (line.Check k (next_variable s) ∷ []) (tells-each (promised s) (holds_of s ++ left_of rest) same s.lines h.lines) (tt, tt);
       before = tells-covers (promised s) (holds_of s ++ left_of rest) same s.covers h.before;
@@ -304,8 +339,8 @@ tells-under s cs h f line.Void k = tt
 tells-under s cs h f (line.Leaf n) k = tt
 tells-under s cs h f (line.Head n) k = tt
 
-pub close-whole : (p : Program) (s : State) (rest : List Task) → s.work ≡ task.Close ∷ rest → Whole p s → EachState (Stays p s.bound s.given) (close_case p sat (record s { work = rest }) s.covers).states
-close-whole p s rest e h = by s.covers refl
+pub close-whole : (p : Program) (s : State) (rest : List Task) → s.work ≡ task.Close ∷ rest → Whole p s → ((ls : List Line) → Each (TaskFits p s.made s.bound ls) rest) → EachState (Stays p s.bound s.given) (close_case p sat (record s { work = rest }) s.covers).states
+close-whole p s rest e h calm = by s.covers refl
   where
     same : (v : Valuation) → Meets v.of (holds_of s ++ left_of rest) → Meets v.of (promised s)
     same v m = subst (λ (ts : List Task). Meets v.of (holds_of s ++ left_of ts)) (sym e) m
@@ -341,7 +376,7 @@ close-whole p s rest e h = by s.covers refl
           };
           covers = fits.1;
           named = kept-named (record s { work = rest }) c.universals fits.0.0 s.literals h.named;
-          work = (subst (Each (TaskFits p s.made s.bound)) e h.work).1;
+          work = calm (c.before ++ map (line_under (record s { work = rest })) s.lines);
           lines =
               Each-append (Tells now) c.before (map (line_under (record s { work = rest })) s.lines) (tells-each (promised s) now same c.before older.0)
               (Each-mapped (Tells now) (line_under (record s { work = rest })) s.lines

@@ -4,7 +4,7 @@ use Rattle.std.specs.Prelude.{Bool, List, [], false, if◌then◌else◌, length
 use Rattle.std.proofs.Common.{ap, append_assoc, arith, refl, subst, suc, sym, ◌∙◌, ◌≢◌}
 use Rattle.std.proofs.lemmas.Bool.{and_parts, eqb-false, eqb-true, ltb-false, ltb-true, ne_eqb, or_parts, true≢false}
 use Rattle.std.proofs.lemmas.List.{append-nil, map-append}
-use Rattle.std.proofs.lemmas.List.Elements.{Contains-append_left, Contains-push}
+use Rattle.std.proofs.lemmas.List.Elements.{Contains-push}
 use Rattle.scasp_hint.proofs.SatisfyingLemmas.{sat-sorted}
 use Rattle.scasp_hint.specs.Satisfying.{sat}
 use Rattle.scasp_law_first_event.proofs.Apart.{Apart}
@@ -19,7 +19,7 @@ use Rattle.scasp_law_parts.specs.Bound.{IsFree, Triangular}
 use Rattle.scasp_law_parts.specs.Parts.{lies_within}
 use Rattle.scasp_law_sorted.proofs.Evenness.{even-bind, even-binding, even-new, tame-at}
 use Rattle.scasp_list.proofs.EachLemmas.{Each-left, Each-map, Each-right, test_from-Each}
-use Rattle.scasp_list.proofs.MemberLemmas.{Contains-map, list_all-member}
+use Rattle.scasp_list.proofs.MemberLemmas.{Contains-map}
 use Rattle.scasp_list.specs.Each.{Each}
 use Rattle.scasp_num.specs.Number.{Number}
 use Rattle.scasp_search_rules.specs.Successors.Assumptions.{assume}
@@ -36,18 +36,18 @@ use Rattle.scasp_search_rules.specs.declared.states.tasks.Pair.{Pair}
 use Rattle.scasp_search_rules.specs.declared.states.tasks.Task.{Task}
 use Rattle.scasp_search_rules.specs.declared.states.tasks.Task.TheVariants as task
 use Rattle.scasp_syntax.proofs.SameLemmas.{tm_decided}
-use Rattle.scasp_syntax.specs.Constraints.{Meets, holds}
 use Rattle.scasp_syntax.specs.Same.{same_number}
 use Rattle.scasp_syntax.specs.Tm.{Tm, Tms, app, cons, items, nil, num, var}
-use Rattle.scasp_syntax.specs.Values.{Sub, Valuation, all_under, under}
+use Rattle.scasp_syntax.specs.Values.{Sub, all_under, under}
 use Rattle.scasp_syntax.specs.View.{tm_of}
 use Rattle.scasp_syntax.specs.declared.con.Con.{Con}
 use Rattle.scasp_syntax.specs.declared.con.Con.TheVariants as con
 use Rattle.scasp_syntax.specs.declared.term.Term.TheVariants.{Var}
+use Rattle.scasp_unify.proofs.Members.{Each-member}
 use Rattle.scasp_unify.proofs.SimpleLemmas.{viewed}
 use Rattle.scasp_unify.specs.Negations.{new_parts}
 use Rattle.scasp_unify.specs.Parts.{occurs, occurs_among}
-use Rattle.scasp_unify.specs.SimpleForm.{term_with}
+use Rattle.scasp_unify.specs.Resolver.{Equal}
 use Rattle.scasp_unify.specs.Solving.{sub_of}
 use Rattle.scasp_unify.specs.declared.bindings.Binding.{Binding}
 use Rattle.scasp_law_headed_steps.proofs.Assuming.{Found, Kept, KeptAt, assume-plain}
@@ -164,37 +164,42 @@ pub record Joins (s : State) (t u : Tm) (r : State) : Type 0 where
   pub lines : r.lines ≡ s.lines
   pub left : List Pair
   pub work : r.work ≡ equations_of left ++ s.work
-  pub same : (v : Valuation) → Meets v.of (holds_of r) → Each (PairEqual v.of) left → under v.of t ≡ under v.of u
+  pub same : (v : Sub) → Each (Equal v) (map equation r.bound) → Each (PairEqual v) left → under v t ≡ under v u
+
+-- no equation is left
+abbrev pub JoinsAlone : State → Tm → Tm → State → Type 0
+JoinsAlone s t u r = (j : Joins s t u r) × (j.left ≡ [])
 
 -- the last binding holds
-last-equal : (bs : List Binding) (x : ℕ) (t : Tm) (gs : List Con) (v : Sub) → Meets v (map equation (bs ++ binding x t ∷ []) ++ gs) → v x ≡ under v t
-last-equal bs x t gs v m =
-    (tm_decided (v x) (under v (tm_of (term_with t)))).0
-    (list_all-member (holds v) (map equation (bs ++ binding x t ∷ []) ++ gs) (equation (binding x t)) m
-    (Contains-append_left (map equation (bs ++ binding x t ∷ [])) gs (equation (binding x t)) (Contains-map equation (bs ++ binding x t ∷ []) (binding x t) (Contains-push bs (binding x t)))))
+pub last-equal : (bs : List Binding) (x : ℕ) (t : Tm) (v : Sub) → Each (Equal v) (map equation (bs ++ binding x t ∷ [])) → v x ≡ under v t
+last-equal bs x t v h =
+    Each-member (Equal v) (map equation (bs ++ binding x t ∷ [])) (equation (binding x t)) h (Contains-map equation (bs ++ binding x t ∷ []) (binding x t) (Contains-push bs (binding x t)))
     ∙ ap (under v) (viewed t)
 
 -- one binding more
-bound-joins : (s : State) (x : ℕ) (t : Tm) → Kept s → is_bound_in s.bound x ≡ false → EachVar (λ y. (is_bound_in s.bound y ≡ false) × (y ≢ x)) t → EachState (Joins s (var x) t) (bound_if sat (bind s x t)).states
+bound-joins : (s : State) (x : ℕ) (t : Tm) → Kept s → is_bound_in s.bound x ≡ false → EachVar (λ y. (is_bound_in s.bound y ≡ false) × (y ≢ x)) t → EachState (JoinsAlone s (var x) t) (bound_if sat (bind s x t)).states
 bound-joins s x t h e k = by (sat (holds_of (bind s x t))) refl
   where
-    by : (b : Bool) → sat (holds_of (bind s x t)) ≡ b → EachState (Joins s (var x) t) (only_if b (bind s x t))
+    by : (b : Bool) → sat (holds_of (bind s x t)) ≡ b → EachState (JoinsAlone s (var x) t) (only_if b (bind s x t))
     by false f = tt
     by true f = (
-      record {
-        onto = (bind-makes s x t).onto;
-        more_bound = binding x t ∷ [];
-        bound = refl;
-        more_given = [];
-        given = sym (append-nil s.given);
-        kept = bind-kept s x t h e k f;
-        covers = refl;
-        literals = refl;
-        lines = refl;
-        left = [];
-        work = refl;
-        same = λ v m n. last-equal s.bound x t s.given v.of m;
-      },
+      (
+        record {
+          onto = (bind-makes s x t).onto;
+          more_bound = binding x t ∷ [];
+          bound = refl;
+          more_given = [];
+          given = sym (append-nil s.given);
+          kept = bind-kept s x t h e k f;
+          covers = refl;
+          literals = refl;
+          lines = refl;
+          left = [];
+          work = refl;
+          same = λ v m n. last-equal s.bound x t v m;
+        },
+        refl,
+      ),
       tt,
     )
 
@@ -214,35 +219,39 @@ turned-joins s t u r j = record {
   same = λ v m n. sym (j.same v m n);
 }
 
+turned-alone : (s : State) (t u : Tm) (r : State) → JoinsAlone s t u r → JoinsAlone s u t r
+unfolding turned-joins
+turned-alone s t u r k = (turned-joins s t u r k.0, k.1)
+
 module _ (s : State) (solved : Solved (length s.made) s.bound) (bindings : Each (BindingFirm s) s.bound) (h : Kept s) where
-  variables-join : (x y : ℕ) → Found s x → Found s y → x ≢ y → EachState (Joins s (var x) (var y)) (two_variables sat s x y (is_universal s x) (is_universal s y)).states
+  pub variables-join : (x y : ℕ) → Found s x → Found s y → x ≢ y → EachState (JoinsAlone s (var x) (var y)) (two_variables sat s x y (is_universal s x) (is_universal s y)).states
   variables-join x y a b n = by (is_universal s x) (is_universal s y) (tame-at s.made h.even.kinds x) (tame-at s.made h.even.kinds y)
     where
-      one : (z w : ℕ) → Found s z → Found s w → z ≢ w → EachState (Joins s (var z) (var w)) (bound_if sat (bind s z (var w))).states
+      one : (z w : ℕ) → Found s z → Found s w → z ≢ w → EachState (JoinsAlone s (var z) (var w)) (bound_if sat (bind s z (var w))).states
       one z w c d m = bound-joins s z (var w) h c.1 (d.1, (λ e. m (sym e)))
 
-      ordered : (c : Bool) → nat_lt x y ≡ c → EachState (Joins s (var x) (var y)) (two_existentials sat s x y).states
+      ordered : (c : Bool) → nat_lt x y ≡ c → EachState (JoinsAlone s (var x) (var y)) (two_existentials sat s x y).states
       ordered true e =
           let l : x < y = ltb-true x y e in
           let p : max x y ≡ y = omega (arith, l) in
           let q : min x y ≡ x = omega (arith, l) in
-          subst (λ (z : ℕ). EachState (Joins s (var x) (var y)) (bound_if sat (bind s z (var (min x y)))).states) (sym p)
-          (subst (λ (z : ℕ). EachState (Joins s (var x) (var y)) (bound_if sat (bind s y (var z))).states) (sym q)
-          (each_weaker (Joins s (var y) (var x)) (Joins s (var x) (var y)) (bound_if sat (bind s y (var x))).states (turned-joins s (var y) (var x)) (one y x b a (λ e. n (sym e)))))
+          subst (λ (z : ℕ). EachState (JoinsAlone s (var x) (var y)) (bound_if sat (bind s z (var (min x y)))).states) (sym p)
+          (subst (λ (z : ℕ). EachState (JoinsAlone s (var x) (var y)) (bound_if sat (bind s y (var z))).states) (sym q)
+          (each_weaker (JoinsAlone s (var y) (var x)) (JoinsAlone s (var x) (var y)) (bound_if sat (bind s y (var x))).states (turned-alone s (var y) (var x)) (one y x b a (λ e. n (sym e)))))
       ordered false e =
           let l : y ≤ x = ltb-false x y e in
           let p : max x y ≡ x = omega (arith, l) in
           let q : min x y ≡ y = omega (arith, l) in
-          subst (λ (z : ℕ). EachState (Joins s (var x) (var y)) (bound_if sat (bind s z (var (min x y)))).states) (sym p)
-          (subst (λ (z : ℕ). EachState (Joins s (var x) (var y)) (bound_if sat (bind s x (var z))).states) (sym q) (one x y a b n))
+          subst (λ (z : ℕ). EachState (JoinsAlone s (var x) (var y)) (bound_if sat (bind s z (var (min x y)))).states) (sym p)
+          (subst (λ (z : ℕ). EachState (JoinsAlone s (var x) (var y)) (bound_if sat (bind s x (var z))).states) (sym q) (one x y a b n))
 
-      by : (i j : Bool) → i ≡ false → j ≡ false → EachState (Joins s (var x) (var y)) (two_variables sat s x y i j).states
+      by : (i j : Bool) → i ≡ false → j ≡ false → EachState (JoinsAlone s (var x) (var y)) (two_variables sat s x y i j).states
       by false false f g = ordered (nat_lt x y) refl
       by false true f g = absurd (true≢false g)
       by true j f g = absurd (true≢false f)
 
   -- x gets the name with new arguments
-  pub shape-joins : (x f n : ℕ) → Found s x → EachState (Joins s (var x) (app f (new_parts (next_variable s) n))) (becomes_shape sat s x f n).states
+  pub shape-joins : (x f n : ℕ) → Found s x → EachState (JoinsAlone s (var x) (app f (new_parts (next_variable s) n))) (becomes_shape sat s x f n).states
   shape-joins x f n a = by (is_universal s x) (tame-at s.made h.even.kinds x)
     where
       t : Tm
@@ -265,25 +274,28 @@ module _ (s : State) (solved : Solved (length s.made) s.bound) (bindings : Each 
       fresh : (z : ℕ) → length s.made ≤ z → (is_bound_in s.bound z ≡ false) × (z ≢ x)
       fresh z l = (above-unbound (length s.made) s.bound solved z l, λ e. (let m : x < length s.made = a.0.0 in absurd (omega (arith, l, m, e))))
 
+      lifted : (q : State) → Joins (with_new s Existential (depth_of s x) n) (var x) (app f (new_parts (next_variable s) n)) q → Joins s (var x) (app f (new_parts (next_variable s) n)) q
+      lifted q j = record {
+        onto = onto-then s (with_new s Existential (depth_of s x) n) q o j.onto;
+        more_bound = j.more_bound;
+        bound = j.bound;
+        more_given = j.more_given;
+        given = j.given;
+        kept = j.kept;
+        covers = j.covers;
+        literals = j.literals;
+        lines = j.lines;
+        left = j.left;
+        work = j.work;
+        same = j.same;
+      }
+
       by : (b : Bool) → b ≡ false
-          → EachState (Joins s (var x) (app f (new_parts (next_variable s) n))) (if b then replaced_if sat (with_new s Universal (depth_of s x) n) x (app f (new_parts (next_variable s) n)) else bound_if sat (bind (with_new s Existential (depth_of s x) n) x (app f (new_parts (next_variable s) n)))).states
+          → EachState (JoinsAlone s (var x) (app f (new_parts (next_variable s) n))) (if b then replaced_if sat (with_new s Universal (depth_of s x) n) x (app f (new_parts (next_variable s) n)) else bound_if sat (bind (with_new s Existential (depth_of s x) n) x (app f (new_parts (next_variable s) n)))).states
       by true g = absurd (true≢false g)
       by false g =
-          each_weaker (Joins r (var x) t) (Joins s (var x) t) (bound_if sat (bind r x t)).states
-          (λ q j. record {
-            onto = onto-then s r q o j.onto;
-            more_bound = j.more_bound;
-            bound = j.bound;
-            more_given = j.more_given;
-            given = j.given;
-            kept = j.kept;
-            covers = j.covers;
-            literals = j.literals;
-            lines = j.lines;
-            left = j.left;
-            work = j.work;
-            same = j.same;
-          }) (bound-joins r x t kept a.1 (parts-each (λ y. (is_bound_in s.bound y ≡ false) × (y ≢ x)) (length s.made) (length s.made) n (omega arith) (λ z l m. fresh z l)))
+          each_weaker (JoinsAlone r (var x) t) (JoinsAlone s (var x) t) (bound_if sat (bind r x t)).states
+          (λ q k. (lifted q k.0, k.1)) (bound-joins r x t kept a.1 (parts-each (λ y. (is_bound_in s.bound y ≡ false) × (y ≢ x)) (length s.made) (length s.made) n (omega arith) (λ z l m. fresh z l)))
 
   -- with more that is given
   more-joins : (gs : List Con) (t u : Tm) (r : State) → Joins (record s { given = s.given ++ gs }) t u r → Joins s t u r
@@ -302,21 +314,22 @@ module _ (s : State) (solved : Solved (length s.made) s.bound) (bindings : Each 
     same = j.same;
   }
 
-  number-joins : (x : ℕ) (q : Number) → Found s x → EachState (Joins s (var x) (num q)) (variable_number sat s x q).states
+  pub number-joins : (x : ℕ) (q : Number) → Found s x → EachState (JoinsAlone s (var x) (num q)) (variable_number sat s x q).states
+  unfolding more-joins
   number-joins x q a =
-      each_followed (λ t. EachState (Joins s (var x) (num q)) (becomes_number sat x q t).states) (Joins s (var x) (num q)) (becomes_number sat x q) (assume sat s (con.Num (Var x))).states
-      (assume-plain s solved bindings h (con.Num (Var x)) tt (kinded-firm s x a.0) (λ t. EachState (Joins s (var x) (num q)) (becomes_number sat x q t).states) (λ gs kept e. becomes gs kept)) (λ t l. l)
+      each_followed (λ t. EachState (JoinsAlone s (var x) (num q)) (becomes_number sat x q t).states) (JoinsAlone s (var x) (num q)) (becomes_number sat x q) (assume sat s (con.Num (Var x))).states
+      (assume-plain s solved bindings h (con.Num (Var x)) tt (kinded-firm s x a.0) (λ t. EachState (JoinsAlone s (var x) (num q)) (becomes_number sat x q t).states) (λ gs kept e. becomes gs kept)) (λ t l. l)
     where
-      becomes : (gs : List Con) → KeptAt s.made s.bound (s.given ++ gs) s.covers → EachState (Joins s (var x) (num q)) (becomes_number sat x q (record s { given = s.given ++ gs })).states
+      becomes : (gs : List Con) → KeptAt s.made s.bound (s.given ++ gs) s.covers → EachState (JoinsAlone s (var x) (num q)) (becomes_number sat x q (record s { given = s.given ++ gs })).states
       becomes gs kept = by (is_universal s x) (tame-at s.made h.even.kinds x)
         where
           r : State
           r = record s { given = s.given ++ gs }
 
           by : (b : Bool) → b ≡ false
-              → EachState (Joins s (var x) (num q)) (if b then replaced_if sat (record s { given = s.given ++ gs }) x (num q) else bound_if sat (bind (record s { given = s.given ++ gs }) x (num q))).states
+              → EachState (JoinsAlone s (var x) (num q)) (if b then replaced_if sat (record s { given = s.given ++ gs }) x (num q) else bound_if sat (bind (record s { given = s.given ++ gs }) x (num q))).states
           by true f = absurd (true≢false f)
-          by false f = each_weaker (Joins r (var x) (num q)) (Joins s (var x) (num q)) (bound_if sat (bind r x (num q))).states (λ o j. more-joins gs (var x) (num q) o j) (bound-joins r x (num q) kept a.1 tt)
+          by false f = each_weaker (JoinsAlone r (var x) (num q)) (JoinsAlone s (var x) (num q)) (bound_if sat (bind r x (num q))).states (λ o j. (more-joins gs (var x) (num q) o j.0, j.1)) (bound-joins r x (num q) kept a.1 tt)
 
   app-joins : (x f : ℕ) (ts : Tms) → Found s x → EachState (Joins s (var x) (app f ts)) (variable_app sat s x f ts).states
   app-joins x f ts a = by (occurs_among x ts)
@@ -343,21 +356,21 @@ module _ (s : State) (solved : Solved (length s.made) s.bound) (bindings : Each 
             ap (λ (ws : List Task). equations_of (pairs new ts) ++ ws) j.work ∙ sym (append_assoc (equations_of (pairs new ts)) (equations_of j.left) s.work)
             ∙ ap (λ (ws : List Task). ws ++ s.work) (sym (map-append (λ (o : Pair). task.Equate o.left o.right) (pairs new ts) j.left));
         same = λ v m e.
-            j.same v m (Each-right (PairEqual v.of) (pairs new ts) j.left e)
-            ∙ ap (app f) (args-equal v.of new ts (parts-many (next_variable s) (length (items ts))) (Each-left (PairEqual v.of) (pairs new ts) j.left e));
+            j.same v m (Each-right (PairEqual v) (pairs new ts) j.left e)
+            ∙ ap (app f) (args-equal v new ts (parts-many (next_variable s) (length (items ts))) (Each-left (PairEqual v) (pairs new ts) j.left e));
       }
 
       by : (b : Bool) → EachState (Joins s (var x) (app f ts)) (if b then fails else each (before (equations (new_parts (next_variable s) (length (items ts))) ts)) (becomes_shape sat s x f (length (items ts)))).states
       by true = tt
       by false =
-          each_map (Joins s (var x) (app f new)) (Joins s (var x) (app f ts)) (before (equations new ts)) (becomes_shape sat s x f n).states (shape-joins x f n a) put
+          each_map (JoinsAlone s (var x) (app f new)) (Joins s (var x) (app f ts)) (before (equations new ts)) (becomes_shape sat s x f n).states (shape-joins x f n a) (λ r k. put r k.0)
 
   -- the sides of a pair that terms come to as they read
   pub terms-join : (t u : Tm) → EachVar (Found s) t → EachVar (Found s) u → Apart t u → EachState (Joins s t u) (equated sat s t u).states
-  terms-join (var x) (var y) a b n = variables-join x y a b n
-  terms-join (var x) (num q) a b n = number-joins x q a
+  terms-join (var x) (var y) a b n = each_weaker (JoinsAlone s (var x) (var y)) (Joins s (var x) (var y)) (equated sat s (var x) (var y)).states (λ r k. k.0) (variables-join x y a b n)
+  terms-join (var x) (num q) a b n = each_weaker (JoinsAlone s (var x) (num q)) (Joins s (var x) (num q)) (variable_number sat s x q).states (λ r k. k.0) (number-joins x q a)
   terms-join (var x) (app f ts) a b n = app-joins x f ts a
-  terms-join (num q) (var y) a b n = each_weaker (Joins s (var y) (num q)) (Joins s (num q) (var y)) (variable_number sat s y q).states (turned-joins s (var y) (num q)) (number-joins y q b)
+  terms-join (num q) (var y) a b n = each_weaker (JoinsAlone s (var y) (num q)) (Joins s (num q) (var y)) (variable_number sat s y q).states (λ r k. turned-joins s (var y) (num q) r k.0) (number-joins y q b)
   terms-join (num q) (num r) a b n = tt
   terms-join (num q) (app f ts) a b n = tt
   terms-join (app f ts) (var y) a b n = each_weaker (Joins s (var y) (app f ts)) (Joins s (app f ts) (var y)) (variable_app sat s y f ts).states (turned-joins s (var y) (app f ts)) (app-joins y f ts b)

@@ -1,20 +1,20 @@
 -- Each state that comes of the start of a search over a headed program is calm.
 use Rattle.std.specs.List.{Contains, list_all}
-use Rattle.std.specs.Prelude.{Bool, List, [], false, length, map, nat_eq, true, ℕ, ◌++◌, ◌+◌, ◌<◌, ◌↔◌, ◌∷◌, ◌≡◌}
+use Rattle.std.specs.Prelude.{Bool, List, [], false, length, map, nat_eq, true, ℕ, ⊤, ◌++◌, ◌+◌, ◌-◌, ◌<◌, ◌↔◌, ◌∷◌, ◌≡◌}
 use Rattle.std.proofs.Common.{ap, arith, inl, refl, subst, sym, ◌∙◌}
 use Rattle.std.proofs.lemmas.Bool.{and_parts, eqb-true}
 use Rattle.std.proofs.lemmas.List.{append-nil, map-append}
 use Rattle.scasp_hint.specs.Satisfying.{sat}
 use Rattle.scasp_law_first_event.proofs.Bindings.{Solved}
 use Rattle.scasp_law_first_event.proofs.EachStates.{each-state, each_weaker}
-use Rattle.scasp_law_first_event.proofs.Firming.{new-makes}
-use Rattle.scasp_law_first_event.proofs.Firmness.{Clear, Firm, Kinded, TaskFirm}
+use Rattle.scasp_law_first_event.proofs.Firming.{new-makes, new-onto}
+use Rattle.scasp_law_first_event.proofs.Firmness.{Clear, Firm, Kinded, Onto, TaskFirm, as-many}
 use Rattle.scasp_law_first_event.proofs.Moves.{new-length}
 use Rattle.scasp_law_first_event.proofs.Raising.{Each-mapped}
 use Rattle.scasp_law_first_event.specs.Events.{IsReachable, after, itself}
 use Rattle.scasp_law_no_circle.proofs.Reaching.{Known, known}
 use Rattle.scasp_law_no_circle.proofs.Scope.{Scoped}
-use Rattle.scasp_law_no_circle.proofs.Tasks.{AimScoped, BecomesScoped, Front, Waiting, assumes, avoids, becomes, begins, differs, numbers, plain, shapes}
+use Rattle.scasp_law_no_circle.proofs.Tasks.{AimScoped, BecomesScoped, Front, Plain, Waiting, assumes, avoids, becomes, begins, behind, differs, numbers, plain, shapes}
 use Rattle.scasp_law_parts.proofs.AgreeLemmas.{join-all}
 use Rattle.scasp_law_parts.proofs.BoundLemmas.{absorbed}
 use Rattle.scasp_law_parts.proofs.TriangularLemmas.{solved-self}
@@ -39,8 +39,9 @@ use Rattle.scasp_search_rules.specs.Successors.Search.{done, nothing, search_for
 use Rattle.scasp_search_rules.specs.Successors.Splits.{is_bound_in}
 use Rattle.scasp_search_rules.specs.Successors.Variables.{is_kind_matched, is_kind_universal, meaning, with_new}
 use Rattle.scasp_search_rules.specs.declared.states.covers.Cover.{Cover}
+use Rattle.scasp_search_rules.specs.declared.states.lines.Line.{Line}
 use Rattle.scasp_search_rules.specs.declared.states.lines.Line.TheVariants as line
-use Rattle.scasp_search_rules.specs.declared.states.state.Kind.TheVariants.{Existential}
+use Rattle.scasp_search_rules.specs.declared.states.state.Kind.TheVariants.{Existential, Matched}
 use Rattle.scasp_search_rules.specs.declared.states.state.Made.{Made}
 use Rattle.scasp_search_rules.specs.declared.states.state.State.{State}
 use Rattle.scasp_search_rules.specs.declared.states.tasks.Aim.{Aim}
@@ -67,8 +68,8 @@ use Rattle.scasp_law_headed_steps.proofs.Bodies.{ItemOf, item-of-weaker, query-t
 use Rattle.scasp_law_headed_steps.proofs.Calling.{call-moves, cover-moves, leave-moves}
 use Rattle.scasp_law_headed_steps.proofs.Cases.{CoverFits, Stays, Whole, begin-whole, check-whole, close-whole, moved-whole}
 use Rattle.scasp_law_headed_steps.proofs.Steps.{assume-moves, avoid-moves, become-moves, differ-moves, equate-moves, found-of, name-moves, test-moves}
-use Rattle.scasp_law_headed_steps.proofs.Tasks.{Moves, TaskFits, Tells, line-moves, tells-hold, tells-more}
-use Rattle.scasp_law_headed_steps.specs.Calm.{Calm, IsAlone, IsHeaded, IsLater, LineHolds, holds_of, left_of, promised}
+use Rattle.scasp_law_headed_steps.proofs.Tasks.{HeadReads, Moves, TaskFits, Tells, line-moves, tells-hold, tells-more}
+use Rattle.scasp_law_headed_steps.specs.Calm.{Calm, HasLine, IsAlone, IsHeaded, IsLater, LineHolds, holds_of, left_of, promised}
 use Rattle.scasp_law_headed_steps.specs.Headed.{is_headed}
 
 -- ---- later states
@@ -109,8 +110,44 @@ module _ (p : Program) (headed : list_all is_headed p.clauses ≡ true) (s : Sta
   task-firm : (t : Task) (rest : List Task) → s.work ≡ t ∷ rest → TaskFirm p s t
   task-firm t rest e = (subst (Each (TaskFirm p s)) e firm).0
 
-  task-fits : (t : Task) (rest : List Task) → s.work ≡ t ∷ rest → TaskFits p s.made s.bound t
-  task-fits t rest e = (subst (Each (TaskFits p s.made s.bound)) e h.work).0
+  task-fits : (t : Task) (rest : List Task) → s.work ≡ t ∷ rest → TaskFits p s.made s.bound s.lines t
+  task-fits t rest e = (subst (Each (TaskFits p s.made s.bound s.lines)) e h.work).0
+
+  rest-fits : (t : Task) (rest : List Task) → s.work ≡ t ∷ rest → Each (TaskFits p s.made s.bound s.lines) rest
+  rest-fits t rest e = (subst (Each (TaskFits p s.made s.bound s.lines)) e h.work).1
+
+  -- tasks that wait match no head
+  waits-calm : (n : ℕ) (ts : List Task) → Waiting (Scoped s.made s.covers s.bound) n ts → Each (TaskFits p s.made s.bound s.lines) ts → (more : List Made) → Onto s (record s { made = more }) → (ls : List Line)
+      → Each (TaskFits p more s.bound ls) ts
+  waits-calm n [] w f more o ls = tt
+  waits-calm n (t ∷ ts) w f more o ls = (by t w.0 f.0, waits-calm (behind t n) ts w.1 f.1 more o ls)
+    where
+      by : (t : Task) → Plain (Scoped s.made s.covers s.bound n) t → TaskFits p s.made s.bound s.lines t → TaskFits p more s.bound ls t
+      by (task.Show i) k g = item-of-weaker (Firm s) (Firm (record s { made = more })) o.firm i g
+      by (task.Equate t u) k g = tt
+      by (task.Cover a j) k g = g
+      by (task.Check j checks_head) k g = g
+      by task.Void k g = tt
+      by task.Leave k g = tt
+      by task.Close k g = tt
+      by (task.Assume c) k g = absurd k
+      by (task.Differ ps aim) k g = absurd k
+      by (task.Become x t ps aim) k g = absurd k
+      by (task.Avoid x q ps aim) k g = absurd k
+      by (task.Shape x j us ps aim) k g = absurd k
+      by (task.Begin j first checks_head) k g = absurd k
+
+  same-made : Onto s (record s { made = s.made })
+  same-made = record { more = as-many (length s.made); kinded = (λ z k. k); firm = (λ z k. k) }
+
+  calm-rest : (t : Task) (rest : List Task) → s.work ≡ t ∷ rest → (n : ℕ) → Waiting (Scoped s.made s.covers s.bound) n rest → (ls : List Line) → Each (TaskFits p s.made s.bound ls) rest
+  calm-rest t rest e n w ls = waits-calm n rest w (rest-fits t rest e) s.made same-made ls
+
+  made-more : (k : ℕ) → Onto s (record s { made = (with_new s Matched 0 (vars_of_clause p k)).made })
+  made-more k = let o = new-onto s Matched 0 (vars_of_clause p k) in record { more = o.more; kinded = o.kinded; firm = o.firm }
+
+  begun-line : (k first : ℕ) → HeadReads p s.bound s.lines k first (λ v. ⊤) → HasLine p (meaning s) k first s.lines
+  begun-line k first g = (line.Rule g.atom k first, g.told, (refl, refl, g.reads (meaning s) (solved-self s.bound h.kept.triangular) tt))
 
   plain-on : (t : Task) (rest : List Task) → s.work ≡ t ∷ rest → Waiting (Scoped s.made s.covers s.bound) (length s.covers) (t ∷ rest) → EachState (Follows-on p s) (done p sat (record s { work = rest }) t).states
   plain-on (task.Show (flat.Call l)) rest e w =
@@ -126,11 +163,12 @@ module _ (p : Program) (headed : list_all is_headed p.clauses ≡ true) (s : Sta
       moved-on (task.Cover a k) rest e (covered p (record s { work = rest }) a k ∷ [])
       (cover-moves p headed (record s { work = rest }) solved clear.bindings clear.literals h.kept a k (task-fits (task.Cover a k) rest e), tt)
   plain-on (task.Check k checks_head) rest e w =
-      stayed-on (check_clause p sat (record s { work = rest }) k checks_head).states (check-whole p s k checks_head rest e h (task-fits (task.Check k checks_head) rest e))
+      stayed-on (check_clause p sat (record s { work = rest }) k checks_head).states (check-whole p s k checks_head rest e h
+      (λ ls. waits-calm (length s.covers) rest w.1 (rest-fits (task.Check k checks_head) rest e) (with_new s Matched 0 (vars_of_clause p k)).made (made-more k) ls) (task-fits (task.Check k checks_head) rest e))
   plain-on task.Void rest e w = moved-on task.Void rest e (with_line (record s { work = rest }) line.Void ∷ []) (line-moves p (record s { work = rest }) task.Void refl h.kept line.Void (λ cs. tt), tt)
   plain-on task.Leave rest e w =
       moved-on task.Leave rest e (leave_literal (record s { work = rest }) ∷ []) (leave-moves p headed (record s { work = rest }) solved clear.bindings clear.literals h.kept, tt)
-  plain-on task.Close rest e w = stayed-on (close_case p sat (record s { work = rest }) s.covers).states (close-whole p s rest e h)
+  plain-on task.Close rest e w = stayed-on (close_case p sat (record s { work = rest }) s.covers).states (close-whole p s rest e h (calm-rest task.Close rest e (length s.covers - 1) w.1))
   plain-on (task.Assume c) rest e w = absurd w.0
   plain-on (task.Differ ps aim) rest e w = absurd w.0
   plain-on (task.Become x t ps aim) rest e w = absurd w.0
@@ -148,11 +186,11 @@ module _ (p : Program) (headed : list_all is_headed p.clauses ≡ true) (s : Sta
   become-on x (Var y) ps aim rest e a b =
       let f = task-fits (task.Become x (Var y) ps aim) rest e in
       moved-on (task.Become x (Var y) ps aim) rest e (same_value sat (record s { work = rest }) x (var y) ps aim).states
-      (become-moves p (record s { work = rest }) solved clear.bindings h.kept x (Var y) ps aim (found-of s x f.0 a) (found-of s y f.1 b.0.1) b.1 f.2)
+      (become-moves p (record s { work = rest }) solved clear.bindings h.kept x (Var y) ps aim (found-of s x f.0 a) (found-of s y f.1 b.0.1) b.1 tt f.2 f.3)
   become-on x (Num v) ps aim rest e a b =
       let f = task-fits (task.Become x (Num v) ps aim) rest e in
       moved-on (task.Become x (Num v) ps aim) rest e (same_value sat (record s { work = rest }) x (num v) ps aim).states
-      (become-moves p (record s { work = rest }) solved clear.bindings h.kept x (Num v) ps aim (found-of s x f.0 a) tt tt f.2)
+      (become-moves p (record s { work = rest }) solved clear.bindings h.kept x (Num v) ps aim (found-of s x f.0 a) tt tt tt f.2 f.3)
   become-on x (App g ts) ps aim rest e a b = absurd b
 
   step-on : (ts : List Task) → s.work ≡ ts → Front p s.made s.covers s.bound (length s.covers) ts → EachState (Follows-on p s) (step_at p sat s ts).states
@@ -163,18 +201,19 @@ module _ (p : Program) (headed : list_all is_headed p.clauses ≡ true) (s : Sta
   step-on _ e (differs ps aim ts pf af w) =
       moved-on (task.Differ ps aim) ts e (differ_terms sat (record s { work = ts }) ps aim).states
       (differ-moves p (record s { work = ts }) solved clear.bindings h.kept ps aim (task-firm (task.Differ ps aim) ts e).0
-      (λ k first g z l m. ap is_kind_matched (subst (AimScoped p s.made s.covers s.bound (length s.covers)) g af z l m).1) (task-fits (task.Differ ps aim) ts e))
+      (λ k first g z l m. ap is_kind_matched (subst (AimScoped p s.made s.covers s.bound (length s.covers)) g af z l m).1) (task-fits (task.Differ ps aim) ts e).0 (task-fits (task.Differ ps aim) ts e).1)
   step-on _ e (becomes x t ps aim ts a b pf af w) = become-on x t ps aim ts e a.1 b
   step-on _ e (avoids x q ps aim ts a pf af w) =
       let f = task-fits (task.Avoid x q ps aim) ts e in
-      moved-on (task.Avoid x q ps aim) ts e (differ_value sat (record s { work = ts }) x q ps aim).states (avoid-moves p (record s { work = ts }) solved clear.bindings h.kept x q ps aim f.0 f.1)
+      moved-on (task.Avoid x q ps aim) ts e (differ_value sat (record s { work = ts }) x q ps aim).states (avoid-moves p (record s { work = ts }) solved clear.bindings h.kept x q ps aim f.0 f.1 f.2)
   step-on _ e (shapes x g us ps aim ts a b pf af w) =
       let f = task-fits (task.Shape x g us ps aim) ts e in
       moved-on (task.Shape x g us ps aim) ts e (same_shape sat (record s { work = ts }) x g us ps aim).states
-      (name-moves p (record s { work = ts }) solved clear.bindings h.kept x g us ps aim (found-of s x f.0 a.1) f.1)
+      (name-moves p (record s { work = ts }) solved clear.bindings h.kept x g us ps aim (found-of s x f.0 a.1) f.1 f.2)
   step-on _ e (begins k first checks_head ts heads w) =
       stayed-on (begin_cases p sat (record s { work = ts }) k first checks_head).states
-      (begin-whole p s (task.Begin k first checks_head) ts e refl h k first checks_head (task-fits (task.Begin k first checks_head) ts e) (task-firm (task.Begin k first checks_head) ts e))
+      (begin-whole p s (task.Begin k first checks_head) ts e refl h (calm-rest (task.Begin k first checks_head) ts e (length s.covers) w) k first checks_head (task-fits (task.Begin k first checks_head) ts e).0
+      (begun-line k first (task-fits (task.Begin k first checks_head) ts e).1) (task-firm (task.Begin k first checks_head) ts e))
 
 -- ---- all steps
 
@@ -198,10 +237,10 @@ module _ (p : Problem) (q : Query) (is : IsHeaded p q) where
     };
     covers = tt;
     named = tt;
-    work = Each-append (TaskFits p.program (start q p.checks).made []) (map task.Show (flat_body q.body)) (map (λ i. task.Check i.clause i.head) p.checks)
-        (Each-mapped (TaskFits p.program (start q p.checks).made []) task.Show (flat_body q.body)
+    work = Each-append (TaskFits p.program (start q p.checks).made [] []) (map task.Show (flat_body q.body)) (map (λ i. task.Check i.clause i.head) p.checks)
+        (Each-mapped (TaskFits p.program (start q p.checks).made [] []) task.Show (flat_body q.body)
         (Each-map (ItemOf (λ y. y < length q.names)) (ItemOf (Firm (start q p.checks))) (λ i k. item-of-weaker (λ y. y < length q.names) (Firm (start q p.checks)) first-firm i k) (flat_body q.body) (query-tests q is.query)))
-        (Each-mapped (TaskFits p.program (start q p.checks).made []) (λ i. task.Check i.clause i.head) p.checks
+        (Each-mapped (TaskFits p.program (start q p.checks).made [] []) (λ i. task.Check i.clause i.head) p.checks
         (Each-from_test (λ (i : CheckItem). nat_eq (vars_of_clause p.program i.clause) 0) (λ i. vars_of_clause p.program i.clause ≡ 0) (λ i e. eqb-true (vars_of_clause p.program i.clause) 0 e) p.checks parts-of.1));
     lines = tt;
     before = tt;
@@ -235,6 +274,7 @@ module _ (p : Problem) (q : Query) (is : IsHeaded p q) where
       region = a.0.0;
       waiting = a.0.1;
       bound = b.0.1;
+      head = b.0.2;
       before = Each-map (Tells (promised s)) (LineHolds (promised s)) (λ l k. tells-hold (promised s) l k) o.before c.0;
     },
     covers-alone s os a.1 b.1 c.1,

@@ -1,5 +1,6 @@
 -- Steps that equate, tell apart, match a head, or show a test.
-use Rattle.std.specs.Prelude.{Bool, List, [], false, if◌then◌else◌, length, map, nat_eq, true, ℕ, ◌++◌, ◌+◌, ◌<◌, ◌||◌, ◌∷◌, ◌≡◌, ◌≤◌, ◌⊎◌}
+use Rattle.std.specs.List.{Contains}
+use Rattle.std.specs.Prelude.{Bool, List, [], false, if◌then◌else◌, length, map, nat_eq, true, ℕ, ⊤, ◌++◌, ◌+◌, ◌<◌, ◌||◌, ◌∷◌, ◌≡◌, ◌≤◌, ◌⊎◌}
 use Rattle.std.proofs.Common.{ap, append_assoc, inl, inr, refl, subst, sym, ◌∙◌, ◌≢◌}
 use Rattle.std.proofs.lemmas.Bool.{and_from, and_parts, eq-eqb, eqb-true, ne_eqb, or_cases, or_left, or_right, true≢false}
 use Rattle.std.proofs.lemmas.List.{append-nil, map-append}
@@ -12,6 +13,7 @@ use Rattle.scasp_law_first_event.proofs.Firmness.{BindingFirm, Firm, PairFirm, P
 use Rattle.scasp_law_first_event.proofs.Terms.{EachVar, each-absent, each-weaker}
 use Rattle.scasp_law_no_circle.proofs.Tasks.{NoRow}
 use Rattle.scasp_law_parts.proofs.AgreeLemmas.{split-all}
+use Rattle.scasp_law_parts.proofs.BoundLemmas.{absorbed}
 use Rattle.scasp_law_sorted.proofs.Evenness.{quiet}
 use Rattle.scasp_law_sorted.proofs.Numbers.{reads}
 use Rattle.scasp_list.proofs.EachLemmas.{Each-left, Each-map, Each-right}
@@ -24,11 +26,12 @@ use Rattle.scasp_search_rules.specs.Successors.Differences.{alternatives, at_par
 use Rattle.scasp_search_rules.specs.Successors.Equations.{becomes_shape, equate_pairs, equate_terms, equated, equations_of}
 use Rattle.scasp_search_rules.specs.Successors.Falls.{EachState}
 use Rattle.scasp_search_rules.specs.Successors.Items.{number_tests, test_item, with_line}
-use Rattle.scasp_search_rules.specs.Successors.Pairs.{from_first, pairs, pairs_of}
+use Rattle.scasp_search_rules.specs.Successors.Pairs.{from_first, in_front, pairs, pairs_of}
 use Rattle.scasp_search_rules.specs.Successors.Regions.{before, equation}
 use Rattle.scasp_search_rules.specs.Successors.Splits.{is_bound_in}
 use Rattle.scasp_search_rules.specs.Successors.Steps.{goes}
 use Rattle.scasp_search_rules.specs.Successors.Variables.{binding, is_empty, meaning, next_variable, universals_of, with_binding}
+use Rattle.scasp_search_rules.specs.declared.states.lines.Line.{Line}
 use Rattle.scasp_search_rules.specs.declared.states.lines.Line.TheVariants as line
 use Rattle.scasp_search_rules.specs.declared.states.outcomes.Status.{Status}
 use Rattle.scasp_search_rules.specs.declared.states.outcomes.Status.TheVariants.{Added, Entailed, Impossible, Parts}
@@ -42,14 +45,14 @@ use Rattle.scasp_syntax.proofs.SameLemmas.{tm_decided}
 use Rattle.scasp_syntax.specs.Constraints.{Entails, Meets, holds, is_number}
 use Rattle.scasp_syntax.specs.Same.{same_tm}
 use Rattle.scasp_syntax.specs.Tm.{Tm, Tms, app, items, num, var}
-use Rattle.scasp_syntax.specs.Values.{Sub, Valuation, under}
+use Rattle.scasp_syntax.specs.Values.{Sub, Valuation, all_under, under}
 use Rattle.scasp_syntax.specs.View.{tm_of}
 use Rattle.scasp_syntax.specs.declared.clause.FlatItem.TheVariants as flat
 use Rattle.scasp_syntax.specs.declared.con.Con.{Con}
 use Rattle.scasp_syntax.specs.declared.con.Con.TheVariants as con
 use Rattle.scasp_syntax.specs.declared.program.Program.{Program}
 use Rattle.scasp_syntax.specs.declared.term.Term.{Term}
-use Rattle.scasp_syntax.specs.declared.term.Term.TheVariants.{Var}
+use Rattle.scasp_syntax.specs.declared.term.Term.TheVariants.{App, Num, Var}
 use Rattle.scasp_unify.proofs.UnificationLemmas.{resolved-twice}
 use Rattle.scasp_unify.specs.Negations.{new_parts}
 use Rattle.scasp_unify.specs.Parts.{occurs, occurs_among}
@@ -60,8 +63,8 @@ use Rattle.scasp_law_headed_steps.proofs.Assuming.{Found, Kept, KeptAt, assume-p
 use Rattle.scasp_law_headed_steps.proofs.Bodies.{TestOf}
 use Rattle.scasp_law_headed_steps.proofs.Forms.{ConAll}
 use Rattle.scasp_law_headed_steps.proofs.Heads.{first-both, first-rights, in_rights, pairs-right, rights-append}
-use Rattle.scasp_law_headed_steps.proofs.Joining.{Joins, PairEqual, pairs-equal, parts-many, shape-joins, taken-kept, terms-join}
-use Rattle.scasp_law_headed_steps.proofs.Tasks.{AimFits, Moves, Named, TaskFits, aim-later, before-moves, bound-more, equations-fit, left-equal, meets-before, settles}
+use Rattle.scasp_law_headed_steps.proofs.Joining.{Joins, JoinsAlone, PairEqual, args-equal, last-equal, number-joins, pairs-equal, parts-many, shape-joins, taken-kept, terms-join, variables-join}
+use Rattle.scasp_law_headed_steps.proofs.Tasks.{AimFits, AimReads, Moves, Named, TaskFits, aim-later, aim-narrow, aim-reads, before-moves, bound-more, equal-earlier, equal-met, equations-fit, left-equal, meets-before, settles}
 use Rattle.scasp_law_headed_steps.proofs.Truths.{RowReads}
 use Rattle.scasp_law_headed_steps.specs.Calm.{holds_of, left_by, left_of}
 
@@ -71,6 +74,29 @@ bound-shown s h v m = reads s.bound s.given v m
 pub found-of : (s : State) (z : ℕ) → Firm s z → is_bound_in s.bound z ≡ false → Found s z
 found-of s z (l, inl e) f = ((l, e), f)
 found-of s z (l, inr e) f = absurd (true≢false (sym e ∙ f))
+
+-- a variable or a number
+abbrev pub IsPlain : Term → Type 0
+IsPlain (Var y) = ⊤
+IsPlain (Num q) = ⊤
+IsPlain (App f ts) = ⊥
+
+-- the pairs are equal where what they come to is
+first-equal : (v w : Sub) → Absorbs v w → (ps : List Pair) → Each (PairEqual v) (from_first w ps) → Each (PairEqual v) ps
+first-equal v w a [] h = tt
+first-equal v w a (o ∷ ps) h = by (pairs_of (under w (tm_of o.left)) (under w (tm_of o.right))) refl h (first-equal v w a ps)
+  where
+    by : (qs : List Pair) → pairs_of (under w (tm_of o.left)) (under w (tm_of o.right)) ≡ qs → Each (PairEqual v) (in_front qs ps (from_first w ps)) → (Each (PairEqual v) (from_first w ps) → Each (PairEqual v) ps) → Each (PairEqual v) (o ∷ ps)
+    by [] e k rec = (one e tt, rec k)
+      where
+        one : pairs_of (under w (tm_of o.left)) (under w (tm_of o.right)) ≡ [] → Each (PairEqual v) [] → PairEqual v o
+        one e k = sym (resolved-twice v w (tm_of o.left) a) ∙ pairs-equal v (under w (tm_of o.left)) (under w (tm_of o.right)) (subst (Each (PairEqual v)) (sym e) k) ∙ resolved-twice v w (tm_of o.right) a
+    by (q ∷ qs) e k rec = (
+      sym (resolved-twice v w (tm_of o.left) a)
+          ∙ pairs-equal v (under w (tm_of o.left)) (under w (tm_of o.right)) (subst (Each (PairEqual v)) (sym e) (Each-left (PairEqual v) (q ∷ qs) ps k))
+          ∙ resolved-twice v w (tm_of o.right) a,
+      Each-right (PairEqual v) (q ∷ qs) ps k,
+    )
 
 module _ (p : Program) (s : State) (solved : Solved (length s.made) s.bound) (bindings : Each (BindingFirm s) s.bound) (h : Kept s) where
   -- ---- equations
@@ -91,7 +117,7 @@ module _ (p : Program) (s : State) (solved : Solved (length s.made) s.bound) (bi
     work =
         j.work ∙ sym (append_assoc (equations_of j.left) (equations_of ps) s.work)
         ∙ ap (λ (ws : List Task). ws ++ s.work) (sym (map-append (λ (o : Pair). task.Equate o.left o.right) j.left ps));
-    fit = equations-fit p r.made r.bound (j.left ++ ps);
+    fit = equations-fit p r.made r.bound r.lines (j.left ++ ps);
     shows = λ v m. and_from (same_tm (under v.of (tm_of t)) (under v.of (tm_of u))) true ((tm_decided (under v.of (tm_of t)) (under v.of (tm_of u))).1 (equal v m)) refl;
     more_lines = [];
     lines = j.lines ∙ sym (append-nil s.lines);
@@ -102,7 +128,7 @@ module _ (p : Program) (s : State) (solved : Solved (length s.made) s.bound) (bi
       equal v m =
           let q = split-all (holds v.of) (holds_of r) (left_of (equations_of (j.left ++ ps))) m in
           let all : Each (PairEqual v.of) (j.left ++ ps) = left-equal v.of (j.left ++ ps) q.1 in
-          let pairs : Each (PairEqual v.of) (o ∷ ps) = (j.same v q.0 (Each-left (PairEqual v.of) j.left ps all), Each-right (PairEqual v.of) j.left ps all) in
+          let pairs : Each (PairEqual v.of) (o ∷ ps) = (j.same v.of (equal-met r v.of q.0) (Each-left (PairEqual v.of) j.left ps all), Each-right (PairEqual v.of) j.left ps all) in
           let a : Absorbs v.of (meaning s) = bound-shown s h v.of (meets-before s r j.more_bound j.more_given j.bound j.given v.of q.0) in
           sym (resolved-twice v.of (meaning s) (tm_of t) a)
           ∙ pairs-equal v.of (under (meaning s) (tm_of t)) (under (meaning s) (tm_of u)) (subst (Each (PairEqual v.of)) (sym e) pairs)
@@ -133,11 +159,11 @@ module _ (p : Program) (s : State) (solved : Solved (length s.made) s.bound) (bi
   -- ---- telling apart
 
   module _ (t : Task) (nothing : left_by t ≡ []) where
-    apart-fits : (aim : Aim) → Each (TaskFits p s.made s.bound) (when_apart aim)
+    apart-fits : (aim : Aim) → Each (TaskFits p s.made s.bound s.lines) (when_apart aim)
     apart-fits aims.Test = tt
     apart-fits (aims.Head k first) = (tt, tt)
 
-    part-moves : (c : Con) → ConAll (Firm s) c → NoRow c → (aim : Aim) (other : List Task) → Each (TaskFits p s.made s.bound) other → EachState (Moves p s t) (at_part sat s c aim other).states
+    part-moves : (c : Con) → ConAll (Firm s) c → NoRow c → (aim : Aim) (other : List Task) → Each (TaskFits p s.made s.bound s.lines) other → EachState (Moves p s t) (at_part sat s c aim other).states
     part-moves c a n aim other f = by (status sat s c)
       where
         one : Moves p s t (before (task.Assume c ∷ when_apart aim) s)
@@ -157,26 +183,26 @@ module _ (p : Program) (s : State) (solved : Solved (length s.made) s.bound) (bi
       apart-moves : EachState (Moves p s t) (goes (before (when_apart aim) s)).states
       apart-moves = (before-moves p s t nothing h (when_apart aim) (apart-fits aim), tt)
 
-      variables-move : (x y : ℕ) → Found s x → Found s y → AimFits p s.bound aim (in_rights rest) → EachState (Moves p s t) (differ_variables sat s x y rest aim).states
-      variables-move x y a b f = by (stands_first s x y)
+      variables-move : (x y : ℕ) → Found s x → Found s y → AimFits p s.bound aim (in_rights rest) → AimReads p s.bound s.lines aim (λ v. (v x ≡ v y) × Each (PairEqual v) rest) → EachState (Moves p s t) (differ_variables sat s x y rest aim).states
+      variables-move x y a b f g = by (stands_first s x y)
         where
-          one : (z w : ℕ) → Found s z → Found s w → EachState (Moves p s t) (part_of_variables sat s z w rest aim).states
-          one z w c d = part-moves (differ (var z) (var w)) (kinded-firm s z c.0, kinded-firm s w d.0) tt aim (task.Become z (Var w) rest aim ∷ []) ((kinded-firm s z c.0, kinded-firm s w d.0, f), tt)
+          one : (z w : ℕ) → Found s z → Found s w → AimReads p s.bound s.lines aim (λ v. (v z ≡ v w) × Each (PairEqual v) rest) → EachState (Moves p s t) (part_of_variables sat s z w rest aim).states
+          one z w c d i = part-moves (differ (var z) (var w)) (kinded-firm s z c.0, kinded-firm s w d.0) tt aim (task.Become z (Var w) rest aim ∷ []) ((kinded-firm s z c.0, kinded-firm s w d.0, f, i), tt)
 
           by : (i : Bool) → EachState (Moves p s t) (if i then part_of_variables sat s x y rest aim else part_of_variables sat s y x rest aim).states
-          by true = one x y a b
-          by false = one y x b a
+          by true = one x y a b g
+          by false = one y x b a (aim-narrow p s.bound s.lines (λ v. (v x ≡ v y) × Each (PairEqual v) rest) (λ v. (v y ≡ v x) × Each (PairEqual v) rest) (λ v e k. (sym k.0, k.1)) aim g)
 
-      number-moves : (x : ℕ) (q : Number) → Found s x → AimFits p s.bound aim (in_rights rest) → EachState (Moves p s t) (differ_number sat s x q rest aim).states
-      number-moves x q a f =
-          part-moves (con.NotNum (Var x)) (kinded-firm s x a.0) tt aim (task.Assume (con.Num (Var x)) ∷ task.Avoid x q rest aim ∷ []) ((kinded-firm s x a.0, tt), ((kinded-firm s x a.0, f), tt))
+      number-moves : (x : ℕ) (q : Number) → Found s x → AimFits p s.bound aim (in_rights rest) → AimReads p s.bound s.lines aim (λ v. (v x ≡ num q) × Each (PairEqual v) rest) → EachState (Moves p s t) (differ_number sat s x q rest aim).states
+      number-moves x q a f g =
+          part-moves (con.NotNum (Var x)) (kinded-firm s x a.0) tt aim (task.Assume (con.Num (Var x)) ∷ task.Avoid x q rest aim ∷ []) ((kinded-firm s x a.0, tt), ((kinded-firm s x a.0, f, g), tt))
 
-      shape-moves : (x f : ℕ) (ts : Tms) → Found s x → AimFits p s.bound aim (λ z. occurs_among z ts || in_rights rest z) → EachState (Moves p s t) (differ_shape sat s x f ts rest aim).states
-      shape-moves x f ts a g = by (occurs_among x ts)
+      shape-moves : (x f : ℕ) (ts : Tms) → Found s x → AimFits p s.bound aim (λ z. occurs_among z ts || in_rights rest z) → AimReads p s.bound s.lines aim (λ v. (v x ≡ app f (all_under v ts)) × Each (PairEqual v) rest) → EachState (Moves p s t) (differ_shape sat s x f ts rest aim).states
+      shape-moves x f ts a g i = by (occurs_among x ts)
         where
           by : (i : Bool) → EachState (Moves p s t) (if i then goes (before (when_apart aim) s) else at_part sat s (con.NotShape x f (length (items ts))) aim (task.Shape x f ts rest aim ∷ [])).states
           by true = apart-moves
-          by false = part-moves (con.NotShape x f (length (items ts))) (kinded-firm s x a.0) tt aim (task.Shape x f ts rest aim ∷ []) ((kinded-firm s x a.0, g), tt)
+          by false = part-moves (con.NotShape x f (length (items ts))) (kinded-firm s x a.0) tt aim (task.Shape x f ts rest aim ∷ []) ((kinded-firm s x a.0, g, i), tt)
 
       -- a variable of no head is none of those that are to be bound
       not-there : (u : Tm) → AimFits p s.bound aim (λ z. occurs z u || in_rights rest z) → ((k first : ℕ) → aim ≡ aims.Head k first → (z : ℕ) → first ≤ z → z < first + vars_of_clause p k → occurs z u ≡ false)
@@ -207,22 +233,27 @@ module _ (p : Program) (s : State) (solved : Solved (length s.made) s.bound) (bi
         no-variable : (y : ℕ) → is_loose s y ≡ false → (k first : ℕ) → aim ≡ aims.Head k first → (z : ℕ) → first ≤ z → z < first + vars_of_clause p k → occurs z (var y) ≡ false
         no-variable y e k first f z l m = ne_eqb z y (λ g. true≢false (sym (heads k first f z l m) ∙ ap (is_loose s) g ∙ e))
 
+        -- the sides the other way round
+        turned-reads : (a b : Tm) → AimReads p s.bound s.lines aim (λ v. (under v a ≡ under v b) × Each (PairEqual v) rest) → AimReads p s.bound s.lines aim (λ v. (under v b ≡ under v a) × Each (PairEqual v) rest)
+        turned-reads a b i =
+            aim-narrow p s.bound s.lines (λ v. (under v a ≡ under v b) × Each (PairEqual v) rest) (λ v. (under v b ≡ under v a) × Each (PairEqual v) rest) (λ v e k. (sym k.0, k.1)) aim i
+
         pair-moves : (a b : Tm) → EachVar (Found s) a → EachVar (Free (length s.made) s.bound) b → Apart a b → ((y : ℕ) → b ≡ var y → is_loose s y ≡ false)
-            → AimFits p s.bound aim (λ z. occurs z b || in_rights rest z) → EachState (Moves p s t) (differ_pair sat s a b rest aim).states
-        pair-moves (var x) (var y) fa fb n l g = variables-move x y fa ((fb.1, l y refl), fb.0) (not-there (var y) g (no-variable y (l y refl)))
-        pair-moves (var x) (num q) fa fb n l g = number-moves x q fa (not-there (num q) g (λ k first e z a b. refl))
-        pair-moves (var x) (app f ts) fa fb n l g = shape-moves x f ts fa g
-        pair-moves (num q) (var y) fa fb n l g = number-moves y q ((fb.1, l y refl), fb.0) (not-there (var y) g (no-variable y (l y refl)))
-        pair-moves (num q) (num r) fa fb n l g = apart-moves
-        pair-moves (num q) (app f ts) fa fb n l g = apart-moves
-        pair-moves (app f ts) (var y) fa fb n l g = shape-moves y f ts ((fb.1, l y refl), fb.0) (anywhere ts (not-there (var y) g (no-variable y (l y refl))))
-        pair-moves (app f ts) (num r) fa fb n l g = apart-moves
-        pair-moves (app f ts) (app k us) fa fb n l g = apart-moves
+            → AimFits p s.bound aim (λ z. occurs z b || in_rights rest z) → AimReads p s.bound s.lines aim (λ v. (under v a ≡ under v b) × Each (PairEqual v) rest) → EachState (Moves p s t) (differ_pair sat s a b rest aim).states
+        pair-moves (var x) (var y) fa fb n l g i = variables-move x y fa ((fb.1, l y refl), fb.0) (not-there (var y) g (no-variable y (l y refl))) i
+        pair-moves (var x) (num q) fa fb n l g i = number-moves x q fa (not-there (num q) g (λ k first e z a b. refl)) i
+        pair-moves (var x) (app f ts) fa fb n l g i = shape-moves x f ts fa g i
+        pair-moves (num q) (var y) fa fb n l g i = number-moves y q ((fb.1, l y refl), fb.0) (not-there (var y) g (no-variable y (l y refl))) (turned-reads (num q) (var y) i)
+        pair-moves (num q) (num r) fa fb n l g i = apart-moves
+        pair-moves (num q) (app f ts) fa fb n l g i = apart-moves
+        pair-moves (app f ts) (var y) fa fb n l g i = shape-moves y f ts ((fb.1, l y refl), fb.0) (anywhere ts (not-there (var y) g (no-variable y (l y refl)))) (turned-reads (app f ts) (var y) i)
+        pair-moves (app f ts) (num r) fa fb n l g i = apart-moves
+        pair-moves (app f ts) (app k us) fa fb n l g i = apart-moves
 
         -- the head's variable stands for the literal's part
         taken-moves : (a : Tm) (y : ℕ) → EachVar (Found s) a → is_bound_in s.bound y ≡ false → is_loose s y ≡ true → AimFits p s.bound aim (λ z. nat_eq z y || in_rights rest z)
-            → Moves p s t (before (task.Differ rest aim ∷ []) (with_binding s y a))
-        taken-moves a y fa free l g = record {
+            → AimReads p s.bound s.lines aim (λ v. (under v a ≡ v y) × Each (PairEqual v) rest) → Moves p s t (before (task.Differ rest aim ∷ []) (with_binding s y a))
+        taken-moves a y fa free l g i = record {
           onto = record { more = as-many (length s.made); kinded = (λ z k. k); firm = (λ z k. (k.0, still z k.1)) };
           more_bound = binding y a ∷ [];
           bound = refl;
@@ -233,13 +264,18 @@ module _ (p : Program) (s : State) (solved : Solved (length s.made) s.bound) (bi
           named = λ k. k;
           tasks = task.Differ rest aim ∷ [];
           work = refl;
-          fit = (by aim g, tt);
+          fit = ((by aim g, narrowed), tt);
           shows = λ v m. subst (λ (cs : List Con). Meets v.of cs) (sym nothing) refl;
           more_lines = [];
           lines = sym (append-nil s.lines);
           told = tt;
         }
           where
+            narrowed : AimReads p (s.bound ++ binding y a ∷ []) s.lines aim (λ v. Each (PairEqual v) rest)
+            narrowed =
+                aim-reads p s.bound (s.bound ++ binding y a ∷ []) s.lines s.lines (λ v. (under v a ≡ v y) × Each (PairEqual v) rest) (λ v. Each (PairEqual v) rest)
+                (equal-earlier s (with_binding s y a) (binding y a ∷ []) refl) (λ l k. k) (λ v e k. (sym (last-equal s.bound y a v e), k)) aim i
+
             still : (z : ℕ) → (is_loose s z ≡ false) ⊎ (is_bound_in s.bound z ≡ true) → (is_loose s z ≡ false) ⊎ (is_bound_in (s.bound ++ binding y a ∷ []) z ≡ true)
             still z (inl e) = inl e
             still z (inr e) = inr (still-bound s.bound (binding y a) z e)
@@ -257,57 +293,64 @@ module _ (p : Program) (s : State) (solved : Solved (length s.made) s.bound) (bi
                 one z (inr e) = here z (or_cases (nat_eq z y) (in_rights rest z) e)
 
         first-moves : (a b : Tm) → EachVar (Found s) a → EachVar (Free (length s.made) s.bound) b → Apart a b → AimFits p s.bound aim (λ z. occurs z b || in_rights rest z)
-            → EachState (Moves p s t) (differ_first sat s a b rest aim).states
-        first-moves a (num q) fa fb n g = pair-moves a (num q) fa fb n (λ y e. absurd (cc e)) g
-        first-moves a (app f ts) fa fb n g = pair-moves a (app f ts) fa fb n (λ y e. absurd (cc e)) g
-        first-moves a (var y) fa fb n g = by (is_matched s (var y)) refl
+            → AimReads p s.bound s.lines aim (λ v. (under v a ≡ under v b) × Each (PairEqual v) rest) → EachState (Moves p s t) (differ_first sat s a b rest aim).states
+        first-moves a (num q) fa fb n g i = pair-moves a (num q) fa fb n (λ y e. absurd (cc e)) g i
+        first-moves a (app f ts) fa fb n g i = pair-moves a (app f ts) fa fb n (λ y e. absurd (cc e)) g i
+        first-moves a (var y) fa fb n g i = by (is_matched s (var y)) refl
           where
             same : (z : ℕ) → var y ≡ var z → y ≡ z
             same z e = cc
 
-            by : (i : Bool) → is_loose s y ≡ i → EachState (Moves p s t) (if i then goes (before (task.Differ rest aim ∷ []) (take_up s a (var y))) else differ_pair sat s a (var y) rest aim).states
-            by true e = (taken-moves a y fa fb.0 e g, tt)
-            by false e = pair-moves a (var y) fa fb n (λ z f. ap (is_loose s) (sym (same z f)) ∙ e) g
+            by : (c : Bool) → is_loose s y ≡ c → EachState (Moves p s t) (if c then goes (before (task.Differ rest aim ∷ []) (take_up s a (var y))) else differ_pair sat s a (var y) rest aim).states
+            by true e = (taken-moves a y fa fb.0 e g i, tt)
+            by false e = pair-moves a (var y) fa fb n (λ z f. ap (is_loose s) (sym (same z f)) ∙ e) g i
 
       -- ---- where a part is not apart
 
-      joined-differ : (u w : Tm) (r : State) → Joins s u w r → AimFits p s.bound aim (in_rights rest) → Moves p s t (before (task.Differ rest aim ∷ []) r)
-      joined-differ u w r j g = record {
-        onto = record { more = j.onto.more; kinded = j.onto.kinded; firm = j.onto.firm };
-        more_bound = j.more_bound;
-        bound = j.bound;
-        more_given = j.more_given;
-        given = j.given;
-        kept = j.kept;
-        covers = j.covers;
-        named = λ k. subst (Each Named) (sym j.literals) k;
-        tasks = task.Differ rest aim ∷ equations_of j.left;
-        work = ap (λ (ws : List Task). task.Differ rest aim ∷ ws) j.work;
+      joined-differ : (E : Sub → Type 0) (u w : Tm) (r : State) → JoinsAlone s u w r → AimFits p s.bound aim (in_rights rest) → AimReads p s.bound s.lines aim E
+          → ((v : Sub) → under v u ≡ under v w → Each (PairEqual v) rest → E v) → Moves p s t (before (task.Differ rest aim ∷ []) r)
+      joined-differ E u w r c g i narrow = record {
+        onto = record { more = c.0.onto.more; kinded = c.0.onto.kinded; firm = c.0.onto.firm };
+        more_bound = c.0.more_bound;
+        bound = c.0.bound;
+        more_given = c.0.more_given;
+        given = c.0.given;
+        kept = c.0.kept;
+        covers = c.0.covers;
+        named = λ k. subst (Each Named) (sym c.0.literals) k;
+        tasks = task.Differ rest aim ∷ equations_of c.0.left;
+        work = ap (λ (ws : List Task). task.Differ rest aim ∷ ws) c.0.work;
         fit = (
-          aim-later p s.bound r.bound (λ z e. subst (λ (bs : List Binding). is_bound_in bs z ≡ true) (sym j.bound) (bound-more s.bound j.more_bound z e)) aim (in_rights rest) g,
-          equations-fit p r.made r.bound j.left,
+          (
+            aim-later p s.bound r.bound (λ z e. subst (λ (bs : List Binding). is_bound_in bs z ≡ true) (sym c.0.bound) (bound-more s.bound c.0.more_bound z e)) aim (in_rights rest) g,
+            aim-reads p s.bound r.bound s.lines r.lines E (λ v. Each (PairEqual v) rest) (equal-earlier s r c.0.more_bound c.0.bound) (λ l k. subst (λ (ls : List Line). Contains ls l) (sym c.0.lines) k)
+                (λ v e k. narrow v (c.0.same v e (subst (Each (PairEqual v)) (sym c.1) tt)) k) aim i,
+          ),
+          equations-fit p r.made r.bound r.lines c.0.left,
         );
         shows = λ v m. subst (λ (cs : List Con). Meets v.of cs) (sym nothing) refl;
         more_lines = [];
-        lines = j.lines ∙ sym (append-nil s.lines);
+        lines = c.0.lines ∙ sym (append-nil s.lines);
         told = tt;
       }
 
   -- ---- the tasks
 
-  pairs-move : (ps qs : List Pair) (aim : Aim) → AimFits p s.bound aim (in_rights qs) → First (Both (Found s) (Free (length s.made) s.bound)) qs
+  pairs-move : (ps qs : List Pair) (aim : Aim) → AimFits p s.bound aim (in_rights qs) → AimReads p s.bound s.lines aim (λ v. Each (PairEqual v) qs) → First (Both (Found s) (Free (length s.made) s.bound)) qs
       → ((k first : ℕ) → aim ≡ aims.Head k first → (z : ℕ) → first ≤ z → z < first + vars_of_clause p k → is_loose s z ≡ true) → EachState (Moves p s (task.Differ ps aim)) (differ_pairs sat s qs aim).states
-  pairs-move ps [] aims.Test g f heads = tt
-  pairs-move ps [] (aims.Head k first) g f heads = (before-moves p s (task.Differ ps (aims.Head k first)) refl h (task.Begin k first false ∷ []) ((λ z l m. by z (g z l m)), tt), tt)
+  pairs-move ps [] aims.Test g i f heads = tt
+  pairs-move ps [] (aims.Head k first) g i f heads = (before-moves p s (task.Differ ps (aims.Head k first)) refl h (task.Begin k first false ∷ []) (((λ z l m. by z (g z l m)), i), tt), tt)
     where
       by : (z : ℕ) → (is_bound_in s.bound z ≡ true) ⊎ (false ≡ true) → is_bound_in s.bound z ≡ true
       by z (inl e) = e
       by z (inr e) = absurd (true≢false (sym e))
-  pairs-move ps (o ∷ qs) aim g f heads = first-moves (task.Differ ps aim) refl qs aim heads (tm_of o.left) (tm_of o.right) f.0 f.1 f.2 g
+  pairs-move ps (o ∷ qs) aim g i f heads = first-moves (task.Differ ps aim) refl qs aim heads (tm_of o.left) (tm_of o.right) f.0 f.1 f.2 g i
 
   pub differ-moves : (ps : List Pair) (aim : Aim) → PairsFirm s ps → ((k first : ℕ) → aim ≡ aims.Head k first → (z : ℕ) → first ≤ z → z < first + vars_of_clause p k → is_loose s z ≡ true)
-      → AimFits p s.bound aim (in_rights ps) → EachState (Moves p s (task.Differ ps aim)) (differ_terms sat s ps aim).states
-  differ-moves ps aim f heads g = pairs-move ps (from_first (meaning s) ps) aim (by aim refl g) (first-both (Found s) (Free (length s.made) s.bound) (meaning s) ps both) heads
+      → AimFits p s.bound aim (in_rights ps) → AimReads p s.bound s.lines aim (λ v. Each (PairEqual v) ps) → EachState (Moves p s (task.Differ ps aim)) (differ_terms sat s ps aim).states
+  differ-moves ps aim f heads g i =
+      pairs-move ps (from_first (meaning s) ps) aim (by aim refl g)
+      (aim-narrow p s.bound s.lines (λ v. Each (PairEqual v) ps) (λ v. Each (PairEqual v) (from_first (meaning s) ps)) (λ v e k. first-equal v (meaning s) (absorbed v s.bound e) ps k) aim i) (first-both (Found s) (Free (length s.made) s.bound) (meaning s) ps both) heads
     where
       both : Each (λ o. EachVar (Found s) (under (meaning s) (tm_of o.left)) × EachVar (Free (length s.made) s.bound) (under (meaning s) (tm_of o.right))) ps
       both =
@@ -328,23 +371,33 @@ module _ (p : Program) (s : State) (solved : Solved (length s.made) s.bound) (bi
           one z l m false c (inl d) = inl d
           one z l m false c (inr d) = inr (first-rights (meaning s) z (unbound-self s.bound z c) ps (absent z l m) d)
 
-  pub become-moves : (x : ℕ) (t : Term) (rest : List Pair) (aim : Aim) → Found s x → EachVar (Found s) (tm_of t) → Apart (var x) (tm_of t) → AimFits p s.bound aim (in_rights rest)
-      → EachState (Moves p s (task.Become x t rest aim)) (same_value sat s x (tm_of t) rest aim).states
-  become-moves x t rest aim a b n g =
-      each_map (Joins s (var x) (tm_of t)) (Moves p s (task.Become x t rest aim)) (before (task.Differ rest aim ∷ [])) (equated sat s (var x) (tm_of t)).states
-      (terms-join s solved bindings h (var x) (tm_of t) a b n) (λ r j. joined-differ (task.Become x t rest aim) refl rest aim (var x) (tm_of t) r j g)
+  become-by : (x : ℕ) (t : Term) → Found s x → EachVar (Found s) (tm_of t) → Apart (var x) (tm_of t) → IsPlain t → EachState (JoinsAlone s (var x) (tm_of t)) (equated sat s (var x) (tm_of t)).states
+  become-by x (Var y) a b n k = variables-join s solved bindings h x y a b n
+  become-by x (Num q) a b n k = number-joins s solved bindings h x q a
+  become-by x (App f ts) a b n k = absurd k
 
-  pub avoid-moves : (x : ℕ) (q : Number) (rest : List Pair) (aim : Aim) → Firm s x → AimFits p s.bound aim (in_rights rest) → EachState (Moves p s (task.Avoid x q rest aim)) (differ_value sat s x q rest aim).states
-  avoid-moves x q rest aim a g = part-moves (task.Avoid x q rest aim) refl (differ (var x) (num q)) (a, tt) tt aim (task.Become x (term_with (num q)) rest aim ∷ []) ((a, tt, g), tt)
+  pub become-moves : (x : ℕ) (t : Term) (rest : List Pair) (aim : Aim) → Found s x → EachVar (Found s) (tm_of t) → Apart (var x) (tm_of t) → IsPlain t → AimFits p s.bound aim (in_rights rest)
+      → AimReads p s.bound s.lines aim (λ v. (v x ≡ under v (tm_of t)) × Each (PairEqual v) rest) → EachState (Moves p s (task.Become x t rest aim)) (same_value sat s x (tm_of t) rest aim).states
+  become-moves x t rest aim a b n k g i =
+      each_map (JoinsAlone s (var x) (tm_of t)) (Moves p s (task.Become x t rest aim)) (before (task.Differ rest aim ∷ [])) (equated sat s (var x) (tm_of t)).states (become-by x t a b n k)
+      (λ r j. joined-differ (task.Become x t rest aim) refl rest aim (λ v. (v x ≡ under v (tm_of t)) × Each (PairEqual v) rest) (var x) (tm_of t) r j g i (λ v e f. (e, f)))
+
+  pub avoid-moves : (x : ℕ) (q : Number) (rest : List Pair) (aim : Aim) → Firm s x → AimFits p s.bound aim (in_rights rest) → AimReads p s.bound s.lines aim (λ v. (v x ≡ num q) × Each (PairEqual v) rest) → EachState (Moves p s (task.Avoid x q rest aim)) (differ_value sat s x q rest aim).states
+  avoid-moves x q rest aim a g i = part-moves (task.Avoid x q rest aim) refl (differ (var x) (num q)) (a, tt) tt aim (task.Become x (term_with (num q)) rest aim ∷ []) ((a, tt, g, i), tt)
 
   pub name-moves : (x f : ℕ) (us : Tms) (rest : List Pair) (aim : Aim) → Found s x → AimFits p s.bound aim (λ z. occurs_among z us || in_rights rest z)
-      → EachState (Moves p s (task.Shape x f us rest aim)) (same_shape sat s x f us rest aim).states
-  name-moves x f us rest aim a g =
-      each_map (Joins s (var x) (app f (new_parts (next_variable s) (length (items us))))) (Moves p s (task.Shape x f us rest aim))
+      → AimReads p s.bound s.lines aim (λ v. (v x ≡ app f (all_under v us)) × Each (PairEqual v) rest) → EachState (Moves p s (task.Shape x f us rest aim)) (same_shape sat s x f us rest aim).states
+  name-moves x f us rest aim a g k =
+      each_map (JoinsAlone s (var x) (app f (new_parts (next_variable s) (length (items us))))) (Moves p s (task.Shape x f us rest aim))
       (before (task.Differ (pairs (new_parts (next_variable s) (length (items us))) us ++ rest) aim ∷ [])) (becomes_shape sat s x f (length (items us))).states
       (shape-joins s solved bindings h x f (length (items us)) a)
       (λ r j.
-      joined-differ (task.Shape x f us rest aim) refl (pairs (new_parts (next_variable s) (length (items us))) us ++ rest) aim (var x) (app f (new_parts (next_variable s) (length (items us)))) r j (by aim g))
+      joined-differ (task.Shape x f us rest aim) refl (pairs (new_parts (next_variable s) (length (items us))) us ++ rest) aim (λ v. (v x ≡ app f (all_under v us)) × Each (PairEqual v) rest) (var x)
+      (app f (new_parts (next_variable s) (length (items us)))) r j (by aim g) k
+      (λ v e o. (
+        e ∙ ap (app f) (args-equal v (new_parts (next_variable s) (length (items us))) us (parts-many (next_variable s) (length (items us))) (Each-left (PairEqual v) (pairs (new_parts (next_variable s) (length (items us))) us) rest o)),
+        Each-right (PairEqual v) (pairs (new_parts (next_variable s) (length (items us))) us) rest o,
+      )))
     where
       by : (i : Aim) → AimFits p s.bound i (λ z. occurs_among z us || in_rights rest z) → AimFits p s.bound i (in_rights (pairs (new_parts (next_variable s) (length (items us))) us ++ rest))
       by aims.Test k = tt

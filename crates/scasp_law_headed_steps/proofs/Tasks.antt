@@ -1,5 +1,5 @@
 -- What tasks keep to, and what a step that opens and closes no case keeps.
-use Rattle.std.specs.List.{list_all}
+use Rattle.std.specs.List.{Contains, list_all}
 use Rattle.std.specs.Prelude.{Bool, List, [], false, length, map, nat_eq, true, ℕ, ⊤, ◌++◌, ◌+◌, ◌<◌, ◌||◌, ◌∷◌, ◌≡◌, ◌≤◌, ◌⊎◌}
 use Rattle.std.proofs.Common.{ap, append_assoc, inl, inr, refl, subst, sym, ◌∙◌}
 use Rattle.std.proofs.lemmas.Bool.{and_parts, or_left}
@@ -9,8 +9,10 @@ use Rattle.scasp_law_first_event.proofs.Firmness.{Firm, FirmIn, Onto, as-many}
 use Rattle.scasp_law_first_event.proofs.Terms.{EachVar, each-weaker}
 use Rattle.scasp_law_no_circle.proofs.Tasks.{NoRow}
 use Rattle.scasp_law_parts.proofs.AgreeLemmas.{join-all, split-all}
+use Rattle.scasp_law_sorted.proofs.Numbers.{met-equal}
+use Rattle.scasp_list.proofs.EachLemmas.{Each-left}
 use Rattle.scasp_list.specs.Each.{Each}
-use Rattle.scasp_search_rules.specs.Successors.Calls.{vars_of_clause}
+use Rattle.scasp_search_rules.specs.Successors.Calls.{head_args, vars_of_clause}
 use Rattle.scasp_search_rules.specs.Successors.Equations.{equations_of}
 use Rattle.scasp_search_rules.specs.Successors.Items.{with_line}
 use Rattle.scasp_search_rules.specs.Successors.Regions.{before, equation}
@@ -28,11 +30,14 @@ use Rattle.scasp_search_rules.specs.declared.states.tasks.Task.TheVariants as ta
 use Rattle.scasp_syntax.proofs.SameLemmas.{tm_decided}
 use Rattle.scasp_syntax.specs.Constraints.{Meets, holds}
 use Rattle.scasp_syntax.specs.Same.{same_tm}
-use Rattle.scasp_syntax.specs.Values.{Sub, Valuation, under}
+use Rattle.scasp_syntax.specs.Tm.{app, num}
+use Rattle.scasp_syntax.specs.Values.{Sub, Valuation, all_under, under}
 use Rattle.scasp_syntax.specs.View.{tm_of}
+use Rattle.scasp_syntax.specs.declared.atom.Atom.{Atom}
 use Rattle.scasp_syntax.specs.declared.con.Con.{Con}
 use Rattle.scasp_syntax.specs.declared.program.Program.{Program}
 use Rattle.scasp_unify.specs.Parts.{occurs_among}
+use Rattle.scasp_unify.specs.Resolver.{Equal}
 use Rattle.scasp_unify.specs.declared.bindings.Binding.{Binding}
 use Rattle.scasp_law_headed_steps.proofs.Assuming.{Kept, KeptAt}
 use Rattle.scasp_law_headed_steps.proofs.Bodies.{ItemOf, item-of-weaker}
@@ -48,20 +53,41 @@ module _ (p : Program) where
   AimFits bs aims.Test there = ⊤
   AimFits bs (aims.Head k first) there = (z : ℕ) → first ≤ z → z < first + vars_of_clause p k → (is_bound_in bs z ≡ true) ⊎ (there z ≡ true)
 
-  abbrev pub TaskFits : List Made → List Binding → Task → Type 0
-  TaskFits made bs (task.Show i) = ItemOf (FirmIn made bs) i
-  TaskFits made bs (task.Equate t u) = ⊤
-  TaskFits made bs (task.Assume c) = ConAll (FirmIn made bs) c × NoRow c
-  TaskFits made bs (task.Differ ps aim) = AimFits bs aim (in_rights ps)
-  TaskFits made bs (task.Become x t ps aim) = FirmIn made bs x × EachVar (FirmIn made bs) (tm_of t) × AimFits bs aim (in_rights ps)
-  TaskFits made bs (task.Avoid x q ps aim) = FirmIn made bs x × AimFits bs aim (in_rights ps)
-  TaskFits made bs (task.Shape x f us ps aim) = FirmIn made bs x × AimFits bs aim (λ z. occurs_among z us || in_rights ps z)
-  TaskFits made bs (task.Cover a k) = Covers p a k
-  TaskFits made bs (task.Check k checks_head) = vars_of_clause p k ≡ 0
-  TaskFits made bs (task.Begin k first checks_head) = AreBound p bs k first
-  TaskFits made bs task.Void = ⊤
-  TaskFits made bs task.Leave = ⊤
-  TaskFits made bs task.Close = ⊤
+  -- A line that was told is that of the rule, and where the bindings and E hold the rule's head reads as the line's atom.
+  pub record HeadReads (bs : List Binding) (ls : List Line) (k first : ℕ) (E : Sub → Type 0) : Type 0 where
+    pub atom : Atom
+    pub told : Contains ls (line.Rule atom k first)
+    pub reads : (v : Sub) → Each (Equal v) (map equation bs) → E v → all_under v (head_args p k first) ≡ all_under v atom.args
+
+  abbrev pub AimReads : List Binding → List Line → Aim → (Sub → Type 0) → Type 0
+  AimReads bs ls aims.Test E = ⊤
+  AimReads bs ls (aims.Head k first) E = HeadReads bs ls k first E
+
+  pub aim-reads : (bs cs : List Binding) (ls ms : List Line) (E F : Sub → Type 0) → ((v : Sub) → Each (Equal v) (map equation cs) → Each (Equal v) (map equation bs)) → ((l : Line) → Contains ls l → Contains ms l)
+      → ((v : Sub) → Each (Equal v) (map equation cs) → F v → E v) → (aim : Aim) → AimReads bs ls aim E → AimReads cs ms aim F
+  aim-reads bs cs ls ms E F b l f aims.Test h = tt
+  aim-reads bs cs ls ms E F b l f (aims.Head k first) h = record { atom = h.atom; told = l (line.Rule h.atom k first) h.told; reads = λ v e k. h.reads v (b v e) (f v e k) }
+
+  -- the same state, and more to hold
+  pub aim-narrow : (bs : List Binding) (ls : List Line) (E F : Sub → Type 0) → ((v : Sub) → Each (Equal v) (map equation bs) → F v → E v) → (aim : Aim) → AimReads bs ls aim E → AimReads bs ls aim F
+  aim-narrow bs ls E F f aim h = aim-reads bs bs ls ls E F (λ v e. e) (λ l i. i) f aim h
+
+  abbrev pub TaskFits : List Made → List Binding → List Line → Task → Type 0
+  TaskFits made bs ls (task.Show i) = ItemOf (FirmIn made bs) i
+  TaskFits made bs ls (task.Equate t u) = ⊤
+  TaskFits made bs ls (task.Assume c) = ConAll (FirmIn made bs) c × NoRow c
+  TaskFits made bs ls (task.Differ ps aim) = AimFits bs aim (in_rights ps) × AimReads bs ls aim (λ v. Each (PairEqual v) ps)
+  TaskFits made bs ls (task.Become x t ps aim) =
+      FirmIn made bs x × EachVar (FirmIn made bs) (tm_of t) × AimFits bs aim (in_rights ps) × AimReads bs ls aim (λ v. (v x ≡ under v (tm_of t)) × Each (PairEqual v) ps)
+  TaskFits made bs ls (task.Avoid x q ps aim) = FirmIn made bs x × AimFits bs aim (in_rights ps) × AimReads bs ls aim (λ v. (v x ≡ num q) × Each (PairEqual v) ps)
+  TaskFits made bs ls (task.Shape x f us ps aim) =
+      FirmIn made bs x × AimFits bs aim (λ z. occurs_among z us || in_rights ps z) × AimReads bs ls aim (λ v. (v x ≡ app f (all_under v us)) × Each (PairEqual v) ps)
+  TaskFits made bs ls (task.Cover a k) = Covers p a k
+  TaskFits made bs ls (task.Check k checks_head) = vars_of_clause p k ≡ 0
+  TaskFits made bs ls (task.Begin k first checks_head) = AreBound p bs k first × HeadReads bs ls k first (λ v. ⊤)
+  TaskFits made bs ls task.Void = ⊤
+  TaskFits made bs ls task.Leave = ⊤
+  TaskFits made bs ls task.Close = ⊤
 
   -- ---- later states
 
@@ -73,18 +99,22 @@ module _ (p : Program) where
       by z (inl e) = inl (f z e)
       by z (inr e) = inr e
 
-  module _ (s r : State) (o : Onto s r) (more : (z : ℕ) → is_bound_in s.bound z ≡ true → is_bound_in r.bound z ≡ true) where
-    pub task-later : (t : Task) → TaskFits s.made s.bound t → TaskFits r.made r.bound t
+  module _ (s r : State) (o : Onto s r) (more : (z : ℕ) → is_bound_in s.bound z ≡ true → is_bound_in r.bound z ≡ true) (equal : (v : Sub) → Each (Equal v) (map equation r.bound) → Each (Equal v) (map equation s.bound))
+      (longer : (l : Line) → Contains s.lines l → Contains r.lines l) where
+    reads-later : (E : Sub → Type 0) (aim : Aim) → AimReads s.bound s.lines aim E → AimReads r.bound r.lines aim E
+    reads-later E aim h = aim-reads s.bound r.bound s.lines r.lines E E equal longer (λ v e f. f) aim h
+
+    pub task-later : (t : Task) → TaskFits s.made s.bound s.lines t → TaskFits r.made r.bound r.lines t
     task-later (task.Show i) h = item-of-weaker (Firm s) (Firm r) o.firm i h
     task-later (task.Equate t u) h = tt
     task-later (task.Assume c) h = (all-con-weaker (Firm s) (Firm r) o.firm c h.0, h.1)
-    task-later (task.Differ ps aim) h = aim-later s.bound r.bound more aim (in_rights ps) h
-    task-later (task.Become x t ps aim) h = (o.firm x h.0, each-weaker (Firm s) (Firm r) o.firm (tm_of t) h.1, aim-later s.bound r.bound more aim (in_rights ps) h.2)
-    task-later (task.Avoid x q ps aim) h = (o.firm x h.0, aim-later s.bound r.bound more aim (in_rights ps) h.1)
-    task-later (task.Shape x f us ps aim) h = (o.firm x h.0, aim-later s.bound r.bound more aim (λ z. occurs_among z us || in_rights ps z) h.1)
+    task-later (task.Differ ps aim) h = (aim-later s.bound r.bound more aim (in_rights ps) h.0, reads-later (λ v. Each (PairEqual v) ps) aim h.1)
+    task-later (task.Become x t ps aim) h = (o.firm x h.0, each-weaker (Firm s) (Firm r) o.firm (tm_of t) h.1, aim-later s.bound r.bound more aim (in_rights ps) h.2, reads-later (λ v. (v x ≡ under v (tm_of t)) × Each (PairEqual v) ps) aim h.3)
+    task-later (task.Avoid x q ps aim) h = (o.firm x h.0, aim-later s.bound r.bound more aim (in_rights ps) h.1, reads-later (λ v. (v x ≡ num q) × Each (PairEqual v) ps) aim h.2)
+    task-later (task.Shape x f us ps aim) h = (o.firm x h.0, aim-later s.bound r.bound more aim (λ z. occurs_among z us || in_rights ps z) h.1, reads-later (λ v. (v x ≡ app f (all_under v us)) × Each (PairEqual v) ps) aim h.2)
     task-later (task.Cover a k) h = h
     task-later (task.Check k checks_head) h = h
-    task-later (task.Begin k first checks_head) h = λ z l m. more z (h z l m)
+    task-later (task.Begin k first checks_head) h = ((λ z l m. more z (h.0 z l m)), reads-later (λ v. ⊤) (aims.Head k first) h.1)
     task-later task.Void h = tt
     task-later task.Leave h = tt
     task-later task.Close h = tt
@@ -148,7 +178,7 @@ pub record Moves (p : Program) (s : State) (t : Task) (r : State) : Type 0 where
   pub named : Each Named s.literals → Each Named r.literals
   pub tasks : List Task
   pub work : r.work ≡ tasks ++ s.work
-  pub fit : Each (TaskFits p r.made r.bound) tasks
+  pub fit : Each (TaskFits p r.made r.bound r.lines) tasks
   pub shows : (v : Valuation) → Meets v.of (holds_of r ++ left_of tasks) → Meets v.of (left_by t)
   pub more_lines : List Line
   pub lines : r.lines ≡ s.lines ++ more_lines
@@ -156,7 +186,7 @@ pub record Moves (p : Program) (s : State) (t : Task) (r : State) : Type 0 where
 
 -- where nothing more is made or bound
 pub settles : (p : Program) (s : State) (t : Task) (gs : List Con) (G : List Con) → G ≡ s.given ++ gs → KeptAt s.made s.bound G s.covers → (xs : List Literal) → (Each Named s.literals → Each Named xs)
-    → (ls : List Line) (L : List Line) → L ≡ s.lines ++ ls → (ts : List Task) (W : List Task) → W ≡ ts ++ s.work → Each (TaskFits p s.made s.bound) ts
+    → (ls : List Line) (L : List Line) → L ≡ s.lines ++ ls → (ts : List Task) (W : List Task) → W ≡ ts ++ s.work → Each (TaskFits p s.made s.bound L) ts
     → ((v : Valuation) → Meets v.of ((map equation s.bound ++ G) ++ left_of ts) → Meets v.of (left_by t)) → Each (Tells ((map equation s.bound ++ G) ++ left_of ts)) ls
     → Moves p s t (record s { given = G; literals = xs; lines = L; work = W })
 settles p s t gs G g kept xs named ls L l ts W w fit shows told = record {
@@ -178,7 +208,7 @@ settles p s t gs G g kept xs named ls L l ts W w fit shows told = record {
 }
 
 -- these tasks in front
-pub before-moves : (p : Program) (s : State) (t : Task) → left_by t ≡ [] → Kept s → (ts : List Task) → Each (TaskFits p s.made s.bound) ts → Moves p s t (before ts s)
+pub before-moves : (p : Program) (s : State) (t : Task) → left_by t ≡ [] → Kept s → (ts : List Task) → Each (TaskFits p s.made s.bound s.lines) ts → Moves p s t (before ts s)
 before-moves p s t e h ts f =
     settles p s t [] s.given (sym (append-nil s.given)) h s.literals (λ k. k) [] s.lines (sym (append-nil s.lines)) ts (ts ++ s.work) refl f
     (λ v m. subst (λ (cs : List Con). Meets v.of cs) (sym e) refl) tt
@@ -190,6 +220,15 @@ line-moves p s t e h l f =
     (λ v m. subst (λ (cs : List Con). Meets v.of cs) (sym e) refl) (f (holds_of s ++ []), tt)
 
 -- ---- what holds in both
+
+-- what makes the later bindings equal makes the earlier ones so
+pub equal-earlier : (s r : State) (more : List Binding) → r.bound ≡ s.bound ++ more → (v : Sub) → Each (Equal v) (map equation r.bound) → Each (Equal v) (map equation s.bound)
+equal-earlier s r more b v h =
+    Each-left (Equal v) (map equation s.bound) (map equation more) (subst (Each (Equal v)) (ap (map equation) b ∙ map-append equation s.bound more) h)
+
+-- what meets the list makes the bindings equal
+pub equal-met : (s : State) (v : Sub) → Meets v (holds_of s) → Each (Equal v) (map equation s.bound)
+equal-met s v m = met-equal v s.bound (split-all (holds v) (map equation s.bound) s.given m).0
 
 pub bound-more : (bs more : List Binding) (z : ℕ) → is_bound_in bs z ≡ true → is_bound_in (bs ++ more) z ≡ true
 bound-more bs more z e = list_any-append (λ (b : Binding). nat_eq b.x z) bs more ∙ or_left (is_bound_in bs z) (is_bound_in more z) e
@@ -214,6 +253,6 @@ left-equal v (o ∷ ps) e =
     let q = and_parts (same_tm (under v (tm_of o.left)) (under v (tm_of o.right))) (list_all (holds v) (left_of (equations_of ps))) e in
     ((tm_decided (under v (tm_of o.left)) (under v (tm_of o.right))).0 q.0, left-equal v ps q.1)
 
-pub equations-fit : (p : Program) (made : List Made) (bs : List Binding) (ps : List Pair) → Each (TaskFits p made bs) (equations_of ps)
-equations-fit p made bs [] = tt
-equations-fit p made bs (o ∷ ps) = (tt, equations-fit p made bs ps)
+pub equations-fit : (p : Program) (made : List Made) (bs : List Binding) (ls : List Line) (ps : List Pair) → Each (TaskFits p made bs ls) (equations_of ps)
+equations-fit p made bs ls [] = tt
+equations-fit p made bs ls (o ∷ ps) = (tt, equations-fit p made bs ls ps)

@@ -6,7 +6,7 @@ use Rattle.scasp_law_first_event.specs.Events.{IsReachable}
 use Rattle.scasp_law_parts.specs.Bound.{Triangular}
 use Rattle.scasp_law_sorted.specs.Asking.{asked_next, has_universal_made}
 use Rattle.scasp_list.specs.Each.{Each}
-use Rattle.scasp_search_rules.specs.Successors.Calls.{vars_of_clause}
+use Rattle.scasp_search_rules.specs.Successors.Calls.{head_args, vars_of_clause}
 use Rattle.scasp_search_rules.specs.Successors.Problems.{Problem}
 use Rattle.scasp_search_rules.specs.Successors.Regions.{asked_with}
 use Rattle.scasp_search_rules.specs.Successors.Search.{search_for}
@@ -20,7 +20,7 @@ use Rattle.scasp_search_rules.specs.declared.states.tasks.Task.{Task}
 use Rattle.scasp_search_rules.specs.declared.states.tasks.Task.TheVariants as task
 use Rattle.scasp_syntax.specs.Constraints.{Entails, Sat}
 use Rattle.scasp_syntax.specs.Tm.{Tm}
-use Rattle.scasp_syntax.specs.Values.{under}
+use Rattle.scasp_syntax.specs.Values.{Sub, all_under, under}
 use Rattle.scasp_syntax.specs.WellFormed.{is_query_well_formed}
 use Rattle.scasp_syntax.specs.declared.clause.Query.{Query}
 use Rattle.scasp_syntax.specs.declared.con.Con.{Con}
@@ -82,12 +82,33 @@ LineHolds cs (line.Head n) = ⊤
 abbrev pub AreBound : Program → List Binding → ℕ → ℕ → Type 0
 AreBound p bound k first = (z : ℕ) → first ≤ z → z < first + vars_of_clause p k → is_bound_in bound z ≡ true
 
--- An open cover has no universal variable, its case says nothing, and no other case waits. Its clause's variables are bound.
+-- The line is that of a cover of clause k, whose variables are those from `first` on: of a rule whose head reads as the atom, or of a clause
+-- that is checked.
+abbrev pub IsOf : Program → Sub → ℕ → ℕ → Line → Type 0
+IsOf p v k first (line.Rule a n m) = (n ≡ k) × (m ≡ first) × (all_under v (head_args p k first) ≡ all_under v a.args)
+IsOf p v k first (line.Check n m) = (n ≡ k) × (m ≡ first)
+IsOf p v k first (line.Test c) = ⊥
+IsOf p v k first (line.Split c parts) = ⊥
+IsOf p v k first (line.Pos a n ts m) = ⊥
+IsOf p v k first (line.Neg a n) = ⊥
+IsOf p v k first (line.Loop l at) = ⊥
+IsOf p v k first (line.Seen l at) = ⊥
+IsOf p v k first line.Void = ⊥
+IsOf p v k first (line.Leaf n) = ⊥
+IsOf p v k first (line.Head n) = ⊥
+
+-- a line that is that of the cover is among these
+abbrev pub HasLine : Program → Sub → ℕ → ℕ → List Line → Type 0
+HasLine p v k first ls = (l : Line) × Contains ls l × IsOf p v k first l
+
+-- An open cover has no universal variable, its case says nothing, and no other case waits. Its clause's variables are bound, and
+-- its head reads as its literal.
 pub record IsAlone (p : Program) (s : State) (c : Cover) : Type 0 where
   pub universals : c.universals ≡ []
   pub region : c.region ≡ []
   pub waiting : c.waiting ≡ []
   pub bound : AreBound p s.bound c.clause c.first
+  pub head : HasLine p (meaning s) c.clause c.first c.before
   pub before : Each (LineHolds (promised s)) c.before
 
 pub record Calm (p : Program) (s : State) : Type 0 where

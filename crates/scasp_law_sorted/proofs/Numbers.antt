@@ -27,7 +27,7 @@ use Rattle.scasp_hint.specs.Satisfying.{sat}
 use Rattle.scasp_hint.proofs.SatisfyingLemmas.{sat-sorted}
 use Rattle.scasp_law_parts.proofs.BoundLemmas.{absorbed}
 
-met-equal : (v : Sub) (bs : List Binding) → list_all (holds v) (map equation bs) ≡ true → Each (Equal v) (map equation bs)
+pub met-equal : (v : Sub) (bs : List Binding) → list_all (holds v) (map equation bs) ≡ true → Each (Equal v) (map equation bs)
 met-equal v [] e = tt
 met-equal v (b ∷ bs) e =
     let a = and_parts (same_tm (v b.x) (under v (tm_of b.term))) (list_all (holds v) (map equation bs)) e in
