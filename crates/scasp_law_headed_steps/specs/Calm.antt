@@ -82,8 +82,8 @@ LineHolds cs (line.Head n) = ⊤
 abbrev pub AreBound : Program → List Binding → ℕ → ℕ → Type 0
 AreBound p bound k first = (z : ℕ) → first ≤ z → z < first + vars_of_clause p k → is_bound_in bound z ≡ true
 
--- The line is that of a cover of clause k, whose variables are those from `first` on: of a rule whose head reads as the atom, or of a clause
--- that is checked.
+-- The line is that of a cover of clause k, whose variables are those from `first` on: of a rule whose head reads as the atom, or of
+-- a clause that is checked.
 abbrev pub IsOf : Program → Sub → ℕ → ℕ → Line → Type 0
 IsOf p v k first (line.Rule a n m) = (n ≡ k) × (m ≡ first) × (all_under v (head_args p k first) ≡ all_under v a.args)
 IsOf p v k first (line.Check n m) = (n ≡ k) × (m ≡ first)
@@ -142,12 +142,17 @@ ReachedAreCalm = (p : Problem) (q : Query) (s : State) → IsHeaded p q → IsRe
 
 -- where nothing is left to do, each test that was told follows from the bindings and the given constraints alone
 abbrev pub TestsAreShown : Type 0
-TestsAreShown = (p : Problem) (q : Query) (s : State) → IsHeaded p q → IsReachable p q s → s.work ≡ [] → Each (LineHolds (holds_of s)) s.lines
+TestsAreShown =
+    (p : Problem) (q : Query) (s : State) → IsHeaded p q → IsReachable p q s → s.work ≡ [] → Each (LineHolds (holds_of s)) s.lines
 
 -- each state that comes next comes later
 abbrev pub StepsGoOn : Type 0
-StepsGoOn = (p : Problem) (q : Query) (s t : State) → IsHeaded p q → IsReachable p q s → Contains ((search_for p q).next s) t → IsLater s t
+StepsGoOn =
+    (p : Problem) (q : Query) (s t : State) → IsHeaded p q → IsReachable p q s
+    → Contains ((search_for p q).next s) t → IsLater s t
 
 -- the test says of each list that is asked whether the list has a valuation
 abbrev pub AskedAreDecided : Type 0
-AskedAreDecided = (p : Problem) (q : Query) (s : State) → IsHeaded p q → IsReachable p q s → Each (λ cs. p.sat cs ≡ true ↔ Sat cs) (asked_next p s)
+AskedAreDecided =
+    (p : Problem) (q : Query) (s : State) → IsHeaded p q → IsReachable p q s
+    → Each (λ cs. p.sat cs ≡ true ↔ Sat cs) (asked_next p s)

@@ -70,7 +70,7 @@ two t u = cons t (cons u nil)
 abbrev a : Tm
 a = constant 6
 
--- ---- p(f(X), Y) :- X #> 3, Y \= b, not q(X, Y). q(7, a). ?- p(Z, W), not p(Z, a). It has terms, disequations and rows.
+-- ---- p(f(X), Y) :- X #> 3, Y \= b, not q(X, Y). q(7, a). ?- p(Z, W), not p(Z, a). Terms, a disequation and a row.
 
 abbrev seven : Number
 unfolding gcd gcd_within
@@ -80,13 +80,17 @@ abbrev above : Item
 above = LinearItem (record { vars = 0 ∷ []; row = row 0 (negsuc 0) (pos 3) op.Lt })
 
 abbrev ask_p : Query
-ask_p = record { body = Call (is_true (p (two (var 0) (var 1)))) ∷ Call (is_not (p (two (var 0) a))) ∷ []; names = None ∷ None ∷ [] }
+ask_p = record {
+  body = Call (is_true (p (two (var 0) (var 1)))) ∷ Call (is_not (p (two (var 0) a))) ∷ [];
+  names = None ∷ None ∷ [];
+}
 
 abbrev rows : Program
 unfolding gcd gcd_within
 rows =
     program
-    (rule 2 (p (two (app 4 (one (var 0))) (var 1))) (above ∷ Differ (Var 1) (App 7 nil) ∷ Call (is_not (q (two (var 0) (var 1)))) ∷ [])
+    (rule 2 (p (two (app 4 (one (var 0))) (var 1)))
+    (above ∷ Differ (Var 1) (App 7 nil) ∷ Call (is_not (q (two (var 0) (var 1)))) ∷ [])
     ∷ rule 0 (q (two (num seven) a)) [] ∷ [])
     (ask_p ∷ []) refl
 
@@ -110,7 +114,11 @@ abbrev ask_loop : Query
 ask_loop = record { body = Call (is_true (p (one (var 0)))) ∷ []; names = None ∷ [] }
 
 abbrev even : Program
-even = program (rule 1 (p (one (var 0))) (Call (is_not (q (one (var 0)))) ∷ []) ∷ rule 1 (q (one (var 0))) (Call (is_not (p (one (var 0)))) ∷ []) ∷ []) (ask_loop ∷ []) refl
+even =
+    program
+    (rule 1 (p (one (var 0))) (Call (is_not (q (one (var 0)))) ∷ [])
+    ∷ rule 1 (q (one (var 0))) (Call (is_not (p (one (var 0)))) ∷ []) ∷ [])
+    (ask_loop ∷ []) refl
 
 even_is_headed : IsHeaded (problem even []) ask_loop
 even_is_headed = record { program = refl; query = refl; test = refl }
@@ -129,7 +137,11 @@ abbrev ask_not_p : Query
 ask_not_p = ask (Call (is_not (p nil)))
 
 abbrev hidden : Program
-hidden = program (rule 1 (p nil) (Call (is_true (q (one (var 0)))) ∷ Equal (Var 0) (App 7 nil) ∷ []) ∷ rule 0 (q (one a)) [] ∷ []) (ask_not_p ∷ []) refl
+hidden =
+    program
+    (rule 1 (p nil) (Call (is_true (q (one (var 0)))) ∷ Equal (Var 0) (App 7 nil) ∷ [])
+    ∷ rule 0 (q (one a)) [] ∷ [])
+    (ask_not_p ∷ []) refl
 
 hidden_is_none : is_headed_program hidden [] ≡ false
 hidden_is_none = refl
