@@ -88,10 +88,10 @@ module _ (s : State) (e : Even s) (c : Con) where
   judged-by : judges s c ≡ s.given
   judged-by = ap (λ (b : Bool). if b then s.given else context s) (quiet s e c)
 
-  against-given : against s c ≡ map equation s.bound ++ (s.given ++ negated (next_variable s) c ∷ [])
+  pub against-given : against s c ≡ map equation s.bound ++ (s.given ++ negated (next_variable s) c ∷ [])
   against-given = ap (λ (gs : List Con). asked_with s (gs ++ negated (next_variable s) c ∷ [])) judged-by
 
-  along-given : along s c ≡ map equation s.bound ++ (s.given ++ c ∷ [])
+  pub along-given : along s c ≡ map equation s.bound ++ (s.given ++ c ∷ [])
   along-given = ap (λ (gs : List Con). asked_with s (gs ++ c ∷ [])) judged-by
 
   module _ (a : Sorted (map equation s.bound ++ (s.given ++ negated (next_variable s) c ∷ []))) (b : Sorted (map equation s.bound ++ (s.given ++ c ∷ []))) where

@@ -1,11 +1,11 @@
-mod Assuming
-mod Evenness
-mod Lists
-mod Numbers
-mod Reaching
+pub mod Assuming
+pub mod Evenness
+pub mod Lists
+pub mod Numbers
+pub mod Reaching
 mod Rowless
 mod RowlessReaching
 mod RowlessSteps
 mod RowlessTrees
-mod Rows
+pub mod Rows
 mod Walking

@@ -27,20 +27,20 @@ use Rattle.scasp_hint.specs.Satisfying.{sat}
 use Rattle.scasp_hint.proofs.SatisfyingLemmas.{sat-sorted}
 use Rattle.scasp_law_parts.proofs.BoundLemmas.{absorbed}
 
-met-equal : (v : Sub) (bs : List Binding) → list_all (holds v) (map equation bs) ≡ true → Each (Equal v) (map equation bs)
+pub met-equal : (v : Sub) (bs : List Binding) → list_all (holds v) (map equation bs) ≡ true → Each (Equal v) (map equation bs)
 met-equal v [] e = tt
 met-equal v (b ∷ bs) e =
     let a = and_parts (same_tm (v b.x) (under v (tm_of b.term))) (list_all (holds v) (map equation bs)) e in
     ((tm_decided (v b.x) (under v (tm_of b.term))).0 a.0, met-equal v bs a.1)
 
-number-stays : (v : Sub) (t : Tm) → is_number t ≡ true → is_number (under v t) ≡ true
+pub number-stays : (v : Sub) (t : Tm) → is_number t ≡ true → is_number (under v t) ≡ true
 number-stays v (var x) e = absurd (true≢false (sym e))
 number-stays v (num q) e = refl
 number-stays v (app f ts) e = absurd (true≢false (sym e))
 
 module _ (bs : List Binding) (gs : List Con) where
   -- a variable has the value of what it reads to
-  reads : (v : Sub) → list_all (holds v) (map equation bs ++ gs) ≡ true → Absorbs v (sub_of bs)
+  pub reads : (v : Sub) → list_all (holds v) (map equation bs ++ gs) ≡ true → Absorbs v (sub_of bs)
   reads v m =
       absorbed v bs
       (met-equal v bs (list_all-from (holds v) (map equation bs) (λ d i. list_all-member (holds v) (map equation bs ++ gs) d m (Contains-append_left (map equation bs) gs d i))))

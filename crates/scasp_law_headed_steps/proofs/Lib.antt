@@ -1,0 +1,11 @@
+pub mod Assuming
+pub mod Bodies
+pub mod Calling
+pub mod Cases
+pub mod Forms
+pub mod Heads
+pub mod Joining
+pub mod Reaching
+pub mod Steps
+pub mod Tasks
+pub mod Truths
