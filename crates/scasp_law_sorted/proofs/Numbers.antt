@@ -40,7 +40,7 @@ number-stays v (app f ts) e = absurd (true≢false (sym e))
 
 module _ (bs : List Binding) (gs : List Con) where
   -- a variable has the value of what it reads to
-  reads : (v : Sub) → list_all (holds v) (map equation bs ++ gs) ≡ true → Absorbs v (sub_of bs)
+  pub reads : (v : Sub) → list_all (holds v) (map equation bs ++ gs) ≡ true → Absorbs v (sub_of bs)
   reads v m =
       absorbed v bs
       (met-equal v bs (list_all-from (holds v) (map equation bs) (λ d i. list_all-member (holds v) (map equation bs ++ gs) d m (Contains-append_left (map equation bs) gs d i))))
