@@ -452,7 +452,7 @@ module _ (p : Program) (sat : List Con → Bool) where
   done-out : (s : State) → Held p s → Each (Later p (length s.made)) s.work → (t : Task) → Later p (length s.made) t → EachState (Out p) (done p sat s t).states
   done-out s h w (task.Show (flat.Call l)) b = call-out s h w l b
   done-out s h w (task.Show (flat.Test c)) b =
-      test-out p sat (with_line s (line.Test c)) (held-other s (with_line s (line.Test c)) refl (omega arith) h.covers h.literals h) w c b
+      test-out p sat (with_line s (line.Test c)) (held-other s (with_line s (line.Test c)) refl (omega arith) h.covers h.literals h) w c b.0
   done-out s h w (task.Equate t u) b = equate-out p sat s h w t u b.0 b.1
   done-out s h w (task.Assume c) b = assumed-out p sat s h w c b
   done-out s h w (task.Differ ps aim) b = differ-out p sat s h w ps aim b.0 b.1

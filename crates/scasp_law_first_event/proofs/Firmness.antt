@@ -28,7 +28,7 @@ use Rattle.scasp_syntax.specs.declared.term.Term.{Term}
 use Rattle.scasp_syntax.specs.declared.term.Term.TheVariants.{Var, Num, App}
 use Rattle.scasp_unify.specs.declared.bindings.Binding.{Binding}
 use Rattle.scasp_law_first_event.proofs.Bindings.{Solved, Free, read-keeps, read-free}
-use Rattle.scasp_law_first_event.proofs.Fitting.{TermBelow, ArgsBelow, AimBelow, ConEach, ItemEach, aim-more}
+use Rattle.scasp_law_first_event.proofs.Fitting.{TermBelow, ArgsBelow, AimBelow, ConEach, ItemEach, aim-more, test-weaker}
 use Rattle.scasp_law_first_event.proofs.Terms.{EachVar, EachVars, each-weaker, each-both, all-weaker}
 
 -- a variable of a rule whose head is being matched, or was
@@ -215,7 +215,7 @@ module _ (s r : State) (o : Onto s r) where
 
   pub item-onto : (i : FlatItem) → ItemFirm s i → ItemFirm r i
   item-onto (flat.Call l) h = args-onto l.atom.args h
-  item-onto (flat.Test c) h = con-onto c h
+  item-onto (flat.Test c) h = (con-onto c h.0, test-weaker (Firm s) (Firm r) o.firm c h.1)
 
   pub pairs-onto : (ps : List Pair) → PairsFirm s ps → PairsFirm r ps
   pairs-onto ps h = Each-map (PairFirm s) (PairFirm r) (λ q k. (term-onto (tm_of q.left) k.0, below-onto (tm_of q.right) k.1)) ps h

@@ -3,6 +3,7 @@ use Rattle.std.specs.Prelude.{ℕ, zero, suc, ◌+◌, ◌<◌, ◌≤◌, nat_e
 use Rattle.std.proofs.Common.{arith, sym, subst}
 use Rattle.scasp_list.specs.Each.{Each}
 use Rattle.scasp_list.proofs.EachLemmas.{Each-map, Each-append}
+use Rattle.scasp_num.specs.declared.linear.Coeff.{Coeff}
 use Rattle.scasp_search_rules.specs.declared.states.covers.Cover.{Cover}
 use Rattle.scasp_search_rules.specs.declared.states.covers.Remainder.{Remainder}
 use Rattle.scasp_search_rules.specs.declared.states.state.Literal.{Literal}
@@ -51,9 +52,26 @@ ConEach G (con.Row r) = ⊤
 abbrev pub ConBelow : ℕ → Con → Type 0
 ConBelow n c = ConEach (λ y. y < n) c
 
+-- those that a number test or a row has
+abbrev pub TestEach : (ℕ → Type 0) → Con → Type 0
+TestEach G (con.Num t) = EachVar G (tm_of t)
+TestEach G (con.NotNum t) = EachVar G (tm_of t)
+TestEach G (con.Row r) = Each (λ k. G k.x) r.coeffs
+TestEach G (con.Eq t u) = ⊤
+TestEach G (con.Neq t u) = ⊤
+TestEach G (con.NotShape x f k) = ⊤
+
+pub test-weaker : (G H : ℕ → Type 0) → ((z : ℕ) → G z → H z) → (c : Con) → TestEach G c → TestEach H c
+test-weaker G H f (con.Num t) h = each-weaker G H f (tm_of t) h
+test-weaker G H f (con.NotNum t) h = each-weaker G H f (tm_of t) h
+test-weaker G H f (con.Row r) h = Each-map (λ (k : Coeff). G k.x) (λ k. H k.x) (λ k g. f k.x g) r.coeffs h
+test-weaker G H f (con.Eq t u) h = tt
+test-weaker G H f (con.Neq t u) h = tt
+test-weaker G H f (con.NotShape x g k) h = tt
+
 abbrev pub ItemEach : (ℕ → Type 0) → FlatItem → Type 0
 ItemEach G (flat.Call l) = EachVars G l.atom.args
-ItemEach G (flat.Test c) = ConEach G c
+ItemEach G (flat.Test c) = ConEach G c × TestEach G c
 
 abbrev pub ItemBelow : ℕ → FlatItem → Type 0
 ItemBelow n i = ItemEach (λ y. y < n) i
@@ -121,7 +139,7 @@ module _ (p : Program) where
 
   pub item-more : (n m : ℕ) → n ≤ m → (i : FlatItem) → ItemBelow n i → ItemBelow m i
   item-more n m l (flat.Call c) h = args-more n m l c.atom.args h
-  item-more n m l (flat.Test c) h = con-more n m l c h
+  item-more n m l (flat.Test c) h = (con-more n m l c h.0, test-weaker (λ y. y < n) (λ y. y < m) (λ y k. omega (arith, k, l)) c h.1)
 
   pub pairs-more : (n m : ℕ) → n ≤ m → (ps : List Pair) → PairsBelow n ps → PairsBelow m ps
   pairs-more n m l ps h =

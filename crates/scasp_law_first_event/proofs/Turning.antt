@@ -353,7 +353,7 @@ module _ (p : Program) (sat : List Con → Bool) where
       → EachState (Goes p s) (done p sat s (task.Show (flat.Test c))).states
   test-shown s h w solved c b =
       each_weaker (Goes p r) (Goes p s) (done p sat s (task.Show (flat.Test c))).states (λ t g. record { clear = g.clear; work = g.work; circle = g.circle })
-      (test-goes p sat r (record { bindings = h.bindings; covers = h.covers; literals = h.literals }) w solved c b)
+      (test-goes p sat r (record { bindings = h.bindings; covers = h.covers; literals = h.literals }) w solved c b.0)
     where
       r : State
       r = with_line s (line.Test c)

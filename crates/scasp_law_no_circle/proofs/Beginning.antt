@@ -223,7 +223,7 @@ module _ (p : Program) (s : State) (h : Sound p s.made s.covers s.bound) (solved
       → (z < length (with_new s Matched 0 (vars_of_clause p k)).made) × ((entry (with_new s Matched 0 (vars_of_clause p k)).made z).kind ≡ Matched) × (is_bound_in s.bound z ≡ false)
   new-loose z l b = (omega (arith, b, many), ap (λ (a : Made). a.kind) (entry-new s.made (vars_of_clause p k) (record { kind = Matched; depth = 0 }) z l b), above-unbound (length s.made) s.bound solved z l)
 
-  new-heads : Heads p (with_new s Matched 0 (vars_of_clause p k)).made s.covers s.bound (length s.covers) k (length s.made)
+  pub new-heads : Heads p (with_new s Matched 0 (vars_of_clause p k)).made s.covers s.bound (length s.covers) k (length s.made)
   new-heads z l b = let e = new-loose z l b in (e.0, e.1, inl e)
 
   pub cover-owns : (a : Atom) → EachVars (Scoped s.made s.covers s.bound (length s.covers)) a.args → First s.made s.covers s.bound (length s.covers) s.work → Owning p (covered p s a k)

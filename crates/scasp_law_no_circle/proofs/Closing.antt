@@ -59,7 +59,7 @@ filtered-out test (b ∷ bs) z f = by (test b) refl (cases_Bool (nat_eq b.x z)) 
     by false t q rest = rest
 
 -- what was replaced at the splits behind one
-nested-all : (us : List ℕ) (rs : List Remainder) → Nested us rs → Each (λ r. (u : ℕ) → among u r.replaced ≡ true → among u us ≡ true) rs
+pub nested-all : (us : List ℕ) (rs : List Remainder) → Nested us rs → Each (λ r. (u : ℕ) → among u r.replaced ≡ true → among u us ≡ true) rs
 nested-all us [] h = tt
 nested-all us (r ∷ rs) h =
     (h.0, Each-map (λ (o : Remainder). (u : ℕ) → among u o.replaced ≡ true → among u r.replaced ≡ true) (λ o. (u : ℕ) → among u o.replaced ≡ true → among u us ≡ true) (λ o k u i. h.0 u (k u i)) rs (nested-all r.replaced rs h.1))

@@ -46,24 +46,24 @@ use Rattle.scasp_law_no_circle.proofs.Growing.{Fits, still-unbound, pushed-sound
 use Rattle.scasp_law_no_circle.proofs.Meeting.{met-good, each-occurs}
 use Rattle.scasp_law_no_circle.proofs.Places.{entry, owns}
 use Rattle.scasp_law_no_circle.proofs.Scope.{Good, Scoped, good-made, Sound}
-use Rattle.scasp_law_no_circle.proofs.Tasks.{Either, PairScoped, Frees, StandsFirst, Assumed, NoRow, AimScoped, BecomesScoped, First, Front, plain, assumes, numbers, differs, becomes, avoids, shapes, begins, Owning, scoped-kept, either-kept, pairs-kept, aim-kept, work-kept, waiting-more}
+use Rattle.scasp_law_no_circle.proofs.Tasks.{Either, PairScoped, Frees, StandsFirst, Assumed, PartScoped, AimScoped, BecomesScoped, First, Front, plain, assumes, numbers, differs, becomes, avoids, shapes, begins, Owning, scoped-kept, either-kept, pairs-kept, aim-kept, work-kept, waiting-more}
 
 -- free, and in scope; or of a head, and free
-abbrev RightFree : State → ℕ → Type 0
+abbrev pub RightFree : State → ℕ → Type 0
 RightFree s z = ((z < length s.made) × ((entry s.made z).kind ≡ Matched) × (is_bound_in s.bound z ≡ false)) ⊎ Frees s.made s.covers s.bound (length s.covers) z
 
 right-either : (s : State) (z : ℕ) → RightFree s z → Either s.made s.covers s.bound (length s.covers) z
 right-either s z (inl e) = inl e
 right-either s z (inr f) = inr f.0
 
-abbrev Frees-at : State → ℕ → Type 0
+abbrev pub Frees-at : State → ℕ → Type 0
 Frees-at s z = Frees s.made s.covers s.bound (length s.covers) z
 
-abbrev Pairs-at : State → List Pair → Type 0
+abbrev pub Pairs-at : State → List Pair → Type 0
 Pairs-at s ps = Each (PairScoped s.made s.covers s.bound (length s.covers)) ps
 
 -- the first of the pairs, as it reads
-abbrev Reads : State → List Pair → Type 0
+abbrev pub Reads : State → List Pair → Type 0
 Reads s [] = ⊤
 Reads s (o ∷ ps) = Both (Frees-at s) (RightFree s) o
 
@@ -108,7 +108,7 @@ module _ (p : Program) (sat : List Con → Bool) (s : State) (h : Sound p s.made
   front-scoped [] ps later k l m = m
   front-scoped (q ∷ qs) ps later k l m = Each-append (PairScoped s.made s.covers s.bound (length s.covers)) (q ∷ qs) ps (both-scoped (q ∷ qs) k) l
 
-  first-reads : (ps : List Pair) → Pairs-at s ps → Reads s (from_first (meaning s) ps)
+  pub first-reads : (ps : List Pair) → Pairs-at s ps → Reads s (from_first (meaning s) ps)
   first-reads [] k = tt
   first-reads (o ∷ ps) k = front-reads (pairs_of (under (meaning s) (tm_of o.left)) (under (meaning s) (tm_of o.right))) ps (from_first (meaning s) ps) (read-both o k.0) (first-reads ps k.1)
 
@@ -130,7 +130,7 @@ module _ (p : Program) (sat : List Con → Bool) (s : State) (h : Sound p s.made
   apart-owns aim = in-front (when_apart aim) (plain (when_apart aim ++ s.work) (apart-work aim))
 
   module _ (rest : List Pair) (aim : Aim) (pf : Pairs-at s rest) (af : AimScoped p s.made s.covers s.bound (length s.covers) aim) where
-    part-owns : (c : Con) → NoRow c → Assumed s.made s.covers s.bound (length s.covers) c → (other : List Task) → Front p s.made s.covers s.bound (length s.covers) (other ++ s.work) → EachState (Owning p) (at_part sat s c aim other).states
+    part-owns : (c : Con) → PartScoped s.made s.covers s.bound (length s.covers) c → Assumed s.made s.covers s.bound (length s.covers) c → (other : List Task) → Front p s.made s.covers s.bound (length s.covers) (other ++ s.work) → EachState (Owning p) (at_part sat s c aim other).states
     part-owns c n a other f = by (status sat s c)
       where
         one : Owning p (before (task.Assume c ∷ when_apart aim) s)
@@ -173,7 +173,7 @@ module _ (p : Program) (sat : List Con → Bool) (s : State) (h : Sound p s.made
             (becomes y (Var x) rest aim s.work b (a, (λ e. d (sym e))) pf af w)
 
     number-owns : (x : ℕ) (v : Number) → Frees-at s x → EachState (Owning p) (differ_number sat s x v rest aim).states
-    number-owns x v a = part-owns (con.NotNum (Var x)) tt tt (task.Assume (con.Num (Var x)) ∷ task.Avoid x v rest aim ∷ []) (numbers x v rest aim s.work a pf af w)
+    number-owns x v a = part-owns (con.NotNum (Var x)) a.0 tt (task.Assume (con.Num (Var x)) ∷ task.Avoid x v rest aim ∷ []) (numbers x v rest aim s.work a pf af w)
 
     shape-owns : (x f : ℕ) (ts : Tms) → Frees-at s x → EachVars (Either s.made s.covers s.bound (length s.covers)) ts → EachState (Owning p) (differ_shape sat s x f ts rest aim).states
     shape-owns x f ts a b = by (occurs_among x ts)

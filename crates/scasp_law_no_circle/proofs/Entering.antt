@@ -308,7 +308,7 @@ module _ (p : Program) (sat : List Con → Bool) (s : State) (h : Sound p s.made
 module _ (p : Program) (sat : List Con → Bool) (s : State) (h : Sound p s.made s.covers s.bound) (solved : Solved (length s.made) s.bound) where
   plain-owns : (t : Task) (ts : List Task) → Waiting (Scoped s.made s.covers s.bound) (length s.covers) (t ∷ ts) → EachState (Owning p) (done p sat (record s { work = ts }) t).states
   plain-owns (task.Show (flat.Call l)) ts w = call-owns p sat (record s { work = ts }) h solved w.1 l w.0
-  plain-owns (task.Show (flat.Test c)) ts w = test-owns p sat (with_line (record s { work = ts }) (line.Test c)) h solved w.1 c w.0
+  plain-owns (task.Show (flat.Test c)) ts w = test-owns p sat (with_line (record s { work = ts }) (line.Test c)) h solved w.1 c w.0.0
   plain-owns (task.Equate t u) ts w = equate-owning p sat (record s { work = ts }) h solved w.1 t u w.0.0 w.0.1
   plain-owns (task.Assume c) ts w = absurd w.0
   plain-owns (task.Differ ps aim) ts w = absurd w.0

@@ -1,15 +1,15 @@
-mod Assuming
-mod Beginning
-mod Behind
-mod Closing
-mod Differing
-mod Entering
-mod Equating
-mod Growing
-mod Meeting
-mod Places
+pub mod Assuming
+pub mod Beginning
+pub mod Behind
+pub mod Closing
+pub mod Differing
+pub mod Entering
+pub mod Equating
+pub mod Growing
+pub mod Meeting
+pub mod Places
 pub mod Reaching
 pub mod Scope
-mod Sides
-mod Splitting
+pub mod Sides
+pub mod Splitting
 pub mod Tasks

@@ -83,11 +83,11 @@ pub record Parts (made : List Made) (cs : List Cover) (bs : List Binding) (d : �
   pub equation : OtherSide made cs bs d q.parts_there (replacement q.there)
 
 module _ (q : Parting) (bs : List Binding) (d : ℕ) where
-  parts-length : (cs : List Cover) → length (at_depth d (cover_parted q bs) cs) ≡ length cs
+  pub parts-length : (cs : List Cover) → length (at_depth d (cover_parted q bs) cs) ≡ length cs
   parts-length [] = refl
   parts-length (c ∷ cs) = let e = parts-length cs in omega (arith, e)
 
-  parts-placed : (cs : List Cover) → Placed cs → Placed (at_depth d (cover_parted q bs) cs)
+  pub parts-placed : (cs : List Cover) → Placed cs → Placed (at_depth d (cover_parted q bs) cs)
   parts-placed [] h = tt
   parts-placed (c ∷ cs) h = (by (nat_eq c.depth d), parts-placed cs h.1)
     where

@@ -130,6 +130,15 @@ Assumed made cs bs n (con.Num t) = ⊤
 Assumed made cs bs n (con.NotNum t) = ⊤
 Assumed made cs bs n (con.Row r) = ⊤
 
+-- a part that is to be apart: a disequation, a shape or no number
+abbrev pub PartScoped : List Made → List Cover → List Binding → ℕ → Con → Type 0
+PartScoped made cs bs n (con.Neq t u) = ⊤
+PartScoped made cs bs n (con.NotShape x f k) = ⊤
+PartScoped made cs bs n (con.NotNum t) = EachVar (Scoped made cs bs n) (tm_of t)
+PartScoped made cs bs n (con.Eq t u) = ⊥
+PartScoped made cs bs n (con.Num t) = ⊥
+PartScoped made cs bs n (con.Row r) = ⊥
+
 -- no row
 abbrev pub NoRow : Con → Type 0
 NoRow (con.Row r) = ⊥
@@ -138,6 +147,14 @@ NoRow (con.Neq t u) = ⊤
 NoRow (con.NotShape x f k) = ⊤
 NoRow (con.Num t) = ⊤
 NoRow (con.NotNum t) = ⊤
+
+pub part-no_row : (made : List Made) (cs : List Cover) (bs : List Binding) (n : ℕ) (c : Con) → PartScoped made cs bs n c → NoRow c
+part-no_row made cs bs n (con.Neq t u) h = tt
+part-no_row made cs bs n (con.NotShape x f k) h = tt
+part-no_row made cs bs n (con.NotNum t) h = tt
+part-no_row made cs bs n (con.Eq t u) h = absurd h
+part-no_row made cs bs n (con.Num t) h = absurd h
+part-no_row made cs bs n (con.Row r) h = absurd h
 
 module _ (p : Program) (made : List Made) (cs : List Cover) (bs : List Binding) (n : ℕ) where
   -- the variables of the head's clause
@@ -159,7 +176,7 @@ First made cs bs n ts = Waiting (Scoped made cs bs) n ts
 
 pub data Front (p : Program) (made : List Made) (cs : List Cover) (bs : List Binding) (n : ℕ) : List Task → Type 0 where
   plain : (ts : List Task) → First made cs bs n ts → Front p made cs bs n ts
-  assumes : (c : Con) (ts : List Task) → NoRow c → Assumed made cs bs n c → First made cs bs n ts → Front p made cs bs n (task.Assume c ∷ ts)
+  assumes : (c : Con) (ts : List Task) → PartScoped made cs bs n c → Assumed made cs bs n c → First made cs bs n ts → Front p made cs bs n (task.Assume c ∷ ts)
   numbers : (x : ℕ) (q : Number) (ps : List Pair) (aim : Aim) (ts : List Task) → Frees made cs bs n x → Each (PairScoped made cs bs n) ps → AimScoped p made cs bs n aim → First made cs bs n ts
       → Front p made cs bs n (task.Assume (con.Num (Var x)) ∷ task.Avoid x q ps aim ∷ ts)
   differs : (ps : List Pair) (aim : Aim) (ts : List Task) → Each (PairScoped made cs bs n) ps → AimScoped p made cs bs n aim → First made cs bs n ts → Front p made cs bs n (task.Differ ps aim ∷ ts)

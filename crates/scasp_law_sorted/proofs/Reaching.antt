@@ -31,7 +31,7 @@ use Rattle.scasp_law_first_event.proofs.EachStates.{each-state}
 use Rattle.scasp_law_first_event.proofs.Unnegated.{Plain, follows}
 use Rattle.scasp_law_no_circle.proofs.Reaching.{Known, known}
 use Rattle.scasp_law_no_circle.proofs.Scope.{Holds, Scoped}
-use Rattle.scasp_law_no_circle.proofs.Tasks.{Waiting, Front, plain, assumes, numbers, differs, becomes, avoids, shapes, begins}
+use Rattle.scasp_law_no_circle.proofs.Tasks.{Waiting, Front, plain, assumes, numbers, differs, becomes, avoids, shapes, begins, part-no_row}
 use Rattle.scasp_law_sorted.specs.Asking.{ComesPlainly, begins as at_start, goes_on, has_universal_made, asked_next}
 use Rattle.scasp_law_sorted.proofs.Evenness.{Tame, tame-at, Even, even-new, Settled, Asks}
 use Rattle.scasp_law_sorted.proofs.Walking.{Unowned, FirstTested, FirstNoBeginning, step-settled, step-even}
@@ -56,7 +56,7 @@ front-tested p made cs bs n _ (plain (t ∷ ts) w) = by t w
     by task.Void v = tt
     by task.Leave v = tt
     by task.Close v = tt
-front-tested p made cs bs n _ (assumes c ts e a w) = e
+front-tested p made cs bs n _ (assumes c ts e a w) = part-no_row made cs bs n c e
 front-tested p made cs bs n _ (numbers x q ps aim ts a pf af w) = tt
 front-tested p made cs bs n _ (differs ps aim ts pf af w) = tt
 front-tested p made cs bs n _ (becomes x t ps aim ts a b pf af w) = tt

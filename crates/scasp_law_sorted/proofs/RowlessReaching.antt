@@ -128,7 +128,7 @@ lines-plain s e = plain-once (filter (λ c. not (holds_always c)) (map simple (g
 certificate-plain : (p : Problem) (q : Query) (s : State) (queried : ℕ) → is_rowless p q ≡ true → IsReachable p q s → Each GivenPlain (certificate_at p s queried).given
 certificate-plain p q s queried rowless f = plain-once _ (all-renamed _ (given_lines s) (lines-plain s (rowless-there p q rowless s f)))
 
-no-equation : (c : Con) → GivenPlain c → IsNoEquation c
+pub no-equation : (c : Con) → GivenPlain c → IsNoEquation c
 no-equation (con.Row r) h = tt
 no-equation (con.Eq t u) h = absurd h
 no-equation (con.Neq t u) h = tt
