@@ -72,8 +72,8 @@ fn step_on<M: Foresees>(
 {
     match step(alloc, &goal.program, at) {
         Ok(went) => match go_back(alloc, &goal.program, at, went) {
-            Ok(is) => {
-                *is_ahead = is;
+            Ok(goes) => {
+                *is_ahead = goes;
                 Ok(())
             }
             Err(_) => Err(SearchErr::Memory),
