@@ -3,7 +3,6 @@ use Rattle.std.specs.Prelude.{◌≡◌, ℕ, ◌+◌, ◌≤◌, nat_le, nat_lt
 use Rattle.std.specs.List.{Contains}
 use Rattle.std.proofs.Common.{arith, refl}
 use Rattle.std.proofs.lemmas.Bool.{and_from, and_parts, ltb-true}
-use Rattle.scasp_answers.specs.Blocks.States.{Entry}
 use Rattle.scasp_answers.specs.Files.Texts.{with_names}
 use Rattle.scasp_cert.specs.Certificate.{Certificate}
 use Rattle.scasp_checker_rules.specs.Accepted.{Accepts}
@@ -14,7 +13,7 @@ use Rattle.scasp_command_check.specs.declared.worth.Worth.TheVariants.{Right}
 use Rattle.scasp_graph.specs.Map.{map_faults}
 use Rattle.scasp_law_answer_text.specs.LineReadback.Texts.{Piece, remark, answer, ending, rejection, file_text, piece_entries}
 use Rattle.scasp_law_printable.specs.Printable.{AnswersAreSampled}
-use Rattle.scasp_law_tables.specs.Moved.{GrownTablesRead, IsFine, IsWrittenFile, ReadAnswersAccepted, are_values, is_value, moved_piece, moved_sample}
+use Rattle.scasp_law_tables.specs.Moved.{GrownTablesRead, IsFine, ReadAnswersAccepted, are_values, is_value, moved_piece, moved_sample}
 use Rattle.scasp_lines.specs.Lines.{free_of}
 use Rattle.scasp_num.proofs.Numbers.{lt_ltb}
 use Rattle.scasp_syntax.specs.Tm.{Tm, Tms, var, num, app, nil, cons}
@@ -24,7 +23,7 @@ use Rattle.scasp_list.proofs.EachLemmas.{Each-append, Each-map}
 use Rattle.scasp_list.proofs.MemberLemmas.{Contains-here, Contains-there}
 use Rattle.scasp_sound.specs.MapLevels.{covered}
 use Rattle.scasp_syntax.specs.declared.program.Program.{Program}
-use Rattle.scasp_law_checked.specs.Checked.{AreRight, IsFoundRight, IsSearchedFile, IsSearchedPiece, PrintedAnswersAreRight, SearchedAnswersAreRight}
+use Rattle.scasp_law_checked.specs.Checked.{IsFoundRight, IsSearchedPiece, PrintedAnswersAreRight, SearchedAnswersAreRight}
 
 -- without a fault, with the map kept
 worth-right : (p : Program) (c : Certificate) → Accepts p c → map_faults p (covered c) c.map ≡ [] → worth_of p c ≡ Right

@@ -1,11 +1,11 @@
 -- The samples of searches have values with names behind those of a table.
-use Rattle.std.specs.Prelude.{◌≡◌, ℕ, zero, suc, ◌+◌, ◌≤◌, nat_le, nat_lt, Bool, true, false, ◌&&◌, if◌then◌else◌, List, [], ◌∷◌, length, Option, None, Some, Result, Ok, Err}
+use Rattle.std.specs.Prelude.{◌≡◌, ℕ, zero, suc, ◌+◌, ◌≤◌, nat_le, nat_lt, Bool, true, false, ◌&&◌, if◌then◌else◌, List, [], length, Option, None, Some, Result, Ok, Err}
 use Rattle.std.specs.List.{list_all}
 use Rattle.std.proofs.Common.{◌∙◌, ap, arith, refl, subst, sym}
 use Rattle.std.proofs.lemmas.Bool.{and_from}
 use Rattle.std.proofs.lemmas.Bool.Decides.{nat_tests}
 use Rattle.scasp_answers_terms.specs.Tokens.Bounds.{term_fits, terms_fit}
-use Rattle.scasp_law_tables.specs.Moved.{are_values, is_value}
+use Rattle.scasp_law_tables.specs.Moved.{are_values}
 use Rattle.scasp_list.specs.Each.{Each}
 use Rattle.scasp_list.proofs.EachLemmas.{Each-at}
 use Rattle.scasp_nmr.specs.declared.items.CheckItem.{CheckItem}
@@ -16,7 +16,7 @@ use Rattle.scasp_rows.specs.Samples.{sample_of, value_in}
 use Rattle.scasp_rows.specs.declared.state.Halt.{Halt}
 use Rattle.scasp_rows.specs.declared.state.Halt.TheVariants as halt
 use Rattle.scasp_search_ends.specs.Ends.Ends.{problem}
-use Rattle.scasp_search_ends.specs.Ends.Sampling.{all_differ, all_plain, evaluated, is_in_range, point_by, point_for, sample, values_from}
+use Rattle.scasp_search_ends.specs.Ends.Sampling.{all_differ, all_plain, evaluated, is_in_range, point_by, point_for, values_from}
 use Rattle.scasp_syntax.specs.Programs.{numbered}
 use Rattle.scasp_syntax.specs.Tm.{Tms, num, app, nil, cons, items}
 use Rattle.scasp_syntax.specs.Values.{giving}

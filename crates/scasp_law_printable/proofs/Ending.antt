@@ -1,11 +1,11 @@
 -- What the end of a branch makes of a state within the table: constraints that are written as they are, and trees of them.
-use Rattle.std.specs.Prelude.{◌≡◌, ℕ, zero, suc, ◌+◌, ◌<◌, nat_lt, nat_eq, Bool, true, false, not, ◌&&◌, if◌then◌else◌, Option, Some, None, List, [], ◌∷◌, length, map, take, drop, filter, ⊤}
+use Rattle.std.specs.Prelude.{◌≡◌, ℕ, zero, suc, ◌+◌, ◌<◌, nat_lt, Bool, true, false, not, ◌&&◌, if◌then◌else◌, Option, Some, None, List, [], ◌∷◌, map, take, drop, ⊤}
 use Rattle.std.proofs.Common.{◌∙◌, ap, refl, sym, subst, arith}
 use Rattle.std.proofs.lemmas.Bool.{and_from}
 use Rattle.scasp_cert.specs.Trees.{Tree, Trees, Branch, Branches, pos_tree, neg_tree, loop_tree, seen_tree, test_tree, no_tree, tree, split, void, leaf, head, no_branch, branch, listed, covering}
 use Rattle.scasp_checker_rules.proofs.RenamedRows.{renamed, renamed-normal}
 use Rattle.scasp_law_answer_text.specs.LineReadback.Writable.{are_named, is_named, is_shape, is_spelled}
-use Rattle.scasp_lines.specs.Determined.{above_values, determined, determined_row, not_shape, put_value, put_values, row_con}
+use Rattle.scasp_lines.specs.Determined.{above_values, determined_row, not_shape, put_value, put_values, row_con}
 use Rattle.scasp_list.specs.Each.{Each}
 use Rattle.scasp_num.specs.Linear.{Linear, IsNormal}
 use Rattle.scasp_num.specs.declared.linear.Coeff.{Coeff}

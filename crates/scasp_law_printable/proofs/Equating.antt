@@ -1,9 +1,7 @@
 -- Terms that are to be equal, or apart, lead to states within the table.
-use Rattle.std.specs.Prelude.{◌≡◌, ℕ, ◌<◌, ◌^◌, Bool, true, false, ◌&&◌, not, max, min, nat_le, if◌then◌else◌, List, [], ◌∷◌, ◌++◌, length, map}
-use Rattle.std.proofs.Common.{refl}
+use Rattle.std.specs.Prelude.{◌≡◌, ℕ, ◌<◌, ◌^◌, Bool, true, false, ◌&&◌, not, max, min, nat_le, if◌then◌else◌, List, [], ◌∷◌, ◌++◌, length}
 use Rattle.scasp_law_program_text.specs.CompoundReadback.Fitting.{number_fits}
 use Rattle.scasp_list.specs.Each.{Each}
-use Rattle.scasp_list.proofs.EachLemmas.{Each-append}
 use Rattle.scasp_num.specs.Number.{Number}
 use Rattle.scasp_search_rules.specs.declared.states.outcomes.Status.{Status}
 use Rattle.scasp_search_rules.specs.declared.states.outcomes.Status.TheVariants.{Entailed, Impossible, Added, Parts}
@@ -31,9 +29,9 @@ use Rattle.scasp_unify.specs.Negations.{new_parts}
 use Rattle.scasp_unify.specs.Parts.{occurs_among}
 use Rattle.scasp_unify.specs.SimpleForm.{differ, term_with}
 use Rattle.scasp_law_outcomes.proofs.Standing.{each-followed, each-mapped, each-only_if}
-use Rattle.scasp_law_printable.specs.Within.{Within, AllWithin, ConWithin}
+use Rattle.scasp_law_printable.specs.Within.{Within, ConWithin}
 use Rattle.scasp_law_printable.proofs.Standing.{Held, TaskWithin, assumed-held, bound-one, front, split-at-held}
-use Rattle.scasp_law_printable.proofs.Terms.{PairWithin, differ-within, new-within, pairs-within, seen, shape-within}
+use Rattle.scasp_law_printable.proofs.Terms.{PairWithin, new-within, pairs-within, seen, shape-within}
 
 pub equations-within : (count : ℕ) (ps : List Pair) → Each (PairWithin count) ps → Each (TaskWithin count) (equations_of ps)
 equations-within count [] h = tt

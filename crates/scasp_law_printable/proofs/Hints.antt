@@ -1,7 +1,7 @@
 -- The hints and clash lines with which a tree is filled have a text of their own: no list of steps is empty, and no list of such lists.
-use Rattle.std.specs.Prelude.{◌≡◌, ℕ, zero, suc, Bool, true, false, is_none, is_some as is_given, if◌then◌else◌, Option, Some, None, List, [], ◌∷◌, ◌++◌, map, Result, Ok, Err, ⊤}
+use Rattle.std.specs.Prelude.{◌≡◌, ℕ, zero, suc, Bool, true, false, is_none, is_some as is_given, if◌then◌else◌, Option, Some, None, List, [], ◌∷◌, ◌++◌, Result, Ok, Err, ⊤}
 use Rattle.std.specs.List.{Contains, flat_map, list_all, list_any}
-use Rattle.std.proofs.Common.{◌≢◌, ◌∙◌, ap, refl, sym, subst}
+use Rattle.std.proofs.Common.{◌≢◌, refl, sym, subst}
 use Rattle.std.proofs.lemmas.Bool.{and_from, or_parts}
 use Rattle.scasp_cert.specs.Certificate.{Certificate}
 use Rattle.scasp_cert.specs.declared.certificate.Clash.{Clash}
@@ -11,16 +11,16 @@ use Rattle.scasp_checker_rules.specs.Pairs.{all_pairs}
 use Rattle.scasp_checker_rules.specs.Told.{Told, all_told}
 use Rattle.scasp_fill.specs.Filling.Filled.{clash_by, clash_for, clash_or, clashes_found, found_on, hint_at, hint_for, hint_of, or_terms}
 use Rattle.scasp_fill.proofs.FillingLemmas.FillLemmas.{lists-normal, pairs-normal}
-use Rattle.scasp_hint.specs.AskedRows.{RowsNormal, asked, asked_by, rows_seen, given_rows}
+use Rattle.scasp_hint.specs.AskedRows.{RowsNormal, asked_by, rows_seen, given_rows}
 use Rattle.scasp_hint.specs.Finding.{Forced, Found, found, found_asked, found_at, found_by, found_rows, first_forced, forced, hint, nothing, possible, side_asked, sides_asked, unknown, unknown_list, with_list}
 use Rattle.scasp_hint.specs.Showing.{HintInRange, fault_of}
-use Rattle.scasp_hint.specs.Sides.{compared, con_sides, differs, differs_in, less, more, parted, parts_sides, row_sides, sides_or_large, two_sides}
+use Rattle.scasp_hint.specs.Sides.{con_sides, differs, differs_in, less, more, parted, parts_sides, row_sides, sides_or_large, two_sides}
 use Rattle.scasp_hint.specs.declared.asked.Asked.{Asked}
 use Rattle.scasp_hint.specs.declared.asked.Asked.TheVariants.{ByTerms, Overflows, Asks}
 use Rattle.scasp_hint.specs.declared.sides.Sides.{Sides}
 use Rattle.scasp_hint.specs.declared.sides.Sides.TheVariants.{Mixed, Large, Listed}
 use Rattle.scasp_hint.proofs.ShownLemmas.{no-empty-list, no-empty-steps}
-use Rattle.scasp_hint_steps.specs.Pruned.{found_pruned, pruned, pruned_hint, row_count, shorter, with_shorter}
+use Rattle.scasp_hint_steps.specs.Pruned.{found_pruned, pruned_hint, row_count, shorter, with_shorter}
 use Rattle.scasp_hint_steps.proofs.FoundLemmas.{pruned-in_range, pruned-shows}
 use Rattle.scasp_law_answer_text.specs.LineReadback.Writable.{is_hint, is_some}
 use Rattle.scasp_lines.specs.Lines.{free_of, lines}
@@ -48,7 +48,7 @@ use Rattle.scasp_syntax.specs.declared.program.Program.{Program}
 use Rattle.scasp_unify.specs.Numbers.{is_among_numbers}
 use Rattle.scasp_unify.specs.Parts.{Part, parts}
 use Rattle.scasp_unify.specs.ResolvedRows.{resolved_row}
-use Rattle.scasp_unify.specs.Resolver.{resolver, unifies}
+use Rattle.scasp_unify.specs.Resolver.{resolver}
 use Rattle.scasp_unify.specs.TermFailures.{fails_by_terms, is_identity, is_refuted}
 use Rattle.scasp_unify.proofs.Members.{Each-from, Each-self}
 

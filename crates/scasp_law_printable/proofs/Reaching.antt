@@ -1,6 +1,6 @@
 -- The answers of a search are within the table, and so are printable.
-use Rattle.std.specs.Prelude.{◌≡◌, ℕ, suc, ◌+◌, ◌<◌, ◌≤◌, nat_lt, nat_eq, Bool, true, false, not, ◌&&◌, if◌then◌else◌, Option, Some, None, List, [], ◌∷◌, ◌++◌, length, map, filter}
-use Rattle.std.specs.List.{flat_map, list_all, list_any}
+use Rattle.std.specs.Prelude.{◌≡◌, ℕ, ◌+◌, ◌<◌, ◌≤◌, Bool, true, false, not, ◌&&◌, if◌then◌else◌, Option, Some, None, List, [], ◌∷◌, ◌++◌, length, map, filter}
+use Rattle.std.specs.List.{flat_map, list_all}
 use Rattle.std.proofs.Common.{◌∙◌, ap, arith, refl, sym, subst}
 use Rattle.std.proofs.lemmas.Bool.{and_from, and_parts}
 use Rattle.std.proofs.lemmas.List.Folds.{list_all-append}
@@ -10,7 +10,7 @@ use Rattle.scasp_answers_terms.specs.Tokens.Lines.{sample_line}
 use Rattle.scasp_cert.specs.Certificate.{Certificate}
 use Rattle.scasp_cert.specs.Trees.{Tree, Trees, Branch, Branches, pos_tree, neg_tree, loop_tree, seen_tree, test_tree, no_tree, tree, split, void, leaf, head, no_branch, branch, listed}
 use Rattle.scasp_checker_rules.specs.Accepted.{Accepts}
-use Rattle.scasp_checker_rules.specs.Faults.{are_single, is_map_of}
+use Rattle.scasp_checker_rules.specs.Faults.{is_map_of}
 use Rattle.scasp_checker_rules.specs.SameConstraint.{same_con}
 use Rattle.scasp_checker_rules.specs.Normality.{AreRowsNormal}
 use Rattle.scasp_fill.specs.Filling.Filled.{clashes_found, filled, found_on}
@@ -20,17 +20,15 @@ use Rattle.scasp_law_answer_text.specs.LineReadback.Writable.{are_named, is_writ
 use Rattle.scasp_law_outcomes.specs.Problems.{IsAnswer}
 use Rattle.scasp_law_outcomes.proofs.Answering.{kept-answer}
 use Rattle.scasp_law_outcomes.proofs.Walking.{Invariant, met-holds}
-use Rattle.scasp_law_promise.specs.OwnRows.{are_normal, constraints_at, constraints_below, constraints_by, constraints_in, constraints_of, has_normal_rows, is_con_normal}
+use Rattle.scasp_law_promise.specs.OwnRows.{constraints_at, constraints_below, constraints_by, constraints_in, constraints_of, has_normal_rows, is_con_normal}
 use Rattle.scasp_law_promise.proofs.OwnRowLemmas.{rows-normal}
 use Rattle.scasp_law_tables.specs.Moved.{IsSampled, are_values, without_sample}
 use Rattle.scasp_law_tables.proofs.Files.{is-around, lines_before, lines_behind}
 use Rattle.scasp_law_tables.proofs.Samples.{values-own}
 use Rattle.scasp_lines.specs.Lines.{free_of}
-use Rattle.scasp_lines.proofs.PartLemmas.{length-parts}
 use Rattle.scasp_list.specs.Each.{Each}
-use Rattle.scasp_list.proofs.EachLemmas.{Each-append, Each-filter, Each-from_test, Each-map, test_from-Each}
+use Rattle.scasp_list.proofs.EachLemmas.{Each-append, Each-filter, Each-map, test_from-Each}
 use Rattle.scasp_nmr.specs.declared.items.CheckItem.{CheckItem}
-use Rattle.scasp_num.proofs.Numbers.{lt_ltb}
 use Rattle.scasp_num.proofs.NormalTests.{normal-decided}
 use Rattle.scasp_search_rules.specs.declared.states.lines.Line.{Line}
 use Rattle.scasp_search_rules.specs.declared.states.state.State.{State}
@@ -47,33 +45,25 @@ use Rattle.scasp_search_rules.specs.Successors.Search.{answer_at, search_for, st
 use Rattle.scasp_search_rules.specs.Successors.Trees.{built, literal_lines}
 use Rattle.scasp_search_rules.specs.Successors.Variables.{meaning}
 use Rattle.scasp_syntax.specs.Flat.{flat_body}
-use Rattle.scasp_syntax.specs.Programs.{body_preds, clause_preds, first_occurrences, head_preds, item_preds, pred_of, predicates}
-use Rattle.scasp_syntax.specs.Same.{same_bool, same_pred}
+use Rattle.scasp_syntax.specs.Programs.{predicates}
 use Rattle.scasp_syntax.specs.Tm.{Tms, nil, items}
 use Rattle.scasp_syntax.specs.Values.{Sub, all_under}
-use Rattle.scasp_syntax.specs.declared.atom.Atom.{Atom}
-use Rattle.scasp_syntax.specs.declared.atom.Pred.{Pred}
-use Rattle.scasp_syntax.specs.declared.clause.Clause.{Clause}
-use Rattle.scasp_syntax.specs.declared.clause.Item.{Item}
-use Rattle.scasp_syntax.specs.declared.clause.Item.TheVariants as item
 use Rattle.scasp_syntax.specs.declared.clause.Query.{Query}
 use Rattle.scasp_syntax.specs.declared.con.Con.{Con}
 use Rattle.scasp_syntax.specs.declared.con.Con.TheVariants as con
-use Rattle.scasp_syntax.specs.declared.predicate_map.PredMap.{PredMap}
-use Rattle.scasp_syntax.specs.declared.program.Program.{Program}
 use Rattle.scasp_unify.specs.Negations.{new_parts}
 use Rattle.scasp_unify.specs.SimpleForm.{simple}
 use Rattle.scasp_law_printable.specs.Printable.{AnswersArePrintable, AnswersAreSampled, IsNamed}
 use Rattle.scasp_law_printable.specs.Places.{has_places}
-use Rattle.scasp_law_printable.specs.Within.{AllWithin, AtomWithin, ClauseWithin, ConWithin, HeadWithin, ItemWithin, ProgramWithin, QueryWithin, Within}
+use Rattle.scasp_law_printable.specs.Within.{AllWithin, ClauseWithin, ConWithin, QueryWithin, Within}
 use Rattle.scasp_law_printable.proofs.Bodies.{flat-within, lines-under-within, shows-within}
 use Rattle.scasp_law_printable.proofs.Ending.{BranchTold, BranchesTold, BuiltTold, ConTold, EntryTold, TreeTold, TreesTold, built-told, lines-told, listed-told, renamed-told}
 use Rattle.scasp_law_printable.proofs.Hints.{clashes-told, hints-told}
 use Rattle.scasp_law_printable.proofs.Larger.{clause-larger, query-larger}
 use Rattle.scasp_law_printable.proofs.Predicates.{map-named, predicates-within}
-use Rattle.scasp_law_printable.proofs.Standing.{Held, LineWithin, TaskWithin, reads}
+use Rattle.scasp_law_printable.proofs.Standing.{Held, TaskWithin, reads}
 use Rattle.scasp_law_printable.proofs.Stepping.{step-held}
-use Rattle.scasp_law_printable.proofs.Terms.{all-under-within, larger, new-within, read-within, simple-within}
+use Rattle.scasp_law_printable.proofs.Terms.{all-under-within, new-within, read-within, simple-within}
 use Rattle.scasp_law_printable.proofs.Writing.{CertificateTold, IsWritten, block-written}
 
 -- ---- rows in normal form

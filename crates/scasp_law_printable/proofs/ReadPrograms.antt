@@ -1,7 +1,7 @@
 -- A program that is read of a text, translated, is within the table that reading and translating leave.
-use Rattle.std.specs.Prelude.{◌≡◌, ℕ, zero, suc, ◌+◌, ◌-◌, ◌<◌, ◌≤◌, ◌^◌, nat_le, nat_lt, Bool, true, false, not, ◌&&◌, ◌||◌, ◌==◌, if◌then◌else◌, Option, None, Some, List, [], ◌∷◌, ◌++◌, codes, length, map, filter, Result, Ok, Err}
+use Rattle.std.specs.Prelude.{◌≡◌, ℕ, zero, suc, ◌+◌, ◌-◌, ◌<◌, ◌≤◌, ◌^◌, nat_le, nat_lt, Bool, true, false, ◌&&◌, ◌||◌, ◌==◌, if◌then◌else◌, Option, None, Some, List, [], ◌∷◌, ◌++◌, codes, length, map, filter, Result, Ok, Err}
 use Rattle.std.specs.List.{flat_map, list_all}
-use Rattle.std.proofs.Common.{◌∙◌, add-one, ap, arith, refl, subst, sym}
+use Rattle.std.proofs.Common.{ap, arith, refl, subst, sym}
 use Rattle.std.proofs.lemmas.Bool.{and_parts, leb-true, ltb-true, eqb-true}
 use Rattle.std.proofs.lemmas.List.{length-append}
 use Rattle.std.proofs.lemmas.Slice.Eq.{bytes_eq-Decides}
@@ -14,8 +14,8 @@ use Rattle.scasp_abduce.specs.Translation.{Choice, IsTranslation, choice_rules, 
 use Rattle.scasp_cert.specs.Text.Terms.{is_pair}
 use Rattle.scasp_law_program_text.specs.ClauseReadback.Fitting.{arguments_fit, atom_fits, body_fits, item_fits}
 use Rattle.scasp_law_program_text.specs.ClauseReadback.Parts.{abducible_fits, clause_fits, count_parts, is_count, name_fits, parts_fit, query_fits, query_style, rule_style}
-use Rattle.scasp_law_program_text.specs.ClauseReadback.Texts.{abducibles_fit, text_fits}
-use Rattle.scasp_law_program_text.specs.CompoundReadback.Fitting.{all_fit, app_fits, call_fits, fits, number_fits, pair_fits, rest_fits, tail_fits, tails_fit}
+use Rattle.scasp_law_program_text.specs.ClauseReadback.Texts.{abducibles_fit}
+use Rattle.scasp_law_program_text.specs.CompoundReadback.Fitting.{all_fit, app_fits, call_fits, fits, pair_fits, rest_fits, tail_fits, tails_fit}
 use Rattle.scasp_law_program_text.specs.CompoundReadback.Styles.{IsTable, are_variables}
 use Rattle.scasp_law_program_text.proofs.FittingLemmas.Texts.{read-fits}
 use Rattle.scasp_list.specs.Each.{Each}
@@ -35,7 +35,7 @@ use Rattle.scasp_syntax.specs.Denials.{denial_of, generated_denials, variables_f
 use Rattle.scasp_syntax.specs.Programs.{predicates_in}
 use Rattle.scasp_syntax.specs.Tm.{Tm, Tms, var, num, app, nil, cons, items}
 use Rattle.scasp_syntax.specs.View.{tm_of}
-use Rattle.scasp_syntax.specs.WellFormed.{are_abducible, is_item_below, lists_variables}
+use Rattle.scasp_syntax.specs.WellFormed.{are_abducible, lists_variables}
 use Rattle.scasp_syntax.specs.declared.atom.Atom.{Atom}
 use Rattle.scasp_syntax.specs.declared.atom.Pred.{Pred}
 use Rattle.scasp_syntax.specs.declared.clause.Clause.{Clause}

@@ -1,5 +1,5 @@
 -- States within a table: all terms, constraints and literals of which they speak. What is assumed, and what a case is parted by, keeps this.
-use Rattle.std.specs.Prelude.{◌≡◌, ℕ, zero, suc, ◌<◌, ◌^◌, nat_eq, Bool, true, false, not, if◌then◌else◌, Option, Some, None, List, [], ◌∷◌, ◌++◌, map, length, ⊤}
+use Rattle.std.specs.Prelude.{◌≡◌, ℕ, zero, suc, ◌<◌, ◌^◌, nat_eq, Bool, true, false, if◌then◌else◌, Option, Some, None, List, [], ◌∷◌, ◌++◌, map, ⊤}
 use Rattle.std.specs.List.{fold}
 use Rattle.scasp_list.specs.Each.{Each}
 use Rattle.scasp_list.proofs.EachLemmas.{Each-append}
@@ -18,9 +18,9 @@ use Rattle.scasp_search_rules.specs.declared.states.tasks.Task.{Task}
 use Rattle.scasp_search_rules.specs.declared.states.tasks.Task.TheVariants as task
 use Rattle.scasp_search_rules.specs.Successors.Assumptions.{as_read, assume, assume_all, performed, status}
 use Rattle.scasp_search_rules.specs.Successors.Reading.{con_under}
-use Rattle.scasp_search_rules.specs.Successors.Splits.{at_depth, bound_by, cover_parted, equation_parting, is_number_by, numbered_to, owner, parted, parting, replacement, replacement_by, shape_line, split, split_at, split_by}
+use Rattle.scasp_search_rules.specs.Successors.Splits.{at_depth, bound_by, cover_parted, equation_parting, is_number_by, numbered_to, owner, parted, replacement, replacement_by, shape_line, split_at, split_by}
 use Rattle.scasp_search_rules.specs.Successors.Variables.{depth_of, is_universal, meaning, next_variable}
-use Rattle.scasp_syntax.specs.Tm.{Tms, app}
+use Rattle.scasp_syntax.specs.Tm.{app}
 use Rattle.scasp_syntax.specs.View.{tm_of}
 use Rattle.scasp_syntax.specs.declared.clause.FlatItem.{FlatItem}
 use Rattle.scasp_syntax.specs.declared.clause.FlatItem.TheVariants as flat
@@ -32,7 +32,7 @@ use Rattle.scasp_unify.specs.Negations.{new_parts}
 use Rattle.scasp_unify.specs.declared.bindings.Binding.{Binding}
 use Rattle.scasp_law_outcomes.proofs.Standing.{each-followed}
 use Rattle.scasp_law_printable.specs.Within.{Within, AllWithin, AtomWithin, ConWithin}
-use Rattle.scasp_law_printable.proofs.Terms.{BindingWithin, PairWithin, bindings-within, negated-within, read-within, shape-within, simple-within}
+use Rattle.scasp_law_printable.proofs.Terms.{BindingWithin, PairWithin, bindings-within, read-within, shape-within, simple-within}
 
 -- ---- states
 

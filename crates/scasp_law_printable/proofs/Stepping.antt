@@ -1,8 +1,7 @@
 -- Each step from a state within the table gives states within it.
-use Rattle.std.specs.Prelude.{◌≡◌, ℕ, suc, ◌<◌, Bool, true, false, ◌||◌, not, if◌then◌else◌, Option, Some, None, List, [], ◌∷◌, ◌++◌, length, map, filter}
+use Rattle.std.specs.Prelude.{ℕ, suc, ◌<◌, Bool, true, false, ◌||◌, not, if◌then◌else◌, Option, Some, None, List, [], ◌∷◌, ◌++◌, length, map, filter}
 use Rattle.scasp_list.specs.Each.{Each}
 use Rattle.scasp_list.proofs.EachLemmas.{Each-append, Each-filter}
-use Rattle.scasp_num.specs.Linear.{Linear}
 use Rattle.scasp_num.specs.declared.linear.Coeff.{Coeff}
 use Rattle.scasp_search_rules.specs.declared.states.covers.Cover.{Cover}
 use Rattle.scasp_search_rules.specs.declared.states.covers.Remainder.{Remainder}
@@ -20,11 +19,11 @@ use Rattle.scasp_search_rules.specs.declared.states.tasks.Task.TheVariants as ta
 use Rattle.scasp_search_rules.specs.Successors.Assumptions.{assume, assume_all}
 use Rattle.scasp_search_rules.specs.Successors.Calls.{ancestors, by_no_rule, by_rule, call, can_be_seen, covered, differing, entered, head_args, is_free, is_opposite, judged, looped, marked, nearest, opposites, unrepeated, vars_of_clause, with_literal}
 use Rattle.scasp_search_rules.specs.Successors.Differences.{same_shape, same_value}
-use Rattle.scasp_search_rules.specs.Successors.Cases.{after_case, begin_cases, cases_of, cases_where, close_case, cover_for, ended_case, failing_at, head_call, leaf_at, line_under, remaining, replaced_now, taken_up, unbound, unbound_of, with_cover, with_head, with_items}
+use Rattle.scasp_search_rules.specs.Successors.Cases.{after_case, begin_cases, cases_of, cases_where, close_case, cover_for, ended_case, failing_at, head_call, leaf_at, line_under, remaining, replaced_now, taken_up, unbound_of, with_cover, with_head, with_items}
 use Rattle.scasp_search_rules.specs.Successors.Equations.{becomes_shape, equated, equations}
 use Rattle.scasp_search_rules.specs.Successors.Items.{body_of, number_tests, test_item, with_line}
 use Rattle.scasp_search_rules.specs.Successors.Pairs.{from_first, pairs, pairs_of}
-use Rattle.scasp_search_rules.specs.Successors.Reading.{among, count_from, term_under}
+use Rattle.scasp_search_rules.specs.Successors.Reading.{among, count_from}
 use Rattle.scasp_search_rules.specs.Successors.Regions.{asked_with, before, context}
 use Rattle.scasp_search_rules.specs.Successors.Search.{done, step_at}
 use Rattle.scasp_search_rules.specs.Successors.Steps.{goes}

@@ -1,10 +1,9 @@
 -- Substitutions, parts and pairs keep terms within a table, and so do simple forms, negations and readings of constraints.
-use Rattle.std.specs.Prelude.{◌≡◌, ℕ, zero, suc, ◌<◌, ◌≤◌, ◌^◌, nat_eq, Bool, true, false, ◌&&◌, if◌then◌else◌, Option, Some, None, List, [], ◌∷◌, ◌++◌, map, length, ⊤}
+use Rattle.std.specs.Prelude.{◌≡◌, ℕ, zero, suc, ◌<◌, ◌≤◌, ◌^◌, nat_eq, Bool, true, false, ◌&&◌, if◌then◌else◌, Option, Some, None, List, [], ◌∷◌, map, length, ⊤}
 use Rattle.std.proofs.Common.{refl, ap, sym, subst, arith}
 use Rattle.scasp_list.specs.Each.{Each}
 use Rattle.scasp_list.proofs.EachLemmas.{Each-append}
-use Rattle.scasp_num.specs.Linear.{Linear, IsNormal, put_of, join_of}
-use Rattle.scasp_num.specs.Number.{Number}
+use Rattle.scasp_num.specs.Linear.{Linear, IsNormal, join_of}
 use Rattle.scasp_num.specs.declared.linear.Coeff.{Coeff}
 use Rattle.scasp_num.proofs.Exact.{bind-some}
 use Rattle.scasp_num.proofs.Kept.{put_of-IsNormal, join_of-IsNormal}
@@ -12,7 +11,7 @@ use Rattle.scasp_num.proofs.NormalForms.{negation-IsNormal}
 use Rattle.scasp_lines.proofs.PartLemmas.{length-parts}
 use Rattle.scasp_search_rules.specs.declared.states.tasks.Pair.{Pair}
 use Rattle.scasp_search_rules.specs.Successors.Pairs.{all_pairs_of, from_first, in_front, pair, pairs, pairs_of}
-use Rattle.scasp_search_rules.specs.Successors.Reading.{con_under, not_shaped, row_or, term_under}
+use Rattle.scasp_search_rules.specs.Successors.Reading.{con_under, not_shaped, row_or}
 use Rattle.scasp_syntax.specs.Constraints.{has_shape}
 use Rattle.scasp_syntax.specs.Same.{same_number}
 use Rattle.scasp_syntax.specs.Tm.{Tm, Tms, var, num, app, nil, cons, items}
@@ -20,9 +19,8 @@ use Rattle.scasp_syntax.specs.Values.{Sub, under, all_under}
 use Rattle.scasp_syntax.specs.View.{tm_of}
 use Rattle.scasp_syntax.specs.declared.con.Con.{Con}
 use Rattle.scasp_syntax.specs.declared.con.Con.TheVariants as con
-use Rattle.scasp_syntax.specs.declared.term.Term.{Term}
 use Rattle.scasp_unify.specs.Negations.{negated, new_parts}
-use Rattle.scasp_unify.specs.Parts.{Part, both_parts, left_side, occurs, occurs_among, part_if, parts, parts_each, right_side}
+use Rattle.scasp_unify.specs.Parts.{Part, both_parts, left_side, occurs, part_if, parts, parts_each, right_side}
 use Rattle.scasp_unify.specs.ResolvedRows.{replaced_by, replaced_each, resolved_row}
 use Rattle.scasp_unify.specs.SimpleForm.{by_parts, differ, list_term, one_part, simple, term_with}
 use Rattle.scasp_unify.specs.Solving.{sub_of}

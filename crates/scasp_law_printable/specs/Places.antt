@@ -1,5 +1,5 @@
 -- Lines whose variables and counts are within the limits of answer files.
-use Rattle.std.specs.Prelude.{ℕ, ◌^◌, Bool, true, ◌&&◌}
+use Rattle.std.specs.Prelude.{◌^◌, Bool, true, ◌&&◌}
 use Rattle.std.specs.List.{list_all}
 use Rattle.scasp_answers_terms.specs.Tokens.Bounds.{is_count, is_place}
 use Rattle.scasp_answers_terms.specs.Tokens.Lines.{Line, header_line, ending_line, rejected_line, answer_line, given_line, sample_line, tree_line, check_line, clash_line, map_line, end_line, pos_line, neg_line, loop_line, seen_line, test_line, rule_line, split_line, void_line, leaf_line, head_line}

@@ -1,5 +1,5 @@
 -- Terms, constraints, programs and queries that have their names among the first of a table, and numbers that have a text.
-use Rattle.std.specs.Prelude.{◌≡◌, ℕ, ◌<◌, ◌^◌, true, Option, None, Some, List, length, ⊤}
+use Rattle.std.specs.Prelude.{◌≡◌, ℕ, ◌<◌, ◌^◌, true, Option, None, Some, length, ⊤}
 use Rattle.scasp_law_program_text.specs.CompoundReadback.Fitting.{number_fits}
 use Rattle.scasp_list.specs.Each.{Each}
 use Rattle.scasp_num.specs.Linear.{IsNormal}

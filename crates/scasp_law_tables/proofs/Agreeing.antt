@@ -1,10 +1,10 @@
 -- The text of a line asks for no names of a table but those of the line.
-use Rattle.std.specs.Prelude.{◌≡◌, ℕ, ◌<◌, nat_lt, Bool, true, false, not, ◌&&◌, ◌==◌, if◌then◌else◌, List, [], ◌∷◌, ◌++◌, codes, decimal}
+use Rattle.std.specs.Prelude.{◌≡◌, ℕ, nat_lt, Bool, true, false, not, ◌&&◌, ◌==◌, if◌then◌else◌, List, [], ◌++◌, codes, decimal}
 use Rattle.std.proofs.Common.{ap, refl}
 use Rattle.std.proofs.lemmas.Bool.{and_parts, ltb-true}
 use Rattle.scasp_answers_terms.specs.Tokens.Lines.{Line, header_line, ending_line, rejected_line, answer_line, given_line, sample_line, tree_line, check_line, clash_line, map_line, end_line, pos_line, neg_line, loop_line, seen_line, test_line, rule_line, split_line, void_line, leaf_line, head_line, place_text, words_of}
 use Rattle.scasp_cert.specs.Text.Block.{pred_text}
-use Rattle.scasp_cert.specs.Text.Constraints.{con_text, row_text, shape_text}
+use Rattle.scasp_cert.specs.Text.Constraints.{con_text}
 use Rattle.scasp_cert.specs.Text.Hints.{hint_text}
 use Rattle.scasp_cert.specs.Text.Names.{name_text, quoted_text, text_at}
 use Rattle.scasp_cert.specs.Text.Separators.{separator_text}

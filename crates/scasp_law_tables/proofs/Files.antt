@@ -1,5 +1,5 @@
 -- A file that was written by one table is that of its moved pieces by the table with its texts.
-use Rattle.std.specs.Prelude.{◌≡◌, ℕ, suc, ◌<◌, ◌≤◌, Bool, true, ◌&&◌, List, [], ◌∷◌, ◌++◌, codes, flat_map, length, map, replicate, Ok, ⊤}
+use Rattle.std.specs.Prelude.{◌≡◌, ℕ, ◌<◌, ◌≤◌, true, ◌&&◌, List, [], ◌∷◌, ◌++◌, codes, flat_map, length, map, replicate, Ok}
 use Rattle.std.specs.List.{Contains, list_all}
 use Rattle.std.proofs.Common.{◌∙◌, ap, append_assoc, arith, inl, inr, refl, subst, sym}
 use Rattle.std.proofs.lemmas.Bool.{and_from, and_parts}
@@ -24,9 +24,8 @@ use Rattle.scasp_list.specs.Each.{Each}
 use Rattle.scasp_syntax.specs.declared.con.Con.{Con}
 use Rattle.scasp_unify.proofs.Members.{Each-member}
 use Rattle.scasp_list.proofs.MemberLemmas.{Contains-cases, Contains-flat_map, Contains-here, Contains-map, Contains-none, Contains-there}
-use Rattle.scasp_name.specs.Texts.{has_text}
 use Rattle.scasp_syntax.specs.Tm.{Tm, Tms, var, num, app, nil, cons}
-use Rattle.scasp_law_tables.specs.Moved.{GrownTablesRead, IsFine, IsSampled, IsWrittenFile, ReadAnswersAccepted, all_renamed, moved_piece, moved_sample, moving}
+use Rattle.scasp_law_tables.specs.Moved.{GrownTablesRead, IsFine, IsSampled, ReadAnswersAccepted, all_renamed, moved_piece, moved_sample, moving}
 use Rattle.scasp_law_tables.specs.Tables.{Agree}
 use Rattle.scasp_law_tables.proofs.Agreeing.{words-same}
 use Rattle.scasp_law_tables.proofs.Larger.{line-larger}

@@ -1,5 +1,5 @@
 -- A certificate stays accepted where the names of its sample are others, each its own, and none is moved that stands elsewhere.
-use Rattle.std.specs.Prelude.{◌≡◌, ◌≢◌, ℕ, suc, zero, ◌+◌, ◌<◌, nat_eq, nat_lt, Bool, true, false, not, ◌&&◌, Option, None, Some, List, [], ◌∷◌, ◌++◌, length, ⊤}
+use Rattle.std.specs.Prelude.{◌≡◌, ℕ, suc, zero, ◌+◌, ◌<◌, nat_eq, nat_lt, Bool, true, false, not, ◌&&◌, Option, None, Some, List, [], ◌∷◌, ◌++◌, length, ⊤}
 use Rattle.std.specs.List.{flat_map, list_all}
 use Rattle.std.proofs.Common.{◌∙◌, ap, refl, sym}
 use Rattle.std.proofs.lemmas.Bool.{and_parts, eq-eqb, eqb-false, eqb-true, ltb-true, ne_eqb}
@@ -7,7 +7,7 @@ use Rattle.scasp_cert.specs.Certificate.{Certificate}
 use Rattle.scasp_cert.specs.Lines.{lines_below}
 use Rattle.scasp_cert.specs.Trees.{listed}
 use Rattle.scasp_checker_rules.specs.Accepted.{Accepts}
-use Rattle.scasp_checker_rules.specs.BoundedTruth.{bounded_sum, compares_so, holds_bounded, summed}
+use Rattle.scasp_checker_rules.specs.BoundedTruth.{compares_so, holds_bounded, summed}
 use Rattle.scasp_checker_rules.specs.Faults.{faults, map_faults, query_items, sample_faults}
 use Rattle.scasp_checker_rules.specs.LineFaults.{line_faults}
 use Rattle.scasp_checker_rules.specs.Pairs.{all_pairs, other_clash, pair_faults}
@@ -25,15 +25,14 @@ use Rattle.scasp_lines.specs.Places.{start}
 use Rattle.scasp_lines.specs.Rooms.{room_below, room_under}
 use Rattle.scasp_lines.specs.Walk.{Line, Setting, Walked, checks_walk, followed, nodes_walk}
 use Rattle.scasp_num.specs.Arithmetic.{◌>>=◌}
-use Rattle.scasp_num.specs.Linear.{Linear}
 use Rattle.scasp_num.specs.Number.{Number}
 use Rattle.scasp_num.specs.declared.linear.Coeff.{Coeff}
 use Rattle.scasp_rows.specs.Samples.{plus_product}
 use Rattle.scasp_rows.specs.Steps.{whole}
-use Rattle.scasp_syntax.specs.Constraints.{has_shape, holds, is_number}
+use Rattle.scasp_syntax.specs.Constraints.{has_shape, is_number}
 use Rattle.scasp_syntax.specs.Programs.{numbered}
 use Rattle.scasp_syntax.specs.RowTruth.{number_of}
-use Rattle.scasp_syntax.specs.Same.{same_number, same_tm, same_tms}
+use Rattle.scasp_syntax.specs.Same.{same_tm, same_tms}
 use Rattle.scasp_syntax.specs.Tm.{Tm, Tms, var, num, app, nil, cons, items}
 use Rattle.scasp_syntax.specs.Values.{Sub, all_under, are_ground, giving, is_ground, under}
 use Rattle.scasp_syntax.specs.View.{tm_of}

@@ -1,23 +1,22 @@
 -- The names of a sample stand in the table with the texts of its line, and there the sample has the same text.
 use Rattle.std.specs.Prelude.{◌≡◌, ℕ, suc, ◌<◌, ◌≤◌, nat_le, nat_lt, Bool, true, false, ◌&&◌, ◌==◌, if◌then◌else◌, ℤ, pos, negsuc, List, [], ◌∷◌, ◌++◌, codes, drop, length, ⊤}
 use Rattle.std.proofs.Common.{◌∙◌, ap, append_assoc, arith, refl, subst, sym}
-use Rattle.std.proofs.lemmas.Bool.{and_from, and_parts, ltb-true}
+use Rattle.std.proofs.lemmas.Bool.{and_from, and_parts}
 use Rattle.std.proofs.lemmas.Bool.Decides.{nat_tests}
 use Rattle.scasp_answers.specs.Files.Texts.{with_names_of, with_token, with_tokens}
 use Rattle.scasp_answers_terms.specs.Tokens.Bounds.{term_fits, terms_fit}
 use Rattle.scasp_answers_terms.specs.Tokens.Lines.{sample_line, words_of}
-use Rattle.scasp_answers_terms.specs.Tokens.Tokens.{Token, word, quoted, minus, comma, bracket, sign, tokens_in}
+use Rattle.scasp_answers_terms.specs.Tokens.Tokens.{Token, word, quoted, bracket, sign, tokens_in}
 use Rattle.scasp_cert.specs.Text.Names.{constant_text, is_plain, name_text, quoted_text, text_at}
 use Rattle.scasp_cert.specs.Text.Separators.{separator_text}
-use Rattle.scasp_cert.specs.Text.Terms.{list_text, number_text, term_text, terms_text}
+use Rattle.scasp_cert.specs.Text.Terms.{list_text, term_text, terms_text}
 use Rattle.scasp_law_answer_text.specs.LineReadback.Endings.{ends_part}
 use Rattle.scasp_law_answer_text.specs.LineReadback.Writable.{IsTable, are_named, is_named}
 use Rattle.scasp_law_answer_text.proofs.LineReadbackLemmas.Fronts.{comma-read, ends-name}
-use Rattle.scasp_law_answer_text.proofs.LineReadbackLemmas.Leaves.{by-number, number-read, number_tokens, parts_text, size_token}
+use Rattle.scasp_law_answer_text.proofs.LineReadbackLemmas.Leaves.{by-number, number-read, number_tokens, size_token}
 use Rattle.scasp_law_answer_text.proofs.LineReadbackLemmas.Table.{text-place, text-utf8}
 use Rattle.scasp_law_answer_text.proofs.LineReadbackLemmas.Words.{name-read, name_token}
-use Rattle.scasp_name.specs.Texts.{has_text, with_text}
-use Rattle.scasp_num.specs.Number.{Number}
+use Rattle.scasp_name.specs.Texts.{has_text}
 use Rattle.scasp_reader_terms.specs.Names.{place_in}
 use Rattle.scasp_syntax.specs.Tm.{Tm, Tms, var, num, app, nil, cons}
 use Rattle.scasp_num.proofs.Numbers.{lt_ltb}

@@ -1,5 +1,5 @@
 -- Certificates whose samples have names that a program's table lacks, read by a table in which these names stand at other places.
-use Rattle.std.specs.Prelude.{◌≡◌, ℕ, ◌<◌, ◌≤◌, nat_le, Bool, true, false, ◌&&◌, nat_lt, List, [], ◌∷◌, length, map, flat_map, Ok}
+use Rattle.std.specs.Prelude.{◌≡◌, ℕ, ◌<◌, ◌≤◌, nat_le, Bool, true, false, ◌&&◌, nat_lt, List, length, map, flat_map, Ok}
 use Rattle.std.specs.List.{Contains}
 use Rattle.scasp_list.specs.Each.{Each}
 use Rattle.scasp_answers.specs.Blocks.Files.{byte_limit, file_in}
