@@ -1,0 +1,4 @@
+//! What is printed is found right as it is checked.
+#![tactic(auto)]
+
+pub mod laws;

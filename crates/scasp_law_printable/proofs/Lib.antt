@@ -1,0 +1,13 @@
+pub mod Terms
+pub mod Standing
+pub mod Equating
+pub mod Bodies
+pub mod Stepping
+pub mod Ending
+pub mod Hints
+pub mod Ranges
+pub mod Writing
+pub mod Larger
+pub mod Predicates
+pub mod ReadPrograms
+pub mod Reaching

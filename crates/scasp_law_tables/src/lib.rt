@@ -1,0 +1,4 @@
+//! Lines and answer files by tables of names that have the same first names.
+#![tactic(auto)]
+
+pub mod laws;
