@@ -1,8 +1,8 @@
 -- Questions answered by the test of a list.
-use Rattle.std.proofs.Common.{◌≡◌, ◌≢◌, ◌↔◌, ℕ, Bool, true, false, not, cond, List, [], ◌∷◌, ◌++◌, subst, refl, sym, ap, ◌∙◌}
-use Rattle.std.specs.Bool.{IsTrue}
+use Rattle.std.proofs.Common.{◌≡◌, ◌↔◌, ℕ, Bool, true, false, not, List, Result, Err, [], ◌∷◌, ◌++◌, subst, refl, sym, ap, ◌∙◌}
 use Rattle.std.specs.List.{list_all}
 use Rattle.std.proofs.lemmas.Bool.{true≢false}
+use Rattle.scasp_hint.specs.Finding.{overflows_in}
 use Rattle.scasp_hint.specs.Satisfying.{sat}
 use Rattle.scasp_hint.proofs.Entailment.{entailed-tested}
 use Rattle.scasp_hint.proofs.SatisfyingLemmas.{sat-sorted}
@@ -12,9 +12,10 @@ use Rattle.scasp_syntax.specs.declared.con.Con.TheVariants as con
 use Rattle.scasp_unify.specs.Negations.{is_con_below, negated}
 use Rattle.scasp_unify.specs.Sorted.{Sorted}
 use Rattle.scasp_unify.proofs.SortedLemmas.{negation-sorted, one-more}
-use Rattle.scasp_constraint_store.specs.Asked.{assumed, is_tested}
+use Rattle.scasp_constraint_store.specs.Asked.{is_tested}
 use Rattle.scasp_constraint_store.specs.declared.asking.Assumed.{Assumed}
 use Rattle.scasp_constraint_store.specs.declared.asking.Assumed.TheVariants as answer
+use Rattle.scasp_constraint_store.specs.declared.asking.StoreErr.{StoreErr}
 
 sorted-negated : (k : ℕ) (cs : List Con) (c : Con) → Sorted cs → Sorted (cs ++ c ∷ []) → Sorted (cs ++ negated k c ∷ [])
 sorted-negated k cs (con.Eq t u) s r = one-more cs (con.Neq t u) s refl
@@ -42,40 +43,46 @@ entails-answer k n cs ds c d b e f g h a w s r =
 
 -- ---- what becomes of a constraint that is assumed
 
-abbrev decided : Bool → Bool → Assumed
-decided t s = cond t answer.Entailed (cond s answer.Added answer.Impossible)
-
-entailed-by : (t s : Bool) → (decided t s ≡ answer.Entailed) ↔ (t ≡ true)
-entailed-by true s = ((λ e. refl), (λ e. refl))
-entailed-by false true = ((λ e. cc), (λ e. cc))
-entailed-by false false = ((λ e. cc), (λ e. cc))
-
-impossible-by : (t s : Bool) → (decided t s ≡ answer.Impossible) ↔ (t ≡ false) × (s ≡ false)
-impossible-by true s = ((λ e. cc), (λ p. cc))
-impossible-by false true = ((λ e. cc), (λ p. cc))
-impossible-by false false = ((λ e. (refl, refl)), (λ p. refl))
-
-no-true : (b : Bool) → (b ≡ true → ⊥) → b ≡ false
-no-true true f = absurd (f refl)
-no-true false f = refl
-
 no-false : (b : Bool) → b ≡ false → b ≡ true → ⊥
 no-false b e f = true≢false (sym f ∙ e)
 
-pub assumed-entailed : (k : ℕ) (cs : List Con) (c : Con) → list_all (is_con_below k) cs ≡ true → is_con_below k c ≡ true → Sorted cs → Sorted (cs ++ c ∷ [])
-    → (assumed k cs c ≡ answer.Entailed) ↔ Entails cs c
-assumed-entailed k cs c a b s r =
-    let law = entails-tested k cs c a b s r in
-    let by = entailed-by (is_tested k cs c) (sat (cs ++ c ∷ [])) in
-    ((λ e. law.0 (by.0 e)), (λ h. by.1 (law.1 h)))
+entailed-not_impossible : answer.Entailed ≡ answer.Impossible → ⊥
+entailed-not_impossible e = cc
 
-pub assumed-impossible : (k : ℕ) (cs : List Con) (c : Con) → list_all (is_con_below k) cs ≡ true → is_con_below k c ≡ true → Sorted cs → Sorted (cs ++ c ∷ [])
-    → (assumed k cs c ≡ answer.Impossible) ↔ (Entails cs c → ⊥) × (Sat (cs ++ c ∷ []) → ⊥)
-assumed-impossible k cs c a b s r =
-    let law = entails-tested k cs c a b s r in
-    let met = sat-sorted (cs ++ c ∷ []) r in
-    let t = is_tested k cs c in
-    let q = sat (cs ++ c ∷ []) in
-    let by = impossible-by t q in
-    ((λ e. ((λ h. no-false t (by.0 e).0 (law.1 h)), (λ m. no-false q (by.0 e).1 (met.1 m)))),
-    (λ p. by.1 (no-true t (λ e. p.0 (law.0 e)), no-true q (λ e. p.1 (met.0 e)))))
+impossible-not_entailed : answer.Impossible ≡ answer.Entailed → ⊥
+impossible-not_entailed e = cc
+
+added-not_entailed : answer.Added ≡ answer.Entailed → ⊥
+added-not_entailed e = cc
+
+added-not_impossible : answer.Added ≡ answer.Impossible → ⊥
+added-not_impossible e = cc
+
+pub met-tested : (cs ds : List Con) (c d : Con) (b : Bool) → b ≡ sat (ds ++ d ∷ []) → ds ≡ cs → d ≡ c → Sorted (cs ++ c ∷ []) → (b ≡ true) ↔ Sat (cs ++ c ∷ [])
+met-tested cs ds c d b e f g r =
+    let same : b ≡ sat (cs ++ c ∷ []) = e ∙ ap (λ (xs : List Con). sat (xs ++ d ∷ [])) f ∙ ap (λ (x : Con). sat (cs ++ x ∷ [])) g in
+    subst (λ (q : Bool). (q ≡ true) ↔ Sat (cs ++ c ∷ [])) (sym same) (sat-sorted (cs ++ c ∷ []) r)
+
+pub entailed-is : (P : Type 0) (b : Bool) → (b ≡ true) ↔ P → b ≡ true → (answer.Entailed ≡ answer.Entailed) ↔ P
+entailed-is P b l e = ((λ x. l.0 e), (λ x. refl))
+
+pub impossible-is_no : (P : Type 0) (b : Bool) → (b ≡ true) ↔ P → b ≡ false → (answer.Impossible ≡ answer.Entailed) ↔ P
+impossible-is_no P b l e = ((λ x. absurd (impossible-not_entailed x)), (λ h. absurd (no-false b e (l.1 h))))
+
+pub added-is_no : (P : Type 0) (b : Bool) → (b ≡ true) ↔ P → b ≡ false → (answer.Added ≡ answer.Entailed) ↔ P
+added-is_no P b l e = ((λ x. absurd (added-not_entailed x)), (λ h. absurd (no-false b e (l.1 h))))
+
+pub entailed-is_met : (P Q : Type 0) (b : Bool) → (b ≡ true) ↔ P → b ≡ true → (answer.Entailed ≡ answer.Impossible) ↔ (P → ⊥) × (Q → ⊥)
+entailed-is_met P Q b l e = ((λ x. absurd (entailed-not_impossible x)), (λ p. absurd (p.0 (l.0 e))))
+
+pub impossible-is : (P Q : Type 0) (b d : Bool) → (b ≡ true) ↔ P → b ≡ false → (d ≡ true) ↔ Q → d ≡ false → (answer.Impossible ≡ answer.Impossible) ↔ (P → ⊥) × (Q → ⊥)
+impossible-is P Q b d l e m f = ((λ x. ((λ h. no-false b e (l.1 h)), (λ q. no-false d f (m.1 q)))), (λ x. refl))
+
+pub added-is_met : (P Q : Type 0) (d : Bool) → (d ≡ true) ↔ Q → d ≡ true → (answer.Added ≡ answer.Impossible) ↔ (P → ⊥) × (Q → ⊥)
+added-is_met P Q d m e = ((λ x. absurd (added-not_impossible x)), (λ p. absurd (p.1 (m.0 e))))
+
+pub same-error : (a b : StoreErr) → ◌≡◌ {A = Result Assumed StoreErr} (Err a) (Err b) → a ≡ b
+same-error a b e = cc
+
+pub overflows-with : (cs ds : List Con) (c d : Con) → overflows_in (ds ++ d ∷ []) ≡ true → ds ≡ cs → d ≡ c → overflows_in (cs ++ c ∷ []) ≡ true
+overflows-with cs ds c d e f g = sym (ap (λ (xs : List Con). overflows_in (xs ++ d ∷ [])) f ∙ ap (λ (x : Con). overflows_in (cs ++ x ∷ [])) g) ∙ e

@@ -1,5 +1,6 @@
 -- The bindings that an equation makes, as a substitution.
-use Rattle.std.proofs.Common.{◌≡◌, ℕ, zero, suc, List, [], ◌∷◌, ◌++◌, length, Option, None, Some, option_map, refl, sym, ap, ◌∙◌}
+use Rattle.std.proofs.Common.{◌≡◌, ℕ, zero, suc, List, [], ◌∷◌, ◌++◌, length, Option, None, Some, option_map, drop, map, refl, sym, ap, ◌∙◌}
+use Rattle.std.proofs.Math.Seq.{drop-append_seam}
 use Rattle.std.proofs.lemmas.List.{append_assoc}
 use Rattle.scasp_num.specs.Arithmetic.{◌>>=◌}
 use Rattle.scasp_syntax.specs.Tm.{Tm, var}
@@ -12,11 +13,12 @@ use Rattle.scasp_syntax.specs.declared.term.Term.TheVariants.{Var, Num, App}
 use Rattle.scasp_unify.specs.Parts.{Part, parts}
 use Rattle.scasp_unify.specs.Resolver.{extended, resolver, resolver_after}
 use Rattle.scasp_unify.specs.SimpleForm.{term_with}
-use Rattle.scasp_unify.specs.Solving.{sub_of}
+use Rattle.scasp_unify.specs.Solving.{part_of, sub_of}
 use Rattle.scasp_unify.specs.Unification.{parts_under, single, solved, term_vars, then_by, unifier}
 use Rattle.scasp_unify.specs.declared.bindings.Binding.{Binding}
+use Rattle.scasp_unify.specs.declared.parts.Part.{Part as FoundPart}
 use Rattle.scasp_unify.proofs.SimpleLemmas.{viewed}
-use Rattle.scasp_unify.proofs.SolvingLemmas.{then-var}
+use Rattle.scasp_unify.proofs.SolvingLemmas.{then-var, under-var}
 use Rattle.scasp_constraint_store.specs.Bound.{binding_of, bindings_by, bindings_of, bound_by, listed}
 
 -- ---- one binding after the other
@@ -29,6 +31,23 @@ term-again (App f ts) = refl
 pub one-more : (made : List Binding) (b : Binding) (o : Option (List Binding)) → option_map (λ bs. made ++ bs) (o >>= (λ bs. Some (b ∷ bs))) ≡ option_map (λ bs. (made ++ b ∷ []) ++ bs) o
 one-more made b None = refl
 one-more made b (Some bs) = ap Some (sym (append_assoc made (b ∷ []) bs))
+
+pub bound-step : (m : ℕ) (made : List Binding) (b : Binding) (left now : List FoundPart) (first : FoundPart) (qs : List Part) (r : Option (List Binding)) → left ≡ first ∷ now → b ≡ binding_of (part_of first)
+    → Some qs ≡ parts_under (sub_of (b ∷ [])) (map part_of now) → option_map (λ bs. made ++ bs) (bound_by (suc m) (map part_of left)) ≡ r
+    → option_map (λ bs. (made ++ b ∷ []) ++ bs) (bound_by m qs) ≡ r
+bound-step m made b left now first qs r e f g h = sym (one-more made b (bound_by m qs)) ∙ ap (option_map (λ bs. made ++ bs)) whole ∙ h
+  where
+    whole : (bound_by m qs >>= (λ bs. Some (b ∷ bs))) ≡ bound_by (suc m) (map part_of left)
+    whole =
+        ap (λ (o : Option (List Part)). o >>= (λ ps. bound_by m ps >>= (λ bs. Some (b ∷ bs)))) g
+        ∙ ap (λ (d : Binding). parts_under (sub_of (d ∷ [])) (map part_of now) >>= (λ ps. bound_by m ps >>= (λ bs. Some (d ∷ bs)))) f
+        ∙ ap (λ (l : List FoundPart). bound_by (suc m) (map part_of l)) (sym e)
+
+pub latest-alone : (n : ℕ) (made xs : List Binding) (b : Binding) → xs ≡ made ++ b ∷ [] → n ≡ length made → drop n xs ≡ b ∷ []
+latest-alone n made xs b e h = ap (drop n) e ∙ ap (λ (k : ℕ). drop k (made ++ b ∷ [])) h ∙ drop-append_seam made (b ∷ [])
+
+pub unbound-sides : (t u : Tm) (o : Option (List Part)) → o ≡ parts (under var t) (under var u) → o ≡ parts t u
+unbound-sides t u o e = e ∙ ap (λ (a : Tm). parts a (under var u)) (under-var t) ∙ ap (parts t) (under-var u)
 
 -- ---- bindings as the unifier
 

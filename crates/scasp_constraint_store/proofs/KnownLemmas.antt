@@ -1,6 +1,7 @@
 -- Constraints whose variables are known.
-use Rattle.std.proofs.Common.{◌≡◌, ℕ, suc, ◌<◌, ◌≤◌, Bool, true, false, cond, ◌&&◌, nat_lt, List, [], ◌∷◌, ◌++◌, length, slice_get, Option, None, Some, subst, refl, sym, ap, ◌∙◌, arith}
+use Rattle.std.proofs.Common.{◌≡◌, ℕ, suc, ◌<◌, ◌≤◌, Bool, true, false, cond, ◌&&◌, nat_lt, List, [], ◌∷◌, ◌++◌, length, slice_get, take, ◌-◌, Option, None, Some, subst, refl, sym, ap, ◌∙◌, arith}
 use Rattle.std.specs.List.{list_all}
+use Rattle.std.proofs.Math.Seq.{take-append_seam}
 use Rattle.std.proofs.lemmas.List.{length-append}
 use Rattle.std.proofs.lemmas.Bool.{and_from, and_parts, lt-ltb, ltb-true}
 use Rattle.scasp_bind.specs.Depths.{is_existential, lowest}
@@ -13,11 +14,14 @@ use Rattle.scasp_syntax.specs.View.{tm_of}
 use Rattle.scasp_syntax.specs.WellFormed.{is_below, are_below}
 use Rattle.scasp_syntax.specs.declared.con.Con.{Con}
 use Rattle.scasp_syntax.specs.declared.con.Con.TheVariants as con
+use Rattle.scasp_syntax.proofs.Walks.{list_all-pushed}
 use Rattle.scasp_unify.specs.Negations.{is_con_below}
 use Rattle.scasp_unify.specs.Unification.{term_vars}
 use Rattle.scasp_unify.specs.declared.bindings.Binding.{Binding}
 use Rattle.scasp_constraint_store.specs.Bound.{depth_at, lowered_at, lowered_by, lowered_each, lowered_one}
 use Rattle.scasp_constraint_store.specs.Held.{is_named, kept_from}
+use Rattle.scasp_constraint_store.specs.Inside.Undoing.{list_without}
+use Rattle.scasp_constraint_store.specs.declared.change.ListChange.TheVariants as change
 
 -- ---- more variables
 
@@ -99,3 +103,17 @@ lowered_by-length (b ∷ bs) vs =
     let ys = term_vars (tm_of b.term) in
     let d = depth_at (slice_get vs b.x) in
     lowered_by-length bs (lowered_each d ys vs) ∙ lowered_each-length d ys vs
+
+-- ---- one constraint more
+
+pub without-last : (cs ds : List Con) (c : Con) → ds ≡ cs ++ c ∷ [] → list_without change.Put ds ≡ cs
+without-last cs ds c e =
+    let size : length ds - 1 ≡ length cs = omega (arith, ap length e, length-append cs (c ∷ [])) in
+    ap (λ (n : ℕ). take n ds) size ∙ ap (take (length cs)) e ∙ take-append_seam cs (c ∷ [])
+
+pub put-known : (vs ws : List Variable) (bs : List Binding) (cs ds : List Con) (c : Con) → ws ≡ lowered_by bs vs → ds ≡ cs ++ c ∷ []
+    → list_all (is_con_below (length vs)) cs ≡ true → is_con_below (length vs) c ≡ true → list_all (is_con_below (length ws)) ds ≡ true
+put-known vs ws bs cs ds c e f a b =
+    let size : length vs ≡ length ws = sym (ap length e ∙ lowered_by-length bs vs) in
+    same-below (length vs) (length ws) ds size
+    (ap (list_all (is_con_below (length vs))) f ∙ list_all-pushed (is_con_below (length vs)) cs c ∙ and_from (list_all (is_con_below (length vs)) cs) (is_con_below (length vs) c) a b)
