@@ -1,7 +1,7 @@
 -- The bindings that an equation makes, as a substitution.
-use Rattle.std.proofs.Common.{◌≡◌, ℕ, zero, suc, List, [], ◌∷◌, ◌++◌, length, Option, None, Some, option_map, drop, map, refl, sym, ap, ◌∙◌}
+use Rattle.std.proofs.Common.{◌≡◌, ℕ, zero, suc, List, [], ◌∷◌, ◌++◌, length, Option, None, Some, option_map, drop, map, refl, sym, ap, ◌∙◌, take, ◌-◌, arith}
 use Rattle.std.proofs.Math.Seq.{drop-append_seam}
-use Rattle.std.proofs.lemmas.List.{append_assoc}
+use Rattle.std.proofs.lemmas.List.{append_assoc, length-append}
 use Rattle.scasp_num.specs.Arithmetic.{◌>>=◌}
 use Rattle.scasp_syntax.specs.Tm.{Tm, var}
 use Rattle.scasp_syntax.specs.Values.{Sub, under}
@@ -43,8 +43,11 @@ bound-step m made b left now first qs r e f g h = sym (one-more made b (bound_by
         ∙ ap (λ (d : Binding). parts_under (sub_of (d ∷ [])) (map part_of now) >>= (λ ps. bound_by m ps >>= (λ bs. Some (d ∷ bs)))) f
         ∙ ap (λ (l : List FoundPart). bound_by (suc m) (map part_of l)) (sym e)
 
-pub latest-alone : (n : ℕ) (made xs : List Binding) (b : Binding) → xs ≡ made ++ b ∷ [] → n ≡ length made → drop n xs ≡ b ∷ []
-latest-alone n made xs b e h = ap (drop n) e ∙ ap (λ (k : ℕ). drop k (made ++ b ∷ [])) h ∙ drop-append_seam made (b ∷ [])
+pub latest-alone : (n : ℕ) (made xs : List Binding) (b : Binding) → xs ≡ made ++ b ∷ [] → n ≡ length made → take (length xs - n) (drop n xs) ≡ b ∷ []
+latest-alone n made xs b e h =
+    let one : length xs - n ≡ 1 = omega (arith, ap length e, length-append made (b ∷ []), h) in
+    let behind : drop n xs ≡ b ∷ [] = ap (drop n) e ∙ ap (λ (k : ℕ). drop k (made ++ b ∷ [])) h ∙ drop-append_seam made (b ∷ []) in
+    ap (λ (k : ℕ). take k (drop n xs)) one ∙ ap (take 1) behind
 
 pub unbound-sides : (t u : Tm) (o : Option (List Part)) → o ≡ parts (under var t) (under var u) → o ≡ parts t u
 unbound-sides t u o e = e ∙ ap (λ (a : Tm). parts a (under var u)) (under-var t) ∙ ap (parts t) (under-var u)

@@ -16,11 +16,7 @@ use scasp_unify::{Binding, Part, resolved_sides, resolver_of};
 use std::alloc::Global;
 
 /// The parts of a part whose sides stand under the bindings; None where they clash.
-fn part_under(
-    alloc: Global,
-    part: &Part,
-    bindings: &[Binding],
-) -> Result<Option<Vec<Part>>, Memory>
+fn part_under(alloc: Global, part: &Part, bindings: &[Binding]) -> Result<Option<Vec<Part>>, Memory>
     ensures { IfOk result (λ found. option_map (λ v. map part_of v.items) found
         ≡ parts (under (sub_of bindings.now) (left_side (part_of part.now))) (under (sub_of bindings.now) (right_side (part_of part.now)))) }
 {
@@ -61,11 +57,7 @@ fn parts_under(
 }
 
 /// The bindings that parts make, in order, where at most so many are needed; None where a part clashes.
-fn bound_by(
-    alloc: Global,
-    count: usize,
-    parts: Vec<Part>,
-) -> Result<Option<Vec<Binding>>, Memory>
+fn bound_by(alloc: Global, count: usize, parts: Vec<Part>) -> Result<Option<Vec<Binding>>, Memory>
     ensures { IfOk result (λ made. option_map (λ v. v.items) made ≡ bound_by count (map part_of parts.items)) }
 {
     let mut made = Vec::new(alloc);

@@ -23,5 +23,5 @@ returns-in-Some c =
     let ps : List Part = map part_of c.in-Some.parts.items in
     let sides : Some ps ≡ parts t u = unbound-sides t u (Some ps) (sym (ap (option_map (λ v. map part_of v.items)) c.in-Some.is) ∙ c.in_ok-resolved_sides.ensures) in
     let same : bound_by c.in_ok-count.count ps ≡ bindings_by t u =
-        ap (λ (n : ℕ). bound_by n ps) c.in_ok-count.ensures ∙ ap (λ (o : Option (List Part)). o >>= bound_by (length (term_vars t ++ term_vars u))) sides in
+    ap (λ (n : ℕ). bound_by n ps) c.in_ok-count.ensures ∙ ap (λ (o : Option (List Part)). o >>= bound_by (length (term_vars t ++ term_vars u))) sides in
     subst (λ (o : Option (List Binding)). IfOk c.bound_by.result (λ made. option_map (λ v. v.items) made ≡ o)) same c.bound_by.ensures

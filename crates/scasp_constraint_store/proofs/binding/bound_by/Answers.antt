@@ -1,4 +1,4 @@
-use Rattle.std.proofs.Common.{◌≡◌, ◌≢◌, ◌-◌, ◌+◌, ◌++◌, ◌∷◌, [], suc, ℕ, List, Some, length, drop, map, option_map, sym, ap, ◌∙◌, arith}
+use Rattle.std.proofs.Common.{◌≡◌, ◌≢◌, ◌-◌, ◌+◌, ◌++◌, ◌∷◌, [], suc, ℕ, List, Some, length, drop, take, map, option_map, sym, ap, ◌∙◌, arith}
 use Rattle.std.proofs.lemmas.Bool.Decides.{nat_tests}
 use Rattle.std.proofs.lemmas.List.{length-append}
 use Rattle.scasp_syntax.specs.declared.term.Term.{Term}
@@ -27,9 +27,9 @@ loop-preserved c =
     let all : c.as_slice-in-loop.result.now ≡ made ++ b ∷ [] = c.as_slice-in-loop.ensures.value ∙ c.in_ok-push.ensures.items in
     let place : c.len-latest.result - 1 ≡ length made = omega (arith, c.len-latest.ensures, c.push.new.self.ok.0, ap length c.in_ok-push.ensures.items, length-append made (b ∷ [])) in
     let found : Some qs ≡ parts_under (sub_of (b ∷ [])) (map part_of now) =
-        sym (ap (option_map (λ v. map part_of v.items)) c.in-Some.is) ∙ c.in_ok-parts_under.ensures
-        ∙ ap (λ (ps : List FoundPart). parts_under (sub_of (drop (c.len-latest.result - 1) c.as_slice-in-loop.result.now)) (map part_of ps)) c.as_slice.ensures.value
-        ∙ ap (λ (bs : List Binding). parts_under (sub_of bs) (map part_of now)) (latest-alone (c.len-latest.result - 1) made c.as_slice-in-loop.result.now b all place) in
+    sym (ap (option_map (λ v. map part_of v.items)) c.in-Some.is) ∙ c.in_ok-parts_under.ensures
+    ∙ ap (λ (ps : List FoundPart). parts_under (sub_of (take (length c.as_slice-in-loop.result.now - (c.len-latest.result - 1)) (drop (c.len-latest.result - 1) c.as_slice-in-loop.result.now))) (map part_of ps)) c.as_slice.ensures.value
+    ∙ ap (λ (bs : List Binding). parts_under (sub_of bs) (map part_of now)) (latest-alone (c.len-latest.result - 1) made c.as_slice-in-loop.result.now b all place) in
     let size : c.args.count - c.loop.counter ≡ suc m = omega (arith, c.loop-test.true) in
     ap (λ (bs : List Binding). option_map (λ ds. bs ++ ds) (bound_by m qs)) c.in_ok-push.ensures.items
     ∙ bound-step m made b left now first qs _ items named found (ap (λ (n : ℕ). option_map (λ bs. made ++ bs) (bound_by n (map part_of left))) (sym size) ∙ c.loop.invariant)

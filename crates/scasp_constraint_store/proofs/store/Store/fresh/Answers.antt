@@ -1,6 +1,6 @@
 use Rattle.std.proofs.Common.{◌≡◌, None, refl, length, ap, ◌∙◌}
 use Rattle.scasp_bind.specs.declared.variable.Variable.{Variable}
-use Rattle.scasp_constraint_store.specs.Held.{Content, Held, with_variable}
+use Rattle.scasp_constraint_store.specs.Held.{Held, with_variable}
 use Rattle.scasp_constraint_store.specs.declared.change.ListChange.TheVariants as change
 use Rattle.scasp_constraint_store.proofs.KnownLemmas.{all-below, one-longer}
 use Rattle.scasp_constraint_store.proofs.UndoLemmas.{content, kept, pushed, shown}

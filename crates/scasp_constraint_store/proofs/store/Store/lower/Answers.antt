@@ -1,7 +1,7 @@
 use Rattle.std.proofs.Common.{◌≡◌, refl, length, sym, ap, ◌∙◌}
 use Rattle.scasp_bind.specs.Depths.{lowest}
 use Rattle.scasp_bind.proofs.StepLemmas.{updated-length}
-use Rattle.scasp_constraint_store.specs.Held.{Content, Held, with_depth_at}
+use Rattle.scasp_constraint_store.specs.Held.{Held, with_depth_at}
 use Rattle.scasp_constraint_store.specs.declared.change.ListChange.TheVariants as change
 use Rattle.scasp_constraint_store.proofs.KnownLemmas.{same-below}
 use Rattle.scasp_constraint_store.proofs.UndoLemmas.{content, kept, pushed, shown}

@@ -1,5 +1,0 @@
-//! Tests of the store of constraints, over public calls.
-#![tactic(auto)]
-
-#[cfg(test)]
-mod rows;
