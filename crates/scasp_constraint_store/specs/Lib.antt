@@ -1,0 +1,4 @@
+pub mod Asked
+pub mod Bound
+pub mod Held
+pub mod Inside
