@@ -6,6 +6,7 @@ use Rattle.scasp_num.specs.Linear.{is_normal}
 use Rattle.scasp_syntax.specs.declared.con.Con.{Con}
 use Rattle.scasp_syntax.specs.declared.con.Con.TheVariants as con
 use Rattle.scasp_cert.specs.Certificate.{Certificate}
+use Rattle.scasp_cert.specs.Walk.{Line, case_line, check_line, node_line, rule_line}
 use Rattle.scasp_cert.specs.Trees.{Tree, Trees, Branch, Branches, pos_tree, neg_tree, loop_tree, seen_tree, test_tree, no_tree, tree, split, void, leaf, head, no_branch, branch, listed}
 
 abbrev mutual
@@ -32,6 +33,26 @@ abbrev mutual
 
 abbrev pub constraints_of : Certificate → List Con
 constraints_of c = c.given ++ (constraints_below (listed c.trees) ++ flat_map (λ k. constraints_at k.1) c.checks)
+
+-- the constraint that stands on one line
+abbrev pub constraints_of_tree : Tree → List Con
+constraints_of_tree (pos_tree a rule ts children) = []
+constraints_of_tree (neg_tree a covers) = []
+constraints_of_tree (loop_tree lit at) = []
+constraints_of_tree (seen_tree lit at) = []
+constraints_of_tree (test_tree c hint) = c ∷ []
+
+abbrev pub constraints_of_case : Branch → List Con
+constraints_of_case (split c first second) = c ∷ []
+constraints_of_case (void hint) = []
+constraints_of_case (leaf item children) = []
+constraints_of_case (head children) = []
+
+abbrev pub constraints_on : Line → List Con
+constraints_on (node_line t) = constraints_of_tree t
+constraints_on (rule_line rule b) = []
+constraints_on (case_line b) = constraints_of_case b
+constraints_on (check_line clause b) = []
 
 -- the constraint's row, if it is one, is in normal form
 abbrev pub is_con_normal : Con → Bool

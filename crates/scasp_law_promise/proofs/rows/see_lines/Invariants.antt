@@ -1,0 +1,13 @@
+use Rattle.std.proofs.Common.{◌≡◌, length}
+use Rattle.std.specs.List.{flat_map}
+use Rattle.scasp_cert.specs.Certificate.{certificate_of}
+use Rattle.scasp_cert.specs.Walk.{walk}
+use Rattle.scasp_cert.specs.WalkView.{lines_left}
+use Rattle.scasp_law_promise.specs.OwnRows.{are_normal, constraints_on}
+use Rattle.scasp_law_promise.proofs.rows.see_lines.Given as goal
+
+abbrev pub invariant-loop-walk : goal.invariant-loop-walk
+invariant-loop-walk l = are_normal (flat_map constraints_on (walk (certificate_of l.cert))) ≡ are_normal (flat_map constraints_on (lines_left l.walk))
+
+abbrev pub decreases-loop-walk : goal.decreases-loop-walk
+decreases-loop-walk l = length (lines_left l.walk)
