@@ -5,7 +5,6 @@ mod atom;
 mod clause;
 mod con;
 mod copies;
-mod depth;
 mod equality;
 mod flat_bodies;
 mod groundness;
@@ -26,7 +25,6 @@ pub use clause::{
 };
 pub use con::{Con, ConLists, Cons};
 pub use copies::{DeepCopy, copy, copy_terms};
-pub use depth::{Nested, TERM_DEPTH};
 pub use equality::{same, same_atom, same_lit, same_terms};
 pub use flat_bodies::{flat, flat_items};
 pub use groundness::{are_ground, is_ground};

@@ -2,7 +2,8 @@
 use scasp_list::Memory;
 use scasp_name::NameId;
 use scasp_search_terms::reading::read;
-use scasp_syntax::{TERM_DEPTH, Term, Terms};
+use scasp_depth::TERM_DEPTH;
+use scasp_syntax::{Term, Terms};
 use scasp_unify::Binding;
 use std::alloc::Global;
 use std::test::Fail;
