@@ -1,8 +1,8 @@
 -- Lists of terms, one behind the other, and what is left of a walk.
 use Rattle.std.specs.Borrow.{Bor}
-use Rattle.std.proofs.Common.{◌≡◌, ℕ, ◌+◌, List, [], ◌∷◌, ◌++◌, length, refl, ap, sym, ◌∙◌, arith}
+use Rattle.std.proofs.Common.{◌≡◌, ◌+◌, List, [], ◌∷◌, ◌++◌, length, refl, ap, sym, ◌∙◌, arith}
 use Rattle.std.proofs.lemmas.List.{nil_from_length}
-use Rattle.scasp_syntax.specs.Tm.{Tm, Tms, nil, cons, items, pushed, weight_s}
+use Rattle.scasp_syntax.specs.Tm.{Tm, Tms, nil, cons, pushed, weight_s}
 use Rattle.scasp_syntax.specs.View.{tm_of, tms_of}
 use Rattle.scasp_syntax.specs.Walks.{onto, waiting}
 use Rattle.scasp_syntax.specs.declared.term.Term.{Term}
