@@ -18,6 +18,7 @@ mod rebuilding;
 mod renaming;
 mod sizes;
 mod term;
+mod walk;
 
 pub use atom::{Atom, Atoms, Lit, Lits, Pred, Preds};
 pub use clause::{
@@ -33,7 +34,9 @@ pub use instances::{instance, instance_atom, instance_terms};
 pub use lists::{PlaceList, RuleList, VarList};
 pub use predicate_map::{PredMap, PredMaps};
 pub use program::Program;
+pub use rebuilding::{Values, rebuilt};
 pub use renaming::{rename, rename_terms};
 pub use scasp_list::Sequence;
 pub use sizes::size;
 pub use term::{Term, Terms};
+pub use walk::Walk;
