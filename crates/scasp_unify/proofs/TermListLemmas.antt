@@ -14,9 +14,3 @@ parts_each-length nil (cons u us) h = refl
 parts_each-length (cons t ts) nil h = refl
 parts_each-length (cons t ts) (cons u us) h =
     ap (both_parts (parts t u)) (parts_each-length ts us (λ e. h (ap suc e))) ∙ both-none (parts t u)
-
--- a resolved list is as heavy as each of its terms, at least
-pub weight-resolved : (s : Sub) (ts : List Term) (i : ℕ) (d : Term) → i < length ts → weight (under s (tm_of (get_or ts i d))) ≤ weight_s (all_under s (tms_of ts))
-weight-resolved s [] i d h = absurd (omega arith)
-weight-resolved s (t ∷ ts) zero d h = omega arith
-weight-resolved s (t ∷ ts) (suc i) d h = let e = weight-resolved s ts i d (omega arith) in omega arith
