@@ -1,18 +1,16 @@
 -- Terms searched and equations taken apart, by a walk.
-use Rattle.std.proofs.Common.{◌≡◌, ◌≢◌, ℕ, zero, suc, ◌+◌, ◌<◌, ◌≤◌, Bool, true, false, ◌||◌, ◌&&◌, nat_eq, if◌then◌else◌, List, [], ◌∷◌, ◌++◌, length, map, Option, None, Some, refl, ap, sym, ◌∙◌, arith, append_assoc, append-nil}
+use Rattle.std.proofs.Common.{◌≡◌, ◌≢◌, ℕ, ◌+◌, ◌<◌, ◌≤◌, Bool, true, false, ◌||◌, ◌&&◌, nat_eq, if◌then◌else◌, List, length, map, Option, None, Some, refl, ap, sym, ◌∙◌, arith, append-nil}
 use Rattle.std.proofs.lemmas.Bool.{and_parts, true≢false}
-use Rattle.std.proofs.lemmas.Bool.Decides.{Decides-eqb, nat_tests}
-use Rattle.scasp_num.specs.Arithmetic.{◌>>=◌}
+use Rattle.std.proofs.lemmas.Bool.Decides.{Decides-eqb}
 use Rattle.scasp_num.specs.Number.{Number}
-use Rattle.scasp_syntax.specs.Same.{same_number}
 use Rattle.scasp_syntax.specs.Tm.{Tm, Tms, var, num, app, nil, cons, items, weight, weight_s}
 use Rattle.scasp_syntax.specs.View.{tm_of}
 use Rattle.scasp_syntax.specs.Walks.{onto}
 use Rattle.scasp_syntax.specs.declared.term.Term.{Term}
 use Rattle.scasp_syntax.specs.declared.term.Term.TheVariants.{Var, Num, App}
 use Rattle.scasp_syntax.proofs.WalkLemmas.{onto-weight}
-use Rattle.scasp_unify.specs.Parts.{Part, occurs, occurs_among, both_parts, part_if, parts, parts_each}
-use Rattle.scasp_unify.specs.Solving.{AddsParts, TakesApart, behind, part_of}
+use Rattle.scasp_unify.specs.Parts.{Part, occurs, occurs_among, both_parts, parts, parts_each}
+use Rattle.scasp_unify.specs.Solving.{behind, part_of}
 use Rattle.scasp_unify.specs.declared.parts.Part.{Part as FoundPart}
 use Rattle.scasp_unify.proofs.LaterParts.{both-assoc, both-first, both-nil}
 use Rattle.scasp_unify.proofs.TermListLemmas.{parts_each-length}

@@ -306,6 +306,13 @@ pub rest-solved : (b : Bool) (s r t : Sub) (ps qs : List Part) → LeadsTo s ps 
 rest-solved true s r t ps qs h k = leads-on s r t ps qs h k
 rest-solved false s r t ps qs h k = rest-clashes s r ps qs h k
 
+pub next-part : (ps : List FoundPart) (i : ℕ) (p : FoundPart) → i < length ps → p ≡ get_or ps i p → map part_of (drop i ps) ≡ part_of p ∷ map part_of (drop (i + 1) ps)
+next-part [] i p h e = absurd (omega arith)
+next-part (q ∷ qs) zero p h e = ap (λ (r : FoundPart). part_of r ∷ map part_of qs) (sym e)
+next-part (q ∷ qs) (suc i) p h e =
+    let n : suc i + 1 ≡ suc (i + 1) = omega arith in
+    next-part qs i p (omega arith) e ∙ ap (λ (m : ℕ). part_of p ∷ map part_of (drop m (q ∷ qs))) (sym n)
+
 -- ---- parts that wait, the last one first
 
 abbrev pub waiting : List FoundPart → List Part

@@ -1,9 +1,6 @@
 -- Lists of terms, taken apart and resolved.
-use Rattle.std.proofs.Common.{◌≡◌, ◌≢◌, ℕ, zero, suc, ◌<◌, ◌≤◌, List, [], ◌∷◌, length, get_or, None, refl, ap, ◌∙◌, arith}
-use Rattle.scasp_syntax.specs.Tm.{Tms, nil, cons, items, weight, weight_s}
-use Rattle.scasp_syntax.specs.Values.{Sub, under, all_under}
-use Rattle.scasp_syntax.specs.View.{tm_of, tms_of}
-use Rattle.scasp_syntax.specs.declared.term.Term.{Term}
+use Rattle.std.proofs.Common.{◌≡◌, ◌≢◌, suc, length, None, refl, ap, ◌∙◌}
+use Rattle.scasp_syntax.specs.Tm.{Tms, nil, cons, items}
 use Rattle.scasp_unify.specs.Parts.{both_parts, parts, parts_each}
 use Rattle.scasp_unify.proofs.LaterParts.{both-none}
 

@@ -82,7 +82,6 @@ fn bind_first(
 }
 
 /// Solves the parts in order; false where one of them clashes. What is left of a part is solved before the parts behind it.
-#[tactic(auto, using(crate::proofs::SolvingLemmas::kept_on))]
 fn solve(alloc: Global, parts: Vec<Part>, bindings: &mut Vec<Binding>) -> Result<bool, Memory>
     requires { Absorbs (sub_of bindings.old.items) (sub_of bindings.old.items) }
     ensures solved { IfOk result (λ is_solved. Solves is_solved (sub_of bindings.old.items) (map part_of parts.items) (sub_of bindings.new.items)) }

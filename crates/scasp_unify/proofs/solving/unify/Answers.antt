@@ -1,7 +1,7 @@
 use Rattle.std.proofs.Common.{◌≡◌, ◌≢◌, ◌∙◌, ◌∷◌, List, length, map, true, refl, sym, ap, subst, take, arith}
 use Rattle.std.proofs.lemmas.Bool.Decides.{nat_tests}
 use Rattle.scasp_syntax.specs.View.{tm_of}
-use Rattle.scasp_unify.specs.Solving.{Solves, part_of, sub_of}
+use Rattle.scasp_unify.specs.Solving.{part_of, sub_of}
 use Rattle.scasp_unify.specs.Unification.{Absorbs}
 use Rattle.scasp_unify.specs.declared.bindings.Binding.{Binding}
 use Rattle.scasp_unify.specs.declared.parts.Part.{Part}
