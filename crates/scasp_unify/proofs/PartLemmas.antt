@@ -8,6 +8,7 @@ use Rattle.scasp_syntax.specs.View.{tm_of}
 use Rattle.scasp_syntax.specs.Walks.{onto}
 use Rattle.scasp_syntax.specs.declared.term.Term.{Term}
 use Rattle.scasp_syntax.specs.declared.term.Term.TheVariants.{Var, Num, App}
+use Rattle.scasp_syntax.proofs.RebuildLemmas.{no_terms}
 use Rattle.scasp_syntax.proofs.WalkLemmas.{onto-weight}
 use Rattle.scasp_unify.specs.Parts.{Part, occurs, occurs_among, both_parts, parts, parts_each}
 use Rattle.scasp_unify.specs.Solving.{behind, part_of}
@@ -53,6 +54,10 @@ pub args_next : (x f : ℕ) (ts : Tms) (t : Term) (all left more : Tms) (z : Boo
 args_next x f ts t all left more z a e m h =
     ap (occurs_among x) m ∙ occurs-onto x ts left ∙ ap (λ (u : Term). occurs x (tm_of u) || occurs_among x left) (sym e) ∙ ap (occurs_among x) (sym a) ∙ h
 
+-- it is a name alone
+pub no_args : (x f : ℕ) (ts : Tms) (t : Term) (all left : Tms) (z : Bool) → all ≡ cons (tm_of t) left → t ≡ App f ts → length (items ts) ≡ 0 → occurs_among x all ≡ z → occurs_among x left ≡ z
+no_args x f ts t all left z a e n h = args_next x f ts t all left left z a e (ap (λ us. onto us left) (sym (no_terms ts n))) h
+
 -- no term is left
 pub none_seen : (x : ℕ) (all : Tms) (z : Bool) → all ≡ nil → occurs_among x all ≡ z → false ≡ z
 none_seen x all z a h = ap (occurs_among x) (sym a) ∙ h
@@ -88,6 +93,15 @@ names_apart before f g t u ts us ls rs lefts rights d e h l r =
     ((λ j. both_parts (parts (tm_of (d j)) (tm_of (e j))) (parts_each ls rs))
     ∙ ap (λ b. both_parts (if b then parts_each ts us else None) (parts_each ls rs)) p.0
     ∙ sym (each-onto ts us ls rs ((Decides-eqb (length (items ts)) (length (items us))).0 p.1)) ∙ (λ j. parts_each (sym l j) (sym r j)))
+
+-- a name alone, twice
+pub constants_apart : (before : List FoundPart) (f g : ℕ) (t u : Term) (ts us ls rs : Tms) → t ≡ App f ts → u ≡ App g us
+    → true ≡ (nat_eq f g && nat_eq (length (items ts)) (length (items us))) → length (items ts) ≡ 0
+    → behind before (both_parts (parts (tm_of t) (tm_of u)) (parts_each ls rs)) ≡ behind before (parts_each ls rs)
+constants_apart before f g t u ts us ls rs d e h n =
+    let p = and_parts (nat_eq f g) (nat_eq (length (items ts)) (length (items us))) (sym h) in
+    let m = sym ((Decides-eqb (length (items ts)) (length (items us))).0 p.1) ∙ n in
+    names_apart before f g t u ts us ls rs ls rs d e h (ap (λ vs. onto vs ls) (sym (no_terms ts n))) (ap (λ vs. onto vs rs) (sym (no_terms us m)))
 
 -- others
 pub shapes_clash : (f g : ℕ) (t u : Term) (ts us : Tms) (r : Option (List Part)) → t ≡ App f ts → u ≡ App g us

@@ -102,6 +102,11 @@ fn resolve_all(alloc: Global, terms: &[Term], bindings: &[Binding]) -> Result<Te
                     rest = left;
                 }
                 Head::Name(name, args, later) => {
+                    if args.len() == 0 {
+                        made.push(Term::App(name, Terms::new(alloc)))?;
+                        rest = left;
+                        continue;
+                    }
                     let inner = Terms::with_room(alloc, args.len())?;
                     let done = mem::replace(&mut made, inner);
                     let bindings = known;

@@ -32,7 +32,7 @@ fn occurs(alloc: Global, x: u64, term: &Term) -> Result<bool, Memory>
 }
 
 /// Whether the variable stands in one of the terms, with memory as `occurs`.
-#[tactic(auto, using(crate::proofs::PartLemmas::seen_here, crate::proofs::PartLemmas::other_passed, crate::proofs::PartLemmas::number_passed, crate::proofs::PartLemmas::args_next, crate::proofs::PartLemmas::none_seen, crate::proofs::PartLemmas::less_left, crate::proofs::PartLemmas::less_entered))]
+#[tactic(auto, using(crate::proofs::PartLemmas::seen_here, crate::proofs::PartLemmas::other_passed, crate::proofs::PartLemmas::number_passed, crate::proofs::PartLemmas::args_next, crate::proofs::PartLemmas::no_args, crate::proofs::PartLemmas::none_seen, crate::proofs::PartLemmas::less_left, crate::proofs::PartLemmas::less_entered))]
 fn occurs_among(alloc: Global, x: u64, terms: &Terms) -> Result<bool, Memory>
     ensures { IfOk result (λ answer. answer ≡ occurs_among x terms.now) }
 {
@@ -45,7 +45,12 @@ fn occurs_among(alloc: Global, x: u64, terms: &Terms) -> Result<bool, Memory>
                 }
             }
             Term::Num(_) => {}
-            Term::App(_, args) => left.enter(args)?,
+            Term::App(_, args) => {
+                if args.len() == 0 {
+                    continue;
+                }
+                left.enter(args)?;
+            }
         }
     }
     Ok(false)
@@ -81,7 +86,7 @@ fn is_same_shape(first: NameId, args: &Terms, second: NameId, others: &Terms) ->
 
 /// Takes two terms apart. A part is put behind those found before; arguments are left to be taken apart before what was left.
 /// False where the terms clash.
-#[tactic(auto, using(crate::proofs::PartLemmas::shapes_clash, crate::proofs::PartLemmas::names_apart))]
+#[tactic(auto, using(crate::proofs::PartLemmas::shapes_clash, crate::proofs::PartLemmas::names_apart, crate::proofs::PartLemmas::constants_apart))]
 fn take_apart<'a>(
     alloc: Global,
     left: &'a Term,
@@ -111,6 +116,9 @@ fn take_apart<'a>(
         (Term::App(first, args), Term::App(second, others)) => {
             if !is_same_shape(*first, args, *second, others) {
                 return Ok(false);
+            }
+            if args.len() == 0 {
+                return Ok(true);
             }
             lefts.enter(args)?;
             rights.enter(others)?;

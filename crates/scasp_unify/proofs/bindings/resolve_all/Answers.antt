@@ -1,6 +1,8 @@
-use Rattle.std.proofs.Common.{◌≡◌, [], ◌∷◌, arith, ◌∙◌}
+use Rattle.std.proofs.Common.{◌≡◌, [], ◌∷◌, arith, ap, sym, ◌∙◌}
 use Rattle.std.proofs.lemmas.List.{nil_from_length}
-use Rattle.scasp_syntax.specs.Tm.{app, num, pushed, var}
+use Rattle.scasp_syntax.specs.Tm.{app, nil, num, pushed, var}
+use Rattle.scasp_syntax.specs.Values.{all_under}
+use Rattle.scasp_syntax.proofs.RebuildLemmas.{no_terms}
 use Rattle.scasp_unify.specs.Solving.{sub_of}
 use Rattle.scasp_unify.proofs.ResolveLemmas.{all_resolved, entered, left_behind, one_resolved}
 use Rattle.scasp_unify.proofs.bindings.resolve_all.Goals as goal
@@ -21,7 +23,16 @@ pub lists-preserved-in-Name : goal.lists-preserved-in-Name
 lists-preserved-in-Name c =
     let rest : c.lists.rest.now ≡ c.in-Some.term.now ∷ c.in-Some.left.now = c.in-Some.ensures.cases.0 in
     entered c.lists.outer.items c.push-in-Name.new.self.items _ (sub_of c.in-Name.later.now) c.lists.made c.replace-done.new.dest c.in-Some.term.now c.lists.rest.now c.as_slice-rest.result.now c.in-Name.args.now _
-    c.in_ok-push-in-Name.ensures.items c.replace-done.ensures.value (c.replace-done.ensures.after ∙ c.in_ok-inner-in-Name.ensures) c.as_slice-rest.ensures.value c.in-Name.ensures rest c.lists.invariant
+    c.in_ok-push-in-Name-2.ensures.items c.replace-done.ensures.value (c.replace-done.ensures.after ∙ c.in_ok-inner-in-Name.ensures) c.as_slice-rest.ensures.value c.in-Name.ensures rest c.lists.invariant
+
+pub lists-preserved-then-len-eq0 : goal.lists-preserved-then-len-eq0
+lists-preserved-then-len-eq0 c =
+    let rest : c.lists.rest.now ≡ c.in-Some.term.now ∷ c.in-Some.left.now = c.in-Some.ensures.cases.0 in
+    let none = no_terms c.in-Name.args.now (omega (arith, c.len.ensures, c.if-len-eq0.true)) in
+    let made = c.in_ok-push-in-Name.ensures.value ∙ ap (λ ts. pushed c.lists.made (app c.in-Name.name ts)) c.new.ensures in
+    let term = ap (λ ts. app c.in-Name.name (all_under (sub_of c.in-Name.later.now) ts)) (sym none) ∙ c.in-Name.ensures in
+    one_resolved c.lists.outer.items (sub_of c.lists.known.now) c.lists.made c.push-then-len-eq0.new.self (app c.in-Name.name nil) c.in-Some.term.now c.lists.rest.now c.in-Some.left.now _
+    made term rest c.lists.invariant
 
 pub returns-in_default : goal.returns-in_default
 returns-in_default c =
