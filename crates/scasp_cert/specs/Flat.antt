@@ -4,6 +4,7 @@ use Rattle.std.specs.List.{list_all, flat_map}
 use Rattle.scasp_syntax.specs.Tm.{Tm, var, num, app, items}
 use Rattle.scasp_syntax.specs.WellFormed.{is_below}
 use Rattle.scasp_cert.specs.Certificate.{Certificate}
+use Rattle.scasp_cert.specs.Walk.{Line, case_line, check_line, node_line, rule_line}
 use Rattle.scasp_cert.specs.Trees.{Tree, Trees, Branch, Branches, pos_tree, neg_tree, loop_tree, seen_tree, test_tree, no_tree, tree, split, void, leaf, head, no_branch, branch, listed}
 
 abbrev pub is_variable : Tm → Bool
@@ -33,6 +34,20 @@ abbrev mutual
   pub listed_in : Branches → List Tm
   listed_in no_branch = []
   listed_in (branch rule b bs) = listed_at b ++ listed_in bs
+
+abbrev pub listed_by_tree : Tree → List Tm
+listed_by_tree (pos_tree a rule ts children) = items ts
+listed_by_tree (neg_tree a covers) = []
+listed_by_tree (loop_tree lit at) = []
+listed_by_tree (seen_tree lit at) = []
+listed_by_tree (test_tree con hint) = []
+
+-- the terms that one line lists
+abbrev pub listed_on : Line → List Tm
+listed_on (node_line t) = listed_by_tree t
+listed_on (rule_line rule b) = []
+listed_on (case_line b) = []
+listed_on (check_line clause b) = []
 
 -- the term has no variable from n on, or is a variable by itself
 abbrev pub is_flat_term : ℕ → Tm → Bool

@@ -2,6 +2,9 @@ pub mod Trees
 pub mod View
 pub mod Certificate
 pub mod Lines
+pub mod Freeing
+pub mod Walk
+pub mod WalkView
 pub mod Flat
 pub mod Skeleton
 pub mod Examples

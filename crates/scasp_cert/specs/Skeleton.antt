@@ -1,5 +1,5 @@
 -- What a certificate says without what shows it: each hint is Terms, and no clash line is left.
-use Rattle.std.specs.Prelude.{ℕ, List, [], map}
+use Rattle.std.specs.Prelude.{ℕ, [], map}
 use Rattle.scasp_syntax.specs.declared.hint.Hint.TheVariants as hint
 use Rattle.scasp_cert.specs.Certificate.{Certificate}
 use Rattle.scasp_cert.specs.Trees.{Tree, Trees, Branch, Branches, pos_tree, neg_tree, loop_tree, seen_tree, test_tree, no_tree, tree, split, void, leaf, head, no_branch, branch}

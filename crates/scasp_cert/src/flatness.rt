@@ -1,95 +1,51 @@
 //! Whether a certificate is flat.
 
-ghost use Rattle.std.specs.Prelude.{◌≡◌, Ok};
-ghost use Rattle.std.specs.List.{flat_map};
-ghost use Rattle.scasp_cert.specs.Certificate.{certificate_of, checks_of};
-ghost use Rattle.scasp_cert.specs.Flat.{are_flat, is_flat, is_flat_term, listed_at, listed_below, listed_by, listed_in};
-ghost use Rattle.scasp_cert.specs.Trees.{covering, listed};
-ghost use Rattle.scasp_cert.specs.View.{branch_of, covers_of, tree_of, trees_of};
+ghost use Rattle.std.specs.Prelude.{◌≡◌, IfOk};
+ghost use Rattle.scasp_cert.specs.Certificate.{certificate_of};
+ghost use Rattle.scasp_cert.specs.Flat.{are_flat, is_flat, is_flat_term, listed_by_tree, listed_on};
+ghost use Rattle.scasp_cert.specs.View.{tree_of};
+ghost use Rattle.scasp_cert.specs.WalkView.{line_of};
 ghost use Rattle.scasp_syntax.specs.Tm.{items};
 ghost use Rattle.scasp_syntax.specs.View.{tm_of};
 ghost use Rattle.scasp_syntax.specs.WellFormed.{are_below, is_below};
 
-use crate::certificate::{Cert, Checks};
-use crate::tree::{Case, Covers, Node, Nodes};
+use crate::certificate::Cert;
+use crate::tree::Node;
+use crate::walk::{Line, Walk};
 use scasp_name::Memory;
 use scasp_syntax::{Term, Terms};
+use std::alloc::Global;
 
 /// Whether each term that a line lists for a variable of its rule has no universal variable, or is one by itself.
-/// It takes no memory.
-#[tactic(auto, using(crate::proofs::FlatLemmas::flat_append))]
-pub fn flat(cert: &Cert) -> Result<bool, Memory>
-    ensures { result ≡ Ok (is_flat (certificate_of cert.now)) }
+#[tactic(auto, using(crate::proofs::FlatLemmas::flat_append, crate::proofs::FlatLemmas::all_met))]
+pub fn flat(alloc: Global, cert: &Cert) -> Result<bool, Memory>
+    ensures { IfOk result (λ found. found ≡ is_flat (certificate_of cert.now)) }
 {
     let free = cert.sample.len();
-    Ok(nodes_are_flat(&cert.trees, free) && checks_are_flat(&cert.checks, free))
-}
-
-#[tactic(auto, using(crate::proofs::FlatLemmas::flat_append))]
-fn checks_are_flat(checks: &Checks, free: usize) -> bool
-    ensures { result ≡ are_flat free (flat_map (λ k. listed_at k.1) (checks_of checks.now)) }
-{
-    for check in checks.as_slice() {
-        if !case_is_flat(&check.case, free) {
-            return false;
+    let mut walk = Walk::of(alloc, cert)?;
+    while let Some(line) = walk.next()? {
+        if !line_is_flat(&line, free) {
+            return Ok(false);
         }
     }
-    true
+    Ok(true)
 }
 
-#[cycle(flat)]
-#[tactic(auto, using(crate::proofs::FlatLemmas::flat_append))]
+fn line_is_flat(line: &Line<'_>, free: usize) -> bool
+    ensures { result ≡ are_flat free (listed_on (line_of line.now)) }
+{
+    match line {
+        Line::Node(node) => node_is_flat(node, free),
+        Line::Rule(_) | Line::Case(_) | Line::Check(_) => true,
+    }
+}
+
 fn node_is_flat(node: &Node, free: usize) -> bool
-    ensures { result ≡ are_flat free (listed_by (tree_of node.now)) }
+    ensures { result ≡ are_flat free (listed_by_tree (tree_of node.now)) }
 {
     match node {
-        Node::Pos {
-            terms,
-            children,
-            ..
-        } => terms_are_flat(terms, free) && nodes_are_flat(children, free),
-        Node::Neg { covers, .. } => covers_are_flat(covers, free),
-        Node::Loop { .. } | Node::Seen { .. } | Node::Test { .. } => true,
-    }
-}
-
-#[cycle(flat)]
-#[tactic(auto, using(crate::proofs::FlatLemmas::flat_append))]
-fn nodes_are_flat(nodes: &Nodes, free: usize) -> bool
-    ensures { result ≡ are_flat free (listed_below (listed (trees_of nodes.now))) }
-{
-    for node in &nodes.list {
-        if !node_is_flat(node, free) {
-            return false;
-        }
-    }
-    true
-}
-
-#[cycle(flat)]
-#[tactic(auto, using(crate::proofs::FlatLemmas::flat_append))]
-fn covers_are_flat(covers: &Covers, free: usize) -> bool
-    ensures { result ≡ are_flat free (listed_in (covering (covers_of covers.now))) }
-{
-    for cover in &covers.list {
-        if !case_is_flat(&cover.case, free) {
-            return false;
-        }
-    }
-    true
-}
-
-#[cycle(flat)]
-#[tactic(auto, using(crate::proofs::FlatLemmas::flat_append))]
-fn case_is_flat(case: &Case, free: usize) -> bool
-    ensures { result ≡ are_flat free (listed_at (branch_of case.now)) }
-{
-    match case {
-        Case::Split { first, second, .. } => {
-            case_is_flat(first, free) && case_is_flat(second, free)
-        }
-        Case::Void { .. } => true,
-        Case::Leaf { children, .. } | Case::Head { children } => nodes_are_flat(children, free),
+        Node::Pos { terms, .. } => terms_are_flat(terms, free),
+        Node::Neg { .. } | Node::Loop { .. } | Node::Seen { .. } | Node::Test { .. } => true,
     }
 }
 

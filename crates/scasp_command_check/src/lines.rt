@@ -42,7 +42,8 @@ pub fn reason_words(reason: Reason) -> &'static str
 fn put_domain(line: &mut Vec<u8>, cert: &Cert) -> Result<(), Memory>
     ensures { OnOk result (line.new.items ≡ line.old.items ++ spec.domain_words (certificate_of cert.now)) }
 {
-    put(line, if flat(cert)? { " any" } else { " closed" })
+    let any = flat(*line.allocator(), cert)?;
+    put(line, if any { " any" } else { " closed" })
 }
 
 /// Puts what the certificate is worth at the end.

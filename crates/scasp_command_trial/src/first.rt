@@ -42,10 +42,10 @@ pub enum Trial {
 }
 
 /// How many lines the trees and checks of the certificate have. There is no memory for 2^64 - 1 or more.
-fn line_count(cert: &Cert) -> Result<u64, Memory>
+fn line_count(alloc: Global, cert: &Cert) -> Result<u64, Memory>
     ensures { IfOk result (λ count. count ≡ all_lines (certificate_of cert.now)) }
 {
-    let count = lines(cert)?;
+    let count = lines(alloc, cert)?;
     if count == u64::MAX {
         return Err(Memory);
     }
@@ -53,11 +53,11 @@ fn line_count(cert: &Cert) -> Result<u64, Memory>
 }
 
 /// The trial that comes to this answer after so many calls.
-fn right(cert: &Cert, calls: u64) -> Result<Trial, Memory>
+fn right(alloc: Global, cert: &Cert, calls: u64) -> Result<Trial, Memory>
     ensures { IfOk result (λ trial. trial ≡ Trial.Right calls (all_lines (certificate_of cert.now)) (is_flat (certificate_of cert.now))) }
 {
-    let lines = line_count(cert)?;
-    let any = flat(cert)?;
+    let lines = line_count(alloc, cert)?;
+    let any = flat(alloc, cert)?;
     Ok(Trial::Right { calls, lines, any })
 }
 
@@ -72,7 +72,7 @@ fn tree_of(
         → Leads program.now old new trial) }
 {
     match finish(alloc, program, tree)? {
-        Finished::Answer(cert) => Ok(Some(right(&cert, calls)?)),
+        Finished::Answer(cert) => Ok(Some(right(alloc, &cert, calls)?)),
         Finished::Passed => Ok(None),
         Finished::Overflow => Ok(Some(Trial::Overflow)),
     }

@@ -8,12 +8,13 @@ use crate::wheres::put_with_where;
 use scasp_cert::{Cert, flat};
 use scasp_name::{Memory, NameId, Names};
 use scasp_print_words::put;
+use std::alloc::Global;
 
 /// The remark on the domains of an answer.
-fn domain_line(cert: &Cert) -> Result<&'static str, Memory>
+fn domain_line(alloc: Global, cert: &Cert) -> Result<&'static str, Memory>
     ensures { IfOk result (λ line. line.now ≡ spec.domain_line (certificate_of cert.now)) }
 {
-    if flat(cert)? {
+    if flat(alloc, cert)? {
         Ok("% domain any\n")
     } else {
         Ok("% domain closed\n")
@@ -34,7 +35,8 @@ pub fn put_remarks(
 ) -> Result<(), Memory>
     ensures { OnOk result (out.new.items ≡ out.old.items ++ spec.remarks_text names.now variables.now (certificate_of cert.now)) }
 {
-    let spoken_of = shown_variables(*out.allocator(), variables, cert.terms.as_slice())?;
+    let alloc = *out.allocator();
+    let spoken_of = shown_variables(alloc, variables, cert.terms.as_slice())?;
     put_with_where(out, names, variables, cert, &spoken_of)?;
-    put(out, domain_line(cert)?)
+    put(out, domain_line(alloc, cert)?)
 }

@@ -1,5 +1,5 @@
 -- How a certificate is written: the lines from `answer` to `end`.
-use Rattle.std.specs.Prelude.{ℕ, Bool, true, false, List, [], ◌∷◌, ◌++◌, if◌then◌else◌, flat_map, codes, decimal}
+use Rattle.std.specs.Prelude.{ℕ, List, ◌++◌, if◌then◌else◌, flat_map, codes, decimal}
 use Rattle.scasp_syntax.specs.declared.con.Con.{Con}
 use Rattle.scasp_syntax.specs.declared.atom.Pred.{Pred}
 use Rattle.scasp_syntax.specs.declared.predicate_map.PredMap.{PredMap}

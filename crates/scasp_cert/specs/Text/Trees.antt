@@ -1,7 +1,5 @@
 -- How justification trees are written: each line behind as many blanks as it is deep.
-use Rattle.std.specs.Prelude.{ℕ, ◌+◌, List, [], ◌∷◌, ◌++◌, replicate, codes, decimal}
-use Rattle.scasp_syntax.specs.Tm.{Tms}
-use Rattle.scasp_syntax.specs.declared.atom.Atom.{Atom}
+use Rattle.std.specs.Prelude.{ℕ, ◌+◌, List, [], ◌++◌, replicate, codes, decimal}
 use Rattle.scasp_cert.specs.Trees.{Tree, Trees, Branch, Branches, pos_tree, neg_tree, loop_tree, seen_tree, test_tree, no_tree, tree, split, void, leaf, head, no_branch, branch}
 use Rattle.scasp_cert.specs.Text.Terms.{list_text, atom_text, lit_text}
 use Rattle.scasp_cert.specs.Text.Constraints.{con_text}

@@ -173,7 +173,7 @@ fn lines_are_shown_apart(rt: HostRuntime) -> Result<(), Fail> {
 /// How many lines the sample's certificate has, and whether it is flat.
 fn counted(alloc: Global, sample: &Sample) -> Result<(u64, bool), Memory> {
     let cert = certificate(alloc, sample)?;
-    Ok((lines(&cert)?, flat(&cert)?))
+    Ok((lines(alloc, &cert)?, flat(alloc, &cert)?))
 }
 
 #[test]
@@ -189,7 +189,7 @@ fn skeleton_is_refused(alloc: Global, sample: &Sample) -> Result<(u64, Option<Ch
     let program = program(alloc, sample.text)?;
     let cert = certificate(alloc, sample)?;
     let bare = skeleton(alloc, &cert)?;
-    Ok((lines(&bare)?, check(alloc, &program, &bare).err()))
+    Ok((lines(alloc, &bare)?, check(alloc, &program, &bare).err()))
 }
 
 #[test]

@@ -67,8 +67,8 @@ fn lines_are_counted(rt: HostRuntime) -> Result<(), Fail> {
     let cert = all_kinds(rt.alloc())?;
     assert!(rt; matches!(cert.trees.get(1), Some(Node::Neg { .. })));
     // Twice a literal, a rule and four lines; a check and its case.
-    assert_eq!(rt; lines(&cert), Ok(14));
-    assert_eq!(rt; flat(&cert), Ok(true));
+    assert_eq!(rt; lines(rt.alloc(), &cert), Ok(14));
+    assert_eq!(rt; flat(rt.alloc(), &cert), Ok(true));
     Ok(())
 }
 
@@ -82,7 +82,7 @@ fn bare(alloc: Global) -> Result<Cert, Memory> {
 fn skeletons_are_taken(rt: HostRuntime) -> Result<(), Fail> {
     assert_eq!(rt; all_kinds(rt.alloc())?.clashes.len(), 1);
     let bare = bare(rt.alloc())?;
-    assert_eq!(rt; lines(&bare), Ok(14));
+    assert_eq!(rt; lines(rt.alloc(), &bare), Ok(14));
     assert_eq!(rt; bare.clashes.len(), 0);
     Ok(())
 }
