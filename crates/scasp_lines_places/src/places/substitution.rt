@@ -78,21 +78,33 @@ impl Substitution for Replacing<'_> {
     }
 }
 
-/// What a variable is replaced by: the outermost replacement first.
+/// What a variable is replaced by: the outermost replacement first. It takes memory for the replacements where one is of this
+/// variable, and no machine stack.
+#[tactic(auto, using(crate::proofs::PlacesLemmas::ReplacedLemmas::unreplaced))]
 pub fn replaced_value(alloc: Global, all: &Chain<Binding>, x: u64) -> Result<Term, Memory>
     ensures { IfOk result (λ made. tm_of made ≡ all_replaced all.now x) }
 {
-    match all.first() {
+    match bound_to(all, x) {
         None => Ok(Term::Var(x)),
-        Some((binding, outer)) => {
-            let before = replaced_value(alloc, outer, x)?;
-            let by = Replacing {
-                x: binding.x,
-                term: &binding.term,
-            };
-            under(alloc, &before, &by)
-        }
+        Some(_) => replaced_by_each(alloc, all, x),
     }
+}
+
+/// What a variable is replaced by, one replacement after the other.
+#[tactic(auto, using(crate::proofs::PlacesLemmas::ReplacedLemmas::all_left, crate::proofs::PlacesLemmas::ReplacedLemmas::one_less))]
+fn replaced_by_each(alloc: Global, all: &Chain<Binding>, x: u64) -> Result<Term, Memory>
+    ensures { IfOk result (λ made. tm_of made ≡ all_replaced all.now x) }
+{
+    let mut left = all.items(alloc)?;
+    let mut value = Term::Var(x);
+    while let Some(binding) = left.pop() {
+        let by = Replacing {
+            x: binding.x,
+            term: &binding.term,
+        };
+        value = under(alloc, &value, &by)?;
+    }
+    Ok(value)
 }
 
 /// What is replaced, as a substitution.
