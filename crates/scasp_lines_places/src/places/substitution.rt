@@ -11,7 +11,7 @@ ghost use Rattle.scasp_syntax.specs.View.{tm_of};
 
 use crate::places::chain::Chain;
 use scasp_list::Memory;
-use scasp_syntax::{Atom, Term, Terms, copy, instance};
+use scasp_syntax::{Atom, Term, Terms, Values, copy, instance, rebuilt};
 use scasp_unify::Binding;
 use std::alloc::Global;
 
@@ -24,8 +24,21 @@ pub trait Substitution {
         ensures { IfOk result (λ made. tm_of made ≡ gives self.now x) };
 }
 
-/// The term with its variables replaced.
-#[cycle(under)]
+/// What variables stand for by a substitution.
+#[derive(Drop)]
+struct By<'a, S> {
+    by: &'a S,
+}
+
+impl<S: Substitution> Values for By<'_, S> {
+    ghost gives = { λ b. S.gives b.by.now };
+
+    fn value_of(&self, alloc: Global, x: u64) -> Result<Term, Memory> {
+        self.by.value(alloc, x)
+    }
+}
+
+/// The term with its variables replaced. It takes memory for what is still to be made, and no machine stack.
 pub fn under<S: Substitution>(alloc: Global, term: &Term, by: &S) -> Result<Term, Memory>
     ensures { IfOk result (λ made. tm_of made ≡ under (S.gives by.now) (tm_of term.now)) }
 {
@@ -36,16 +49,11 @@ pub fn under<S: Substitution>(alloc: Global, term: &Term, by: &S) -> Result<Term
     }
 }
 
-/// The terms with their variables replaced.
-#[cycle(under)]
+/// The terms with their variables replaced, with memory as `under`.
 pub fn all_under<S: Substitution>(alloc: Global, terms: &Terms, by: &S) -> Result<Terms, Memory>
     ensures { IfOk result (λ made. made ≡ all_under (S.gives by.now) terms.now) }
 {
-    let mut made = Terms::new(alloc);
-    for term in terms.as_slice() {
-        made.push(under(alloc, term, by)?)?;
-    }
-    Ok(made)
+    rebuilt(alloc, terms.as_slice(), &By { by })
 }
 
 /// The atom with its variables replaced.

@@ -1,9 +1,8 @@
 //! How deep the terms of certificates nest.
 
-use crate::certificate::{Cert, Check, Checks};
-use crate::tree::{Case, Covers, Node, Nodes};
+use crate::terms::Nested;
+use scasp_cert::{Case, Cert, Check, Checks, Covers, Node, Nodes};
 use scasp_name::Memory;
-use scasp_syntax::Nested;
 use std::alloc::Global;
 
 impl Nested for Cert {

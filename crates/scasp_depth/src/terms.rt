@@ -1,12 +1,8 @@
 //! How deep terms nest.
 
-use crate::atom::{Atom, Lit};
-use crate::clause::{Clause, Item, Query};
-use crate::con::Con;
-use crate::program::Program;
-use crate::term::{Term, Terms};
 use scasp_list::Sequence;
 use scasp_name::Memory;
+use scasp_syntax::{Atom, Clause, Con, Item, Lit, Program, Query, Term, Terms};
 use std::alloc::Global;
 
 /// The deepest term over which walks that go down by calls are served by the machine's stack.
