@@ -23,7 +23,6 @@ use std::alloc::Global;
 use std::marker::Model;
 
 /// Bindings in the order in which they were made. One that was taken out leaves a gap.
-#[derive(Drop)]
 pub struct Bound {
     list: Trailed<Option<Binding>>,
     /// Where the bindings of each variable are.
@@ -32,6 +31,20 @@ pub struct Bound {
     is_whole: bool,
     /// A binding to a variable beyond this one is of a later variable. It never falls.
     rise: u64,
+}
+
+impl Drop for Bound {
+    /// Frees the parts. The crates above call this, and need not prove how each part is freed.
+    fn drop(self) {
+        let Bound {
+            list,
+            places,
+            is_whole: _,
+            rise: _,
+        } = self;
+        drop(list);
+        drop(places);
+    }
 }
 
 impl Model for Bound {

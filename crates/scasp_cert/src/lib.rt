@@ -3,7 +3,6 @@
 
 mod certificate;
 mod count;
-mod depth;
 mod flatness;
 mod lists;
 mod skeletons;

@@ -14,12 +14,13 @@ use scasp_abduce::translate;
 use scasp_answers::{
     AnswerErr, AnswerFault, AnswerKind, BYTE_LIMIT as ANSWER_LIMIT, Entries, read_answers,
 };
+use scasp_depth::Nested;
 use scasp_io::{Files, ReadErr, read_file};
 use scasp_list::Memory;
 use scasp_name::Names;
 use scasp_reader::{BYTE_LIMIT, read_program};
 use scasp_reader_terms::{Count, Fault, Kind, Stop};
-use scasp_syntax::{Nested, Program};
+use scasp_syntax::Program;
 use std::alloc::Global;
 
 /// The program that the bytes spell behind these names, as it is written, and the table of names then; or the line of the first fault.

@@ -11,8 +11,9 @@ ghost use Rattle.scasp_tables.specs.Tables.{is_member};
 
 use crate::fault::{DomainErr, DomainFault, DomainKind};
 use scasp_answers_terms::{Cursor, Stop, term};
+use scasp_depth::Nested;
 use scasp_name::Names;
-use scasp_syntax::{Nested, Term};
+use scasp_syntax::Term;
 use scasp_tables::{Domain, Pushed};
 use std::alloc::Global;
 

@@ -29,9 +29,16 @@ use std::marker::Model;
 
 /// The open covers, the outermost first, without the lines that were told before their cases. The depth of each is its place,
 /// from 1.
-#[derive(Drop)]
 pub struct Scopes {
     scopes: Trailed<Scope>,
+}
+
+impl Drop for Scopes {
+    /// Frees the parts. The crates above call this, and need not prove how each part is freed.
+    fn drop(self) {
+        let Scopes { scopes } = self;
+        drop(scopes);
+    }
 }
 
 impl Model for Scopes {

@@ -23,10 +23,17 @@ use std::alloc::Global;
 use std::marker::Model;
 
 /// What is still to be done.
-#[derive(Drop)]
 pub struct Frames {
     /// The next frame is the last.
     frames: Trailed<Frame>,
+}
+
+impl Drop for Frames {
+    /// Frees the parts. The crates above call this, and need not prove how each part is freed.
+    fn drop(self) {
+        let Frames { frames } = self;
+        drop(frames);
+    }
 }
 
 impl Model for Frames {

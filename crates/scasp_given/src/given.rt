@@ -9,9 +9,16 @@ use std::alloc::Global;
 use std::marker::Model;
 
 /// What is assumed of the existential variables, in the order in which it was given.
-#[derive(Drop)]
 pub struct Given {
     list: Trailed<Con>,
+}
+
+impl Drop for Given {
+    /// Frees the parts. The crates above call this, and need not prove how each part is freed.
+    fn drop(self) {
+        let Given { list } = self;
+        drop(list);
+    }
 }
 
 impl Model for Given {

@@ -1,2 +1,4 @@
+pub mod AgainstLemmas
 pub mod PartLemmas
 pub mod CoverLemmas
+pub mod ReplacedLemmas

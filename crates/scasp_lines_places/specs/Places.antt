@@ -1,3 +1,4 @@
+pub mod Against
 pub mod Chains
 pub mod View
 pub mod Substitutions

@@ -24,11 +24,19 @@ use std::alloc::Global;
 use std::marker::Model;
 
 /// Literals that were gone into, in order. The number of each is its place.
-#[derive(Drop)]
 pub struct Loops {
     lists: Lists,
     /// Of each key, the place behind the latest literal that has it.
     latest: Trailed<usize>,
+}
+
+impl Drop for Loops {
+    /// Frees the parts. The crates above call this, and need not prove how each part is freed.
+    fn drop(self) {
+        let Loops { lists, latest } = self;
+        drop(lists);
+        drop(latest);
+    }
 }
 
 impl Model for Loops {

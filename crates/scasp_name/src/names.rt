@@ -8,9 +8,16 @@ use std::alloc::Global;
 use std::marker::Model;
 
 /// A list of distinct texts, in order of first use.
-#[derive(Drop)]
 pub struct Names {
     texts: IndexSet<String>,
+}
+
+impl Drop for Names {
+    /// Frees the texts. The crates above call this, and need not prove how each part is freed.
+    fn drop(self) {
+        let Names { texts } = self;
+        drop(texts);
+    }
 }
 
 impl Model for Names {

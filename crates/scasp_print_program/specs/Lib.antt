@@ -2,3 +2,4 @@ pub mod Abducibles
 pub mod Terms
 pub mod Items
 pub mod Programs
+pub mod Pieces

@@ -3,8 +3,9 @@ ghost use Rattle.std.specs.Prelude.{◌≡◌, ◌++◌, [], true, OnOk, if◌th
 ghost use Rattle.scasp_cert.specs.Text.Constraints.{plus_text, factor_text, relation_text};
 ghost use Rattle.scasp_print_program.specs.Items as spec;
 
+use crate::pieces::put_variable;
 use crate::style::Shown;
-use crate::terms::{put_lit, put_term, put_variable};
+use crate::terms::{put_lit, put_term};
 use scasp_list::Memory;
 use scasp_num::{Op, Row};
 use scasp_print_words::{put, put_integer, put_separator};

@@ -4,6 +4,7 @@
 mod abducibles;
 mod clauses;
 mod items;
+mod pieces;
 mod programs;
 mod style;
 mod terms;

@@ -18,9 +18,16 @@ use std::alloc::Global;
 use std::mem;
 
 /// The search for answers to a query, between two slices.
-#[derive(Drop)]
 pub struct Search {
     pub(crate) walk: Walk<Suspended<Trail>>,
+}
+
+impl Drop for Search {
+    /// Frees the parts. The crates above call this, and need not prove how each part is freed.
+    fn drop(self) {
+        let Search { walk } = self;
+        drop(walk);
+    }
 }
 
 /// Where the search for answers to the query begins; no state waits.

@@ -37,11 +37,19 @@ pub(crate) struct Saved {
 }
 
 /// A state that is changed in place, and copies of those that wait.
-#[derive(Drop)]
 pub struct Copied {
     state: State,
     /// The latest last.
     saved: Vec<Saved>,
+}
+
+impl Drop for Copied {
+    /// Frees the parts. The crates above call this, and need not prove how each part is freed.
+    fn drop(self) {
+        let Copied { state, saved } = self;
+        drop(state);
+        drop(saved);
+    }
 }
 
 /// A state with nothing in it.

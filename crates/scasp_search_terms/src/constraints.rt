@@ -11,14 +11,14 @@ use crate::reading::{read, read_term};
 use scasp_list::Memory;
 use scasp_name::NameId;
 use scasp_num::{Coeff, Row, RowErr};
-use scasp_syntax::{Con, DeepCopy, Term, Terms, VarList};
+use scasp_syntax::{Con, DeepCopy, Term, Terms, VarList, Walk};
 use scasp_unify::{Binding, resolved_row};
 use std::alloc::Global;
 
 // ---- variables
 
-/// Puts the variables of a term behind those found before, each as often as it stands there.
-#[cycle(push_vars)]
+/// Puts the variables of a term behind those found before, each as often as it stands there. It takes memory for the lists of
+/// terms that wait, and no machine stack.
 pub fn push_vars(term: &Term, found: &mut VarList) -> Result<(), Memory>
     ensures { OnOk result (found.new ≡ found.old ++ term_vars (tm_of term.now)) }
 {
@@ -29,13 +29,24 @@ pub fn push_vars(term: &Term, found: &mut VarList) -> Result<(), Memory>
     }
 }
 
-/// Puts the variables of terms behind those found before.
-#[cycle(push_vars)]
+/// Puts the variables of terms behind those found before, with memory as `push_vars`.
+#[tactic(auto, using(crate::proofs::VarLemmas::var_found, crate::proofs::VarLemmas::num_passed, crate::proofs::VarLemmas::name_passed, crate::proofs::VarLemmas::args_next, crate::proofs::VarLemmas::none_left, crate::proofs::VarLemmas::less_one, crate::proofs::VarLemmas::less_args))]
 pub fn push_all_vars(terms: &Terms, found: &mut VarList) -> Result<(), Memory>
     ensures { OnOk result (found.new ≡ found.old ++ terms_vars terms.now) }
 {
-    for term in terms.as_slice() {
-        push_vars(term, found)?;
+    let mut walk = Walk::over(found.allocator(), terms.as_slice());
+    'terms: while let Some(term) = walk.next() {
+        match term {
+            Term::Var(x) => {
+                found.push(*x)?;
+            }
+            Term::Num(_) => {}
+            Term::App(_, args) => {
+                if args.len() > 0 {
+                    walk.enter(args)?;
+                }
+            }
+        }
     }
     Ok(())
 }

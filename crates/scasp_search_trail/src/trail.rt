@@ -27,11 +27,19 @@ pub(crate) struct Saved {
 }
 
 /// A state that is changed in place, and marks of those that wait.
-#[derive(Drop)]
 pub struct Trail {
     pub(crate) parts: Parts,
     /// The latest last.
     saved: Vec<Saved>,
+}
+
+impl Drop for Trail {
+    /// Frees the parts. The crates above call this, and need not prove how each part is freed.
+    fn drop(self) {
+        let Trail { parts, saved } = self;
+        drop(parts);
+        drop(saved);
+    }
 }
 
 impl Trail {

@@ -15,10 +15,17 @@ use std::marker::Model;
 pub const MOST_OPEN: usize = 64;
 
 /// The sessions that are open, in the order of opening, and the number of the next one. A number is used once.
-#[derive(Drop)]
 pub struct Sessions {
     opened: Vec<Session>,
     next: u64,
+}
+
+impl Drop for Sessions {
+    /// Frees the parts. The crates above call this, and need not prove how each part is freed.
+    fn drop(self) {
+        let Sessions { opened, next: _ } = self;
+        drop(opened);
+    }
 }
 
 impl Model for Sessions {

@@ -21,7 +21,6 @@ use std::alloc::Global;
 use std::marker::Model;
 
 /// What the variables of a search stand for, and what is given of those that stand for nothing yet.
-#[derive(Drop)]
 pub struct Store {
     pub(crate) bound: Bound,
     pub(crate) given: Given,
@@ -29,6 +28,23 @@ pub struct Store {
     /// Whether each binding was of an unbound variable, to a term of unbound variables, so that none leads back to itself.
     pub(crate) is_solved: bool,
     pub(crate) known: Known,
+}
+
+impl Drop for Store {
+    /// Frees the parts. The crates above call this, and need not prove how each part is freed.
+    fn drop(self) {
+        let Store {
+            bound,
+            given,
+            rest,
+            is_solved: _,
+            known,
+        } = self;
+        drop(bound);
+        drop(given);
+        drop(rest);
+        drop(known);
+    }
 }
 
 impl Model for Store {

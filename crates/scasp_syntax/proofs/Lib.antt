@@ -1,8 +1,10 @@
 pub mod ConstraintLemmas
 pub mod DropLemmas
 pub mod ProgramLemmas
+pub mod RaisedLemmas
 pub mod RebuildLemmas
 pub mod SameLemmas
 pub mod TermLemmas
 pub mod ValueLemmas
+pub mod WalkLemmas
 pub mod Walks

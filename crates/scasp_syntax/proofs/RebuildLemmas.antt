@@ -4,14 +4,11 @@ use Rattle.std.specs.List.{sum_by}
 use Rattle.scasp_syntax.specs.Tm.{Tm, Tms, var, num, app, nil, cons, items, pushed, weight_s}
 use Rattle.scasp_syntax.specs.Values.{Sub, under, all_under}
 use Rattle.scasp_syntax.specs.View.{tm_of, tms_of}
+use Rattle.scasp_syntax.specs.Walks.{onto}
 use Rattle.scasp_syntax.specs.declared.term.Term.{Term}
 use Rattle.scasp_syntax.specs.declared.term.Term.TheVariants.{App}
 use Rattle.scasp_syntax.specs.declared.rebuilding.Outer.{Outer}
-
--- one list behind the other
-abbrev pub onto : Tms → Tms → Tms
-onto nil us = us
-onto (cons t ts) us = cons t (onto ts us)
+use Rattle.scasp_syntax.proofs.WalkLemmas.{onto-nil, onto-pushed}
 
 -- what the outermost list comes to when the innermost comes to this
 abbrev pub closed : Sub → List Outer → Tms → Tms
@@ -25,14 +22,6 @@ waiting os = sum_by (λ (o : Outer). 1 + 2 * weight_s (tms_of o.left.now)) os
 closed-pushed : (s : Sub) (os : List Outer) (o : Outer) (ts : Tms) → closed s (os ++ o ∷ []) ts ≡ closed s os (onto o.done (cons (app o.name ts) (all_under s (tms_of o.left.now))))
 closed-pushed s [] o ts = refl
 closed-pushed s (p ∷ os) o ts = ap (λ us. onto p.done (cons (app p.name us) (all_under s (tms_of p.left.now)))) (closed-pushed s os o ts)
-
-onto-pushed : (ts : Tms) (t : Tm) (us : Tms) → onto (pushed ts t) us ≡ onto ts (cons t us)
-onto-pushed nil t us = refl
-onto-pushed (cons u ts) t us = ap (cons u) (onto-pushed ts t us)
-
-onto-nil : (ts : Tms) → onto ts nil ≡ ts
-onto-nil nil = refl
-onto-nil (cons t ts) = ap (cons t) (onto-nil ts)
 
 -- a variable or a number was replaced
 pub replaced : (s : Sub) (os : List Outer) (made new : Tms) (t : Term) (rest left : List Term) (z : Tms) → new ≡ pushed made (under s (tm_of t)) → rest ≡ t ∷ left → closed s os (onto made (all_under s (tms_of rest))) ≡ z → closed s os (onto new (all_under s (tms_of left))) ≡ z

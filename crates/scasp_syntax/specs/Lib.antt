@@ -5,10 +5,12 @@ pub mod Falls
 pub mod Flat
 pub mod Instances
 pub mod Programs
+pub mod Raised
 pub mod RowTruth
 pub mod Same
 pub mod Tm
 pub mod TmCode
 pub mod Values
 pub mod View
+pub mod Walks
 pub mod WellFormed

@@ -10,7 +10,7 @@ use std::alloc::Global;
 use std::mem;
 
 /// What the variables stand for in terms that are built anew.
-pub(crate) trait Values {
+pub trait Values {
     ghost gives: { Self → ℕ → Tm };
 
     /// What variable `x` stands for.
@@ -40,7 +40,7 @@ struct Outer<'a> {
 
 /// The terms with each variable replaced by what it stands for. It takes memory for the lists that wait for inner ones, and no
 /// machine stack.
-pub(crate) fn rebuilt<V: Values>(alloc: Global, terms: &[Term], values: &V) -> Result<Terms, Memory>
+pub fn rebuilt<V: Values>(alloc: Global, terms: &[Term], values: &V) -> Result<Terms, Memory>
     ensures { IfOk result (λ made. made ≡ all_under (V.gives values.now) (tms_of terms.now)) }
 {
     let mut outer = Vec::new(alloc);

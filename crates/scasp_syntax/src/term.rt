@@ -81,7 +81,7 @@ impl Terms {
     }
 
     /// The empty list, with room for so many terms.
-    pub(crate) fn with_room(alloc: Global, count: usize) -> Result<Terms, Memory>
+    pub fn with_room(alloc: Global, count: usize) -> Result<Terms, Memory>
         ensures { IfOk result (λ made. made ≡ nil) }
     {
         Ok(Terms {

@@ -24,6 +24,10 @@ named-append n ks js ps qs = λ i. record {
 pub named-then : (n m l : Named) (ks js : List ℕ) (ps qs : List Pred) → m ≡ with_named n ks ps → l ≡ with_named m js qs → l ≡ with_named n (ks ++ js) (ps ++ qs)
 named-then n m l ks js ps qs e f = f ∙ ap (λ z. with_named z js qs) e ∙ named-append n ks js ps qs
 
+-- some is named, and this will be
+pub named_twice : (n m : Named) (ks js : List ℕ) (ps qs : List Pred) → m ≡ with_named n ks ps → with_named m js qs ≡ with_named n (ks ++ js) (ps ++ qs)
+named_twice n m ks js ps qs e = ap (λ z. with_named z js qs) e ∙ named-append n ks js ps qs
+
 -- an item of a list is put in, where what is left of the list was to come to `all`
 pub named-next : {X Y : Type 0} (v : X → Y) (f : List Y → List ℕ) (g : List Y → List Pred) (ks : Y → List ℕ) (ps : Y → List Pred)
     → ((y : Y) (ys : List Y) → f (y ∷ ys) ≡ ks y ++ f ys) → ((y : Y) (ys : List Y) → g (y ∷ ys) ≡ ps y ++ g ys)

@@ -5,3 +5,4 @@ pub mod Once
 pub mod Same
 pub mod Told
 pub mod Touched
+pub mod Unseen

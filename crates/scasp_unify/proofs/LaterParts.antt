@@ -127,7 +127,7 @@ variable-clash g x f us e = inside-clash (g x) (under g (app f us)) (occurs-some
 
 -- ---- parts of parts
 
-both-nil : (o : Option (List Part)) → o ≡ both_parts o (Some [])
+pub both-nil : (o : Option (List Part)) → o ≡ both_parts o (Some [])
 both-nil None = refl
 both-nil (Some ps) = ap Some (sym (append-nil ps))
 
@@ -141,13 +141,13 @@ mutual
   all-same nil = refl
   all-same (cons t ts) = ap (λ o. both_parts o (parts_each ts ts)) (parts-same t) ∙ ap (both_parts (Some [])) (all-same ts)
 
-both-assoc : (a b c : Option (List Part)) → both_parts a (both_parts b c) ≡ both_parts (both_parts a b) c
+pub both-assoc : (a b c : Option (List Part)) → both_parts a (both_parts b c) ≡ both_parts (both_parts a b) c
 both-assoc None b c = refl
 both-assoc (Some ps) None c = refl
 both-assoc (Some ps) (Some qs) None = refl
 both-assoc (Some ps) (Some qs) (Some rs) = ap Some (sym (append_assoc ps qs rs))
 
-both-first : (o : Option (List Part)) → both_parts (Some []) o ≡ o
+pub both-first : (o : Option (List Part)) → both_parts (Some []) o ≡ o
 both-first None = refl
 both-first (Some ps) = refl
 

@@ -4,7 +4,9 @@ pub mod LaterParts
 pub mod Members
 pub mod NegationLemmas
 pub mod NumberLemmas
+pub mod PartLemmas
 pub mod PointLemmas
+pub mod ResolveLemmas
 pub mod ResolvedRowLemmas
 pub mod ResolverLemmas
 pub mod SimpleLemmas

@@ -11,7 +11,6 @@ use Rattle.scasp_syntax.specs.Tm.{Tm, Tms, var, num, app, nil, cons, items}
 use Rattle.scasp_syntax.specs.Values.{Sub, Valuation, under, all_under, is_ground, are_ground}
 use Rattle.scasp_syntax.specs.View.{tm_of}
 use Rattle.scasp_syntax.specs.Constraints.{holds, is_number, has_shape, Meets, Sat, Entails}
-use Rattle.scasp_syntax.specs.RowTruth.{row_holds}
 use Rattle.scasp_syntax.specs.WellFormed.{is_below, are_below}
 use Rattle.scasp_syntax.specs.RowTruth.{number_of, point}
 use Rattle.scasp_num.specs.Values.{row_sum}

@@ -1,8 +1,8 @@
 -- Parts solved one by one make what all of them make at once.
-use Rattle.std.proofs.Common.{◌≡◌, ◌≢◌, ◌<◌, get_or, remove, drop, take, ℕ, zero, suc, ◌+◌, ◌≤◌, zero-add, Bool, true, false, nat_eq, if◌then◌else◌, List, [], ◌∷◌, ◌++◌, map, length, Option, None, Some, is_some, refl, sym, ap, subst, ◌∙◌, arith, add_assoc, add-zero, append-nil}
+use Rattle.std.proofs.Common.{◌≡◌, ◌≢◌, ◌<◌, get_or, remove, drop, take, ℕ, zero, suc, ◌+◌, ◌≤◌, zero-add, Bool, true, false, nat_eq, if◌then◌else◌, List, [], ◌∷◌, ◌++◌, map, length, Option, None, Some, is_some, refl, sym, ap, subst, ◌∙◌, arith, add_assoc, add-zero, append-nil, append_assoc, reverse}
 use Rattle.std.proofs.lemmas.Bool.{true≢false}
 use Rattle.std.proofs.lemmas.Bool.Decides.{Decides-eqb}
-use Rattle.std.proofs.lemmas.List.{length-append, length-take, take-take, take_at}
+use Rattle.std.proofs.lemmas.List.{length-append, length-take, map-append, nil_from_length, reverse-append, reverse-reverse, take-take, take_at}
 use Rattle.scasp_list.specs.Each.{Each}
 use Rattle.scasp_num.specs.Arithmetic.{◌>>=◌}
 use Rattle.scasp_syntax.specs.Same.{same_number}
@@ -239,9 +239,12 @@ first-and-rest (g ∷ fs) f n e = ap (λ (h : FoundPart). h ∷ fs) (sym e)
 pub leads-on : (s r t : Sub) (ps qs : List Part) → LeadsTo s ps r qs → LeadsTo r qs t [] → LeadsTo s ps t []
 leads-on s r t ps qs h k = record { bound = h.bound + k.bound; same = λ n more. ap (λ m. made_by m s (ps ++ more)) (add_assoc h.bound k.bound n) ∙ h.same (k.bound + n) more ∙ k.same n more }
 
--- the first of the parts that are left is done
-pub leads-past : (s r t : Sub) (ps ds : List Part) (p : Part) → LeadsTo s ps r (p ∷ ds) → LeadsTo r (p ∷ []) t [] → LeadsTo s ps t ds
-leads-past s r t ps ds p h k = record { bound = h.bound + k.bound; same = λ n more. ap (λ m. made_by m s (ps ++ more)) (add_assoc h.bound k.bound n) ∙ h.same (k.bound + n) more ∙ k.same n (ds ++ more) }
+-- the first of the parts that are left leads to others
+leads-through : (s r t : Sub) (ps ds qs : List Part) (p : Part) → LeadsTo s ps r (p ∷ ds) → LeadsTo r (p ∷ []) t qs → LeadsTo s ps t (qs ++ ds)
+leads-through s r t ps ds qs p h k = record {
+  bound = h.bound + k.bound;
+  same = λ n more. ap (λ m. made_by m s (ps ++ more)) (add_assoc h.bound k.bound n) ∙ h.same (k.bound + n) more ∙ k.same n (ds ++ more) ∙ ap (made_by n t) (sym (append_assoc qs ds more));
+}
 
 pub leads-self : (s : Sub) (ps : List Part) → LeadsTo s ps s ps
 leads-self s ps = record { bound = 0; same = λ n more. ap (λ m. made_by m s (ps ++ more)) (zero-add n) }
@@ -250,13 +253,6 @@ leads-self s ps = record { bound = 0; same = λ n more. ap (λ m. made_by m s (p
 pub none-found : (s : Sub) (found : List FoundPart) → length found ≡ 0 → LeadsTo s (map part_of found) s []
 none-found s [] n = leads-self s []
 none-found s (f ∷ fs) n = absurd (omega (arith, n))
-
-pub next-part : (ps : List FoundPart) (i : ℕ) (p : FoundPart) → i < length ps → p ≡ get_or ps i p → map part_of (drop i ps) ≡ part_of p ∷ map part_of (drop (i + 1) ps)
-next-part [] i p h e = absurd (omega arith)
-next-part (q ∷ qs) zero p h e = ap (λ (r : FoundPart). part_of r ∷ map part_of qs) (sym e)
-next-part (q ∷ qs) (suc i) p h e =
-    let n : suc i + 1 ≡ suc (i + 1) = omega arith in
-    next-part qs i p (omega arith) e ∙ ap (λ (m : ℕ). part_of p ∷ map part_of (drop m (q ∷ qs))) (sym n)
 
 -- ---- more fuel
 
@@ -309,6 +305,37 @@ rest-clashes s r ps qs h k = λ n more. by n more (made_by n s (ps ++ more)) ref
 pub rest-solved : (b : Bool) (s r t : Sub) (ps qs : List Part) → LeadsTo s ps r qs → Solves b r qs t → Solves b s ps t
 rest-solved true s r t ps qs h k = leads-on s r t ps qs h k
 rest-solved false s r t ps qs h k = rest-clashes s r ps qs h k
+
+pub next-part : (ps : List FoundPart) (i : ℕ) (p : FoundPart) → i < length ps → p ≡ get_or ps i p → map part_of (drop i ps) ≡ part_of p ∷ map part_of (drop (i + 1) ps)
+next-part [] i p h e = absurd (omega arith)
+next-part (q ∷ qs) zero p h e = ap (λ (r : FoundPart). part_of r ∷ map part_of qs) (sym e)
+next-part (q ∷ qs) (suc i) p h e =
+    let n : suc i + 1 ≡ suc (i + 1) = omega arith in
+    next-part qs i p (omega arith) e ∙ ap (λ (m : ℕ). part_of p ∷ map part_of (drop m (q ∷ qs))) (sym n)
+
+-- ---- parts that wait, the last one first
+
+abbrev pub waiting : List FoundPart → List Part
+waiting fs = map part_of (reverse fs)
+
+pub all-waiting : (s : Sub) (parts left : List FoundPart) → left ≡ reverse parts → LeadsTo s (map part_of parts) s (waiting left)
+all-waiting s parts left e = subst (LeadsTo s (map part_of parts) s) (ap (map part_of) (sym (ap reverse e ∙ reverse-reverse parts))) (leads-self s (map part_of parts))
+
+next-waits : (left fewer : List FoundPart) (f : FoundPart) → left ≡ fewer ++ f ∷ [] → waiting left ≡ part_of f ∷ waiting fewer
+next-waits left fewer f e = ap waiting e ∙ ap (map part_of) (reverse-append fewer (f ∷ []))
+
+pub next-solved : (s r t : Sub) (ps : List Part) (left fewer more rest : List FoundPart) (f : FoundPart) → left ≡ fewer ++ f ∷ [] → more ≡ fewer ++ reverse rest
+    → LeadsTo s ps r (waiting left) → LeadsTo r (part_of f ∷ []) t (map part_of rest) → LeadsTo s ps t (waiting more)
+next-solved s r t ps left fewer more rest f e m h k =
+    let all : waiting more ≡ map part_of rest ++ waiting fewer =
+    ap waiting m ∙ ap (map part_of) (reverse-append fewer (reverse rest) ∙ ap (λ (fs : List FoundPart). fs ++ reverse fewer) (reverse-reverse rest)) ∙ map-append part_of rest (reverse fewer) in
+    subst (LeadsTo s ps t) (sym all) (leads-through s r t ps (waiting fewer) (map part_of rest) (part_of f) (subst (LeadsTo s ps r) (next-waits left fewer f e) h) k)
+
+pub next-clashes : (s r : Sub) (ps : List Part) (left fewer : List FoundPart) (f : FoundPart) → left ≡ fewer ++ f ∷ [] → LeadsTo s ps r (waiting left) → Clashes r (part_of f ∷ []) → Clashes s ps
+next-clashes s r ps left fewer f e h k = leads-clash s r ps (waiting fewer) (part_of f) (subst (LeadsTo s ps r) (next-waits left fewer f e) h) k
+
+pub none-waits : (s r : Sub) (ps : List Part) (left : List FoundPart) → length left ≡ 0 → LeadsTo s ps r (waiting left) → LeadsTo s ps r []
+none-waits s r ps left n h = subst (LeadsTo s ps r) (ap waiting (nil_from_length left n)) h
 
 -- ---- a whole equation
 
@@ -416,6 +443,9 @@ pub kept-first : (bs ds cs : List Binding) (b : Binding) → ds ≡ bs ++ b ∷ 
 kept-first bs ds cs b e k =
     let less : length bs ≤ length ds = omega (arith, ap (λ (xs : List Binding). length xs) e, length-append bs (b ∷ [])) in
     sym (take-take (length bs) (length ds) cs less) ∙ ap (take (length bs)) k ∙ ap (take (length bs)) e ∙ take_at bs (b ∷ []) (length bs) refl
+
+pub kept_on : (bs cs ds : List Binding) → take (length bs) cs ≡ bs → length bs ≤ length cs → take (length cs) ds ≡ cs → take (length bs) ds ≡ bs
+kept_on bs cs ds h l k = sym (take-take (length bs) (length cs) ds l) ∙ ap (take (length bs)) k ∙ h
 
 pub kept-longer : (bs cs : List Binding) → take (length bs) cs ≡ bs → length bs ≤ length cs
 kept-longer bs cs e = omega (arith, ap length e, length-take (length bs) cs)

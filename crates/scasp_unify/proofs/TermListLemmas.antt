@@ -1,9 +1,6 @@
 -- Lists of terms, taken apart and resolved.
-use Rattle.std.proofs.Common.{◌≡◌, ◌≢◌, ℕ, zero, suc, ◌<◌, ◌≤◌, List, [], ◌∷◌, length, get_or, None, refl, ap, ◌∙◌, arith}
-use Rattle.scasp_syntax.specs.Tm.{Tms, nil, cons, items, weight, weight_s}
-use Rattle.scasp_syntax.specs.Values.{Sub, under, all_under}
-use Rattle.scasp_syntax.specs.View.{tm_of, tms_of}
-use Rattle.scasp_syntax.specs.declared.term.Term.{Term}
+use Rattle.std.proofs.Common.{◌≡◌, ◌≢◌, suc, length, None, refl, ap, ◌∙◌}
+use Rattle.scasp_syntax.specs.Tm.{Tms, nil, cons, items}
 use Rattle.scasp_unify.specs.Parts.{both_parts, parts, parts_each}
 use Rattle.scasp_unify.proofs.LaterParts.{both-none}
 
@@ -14,9 +11,3 @@ parts_each-length nil (cons u us) h = refl
 parts_each-length (cons t ts) nil h = refl
 parts_each-length (cons t ts) (cons u us) h =
     ap (both_parts (parts t u)) (parts_each-length ts us (λ e. h (ap suc e))) ∙ both-none (parts t u)
-
--- a resolved list is as heavy as each of its terms, at least
-pub weight-resolved : (s : Sub) (ts : List Term) (i : ℕ) (d : Term) → i < length ts → weight (under s (tm_of (get_or ts i d))) ≤ weight_s (all_under s (tms_of ts))
-weight-resolved s [] i d h = absurd (omega arith)
-weight-resolved s (t ∷ ts) zero d h = omega arith
-weight-resolved s (t ∷ ts) (suc i) d h = let e = weight-resolved s ts i d (omega arith) in omega arith

@@ -1,4 +1,5 @@
 pub mod Examples
+pub mod Heads
 pub mod Negations
 pub mod Numbers
 pub mod Parts

@@ -26,6 +26,11 @@ abbrev pub AddsParts : List FoundPart → List FoundPart → Bool → Option (Li
 AddsParts before after true o = behind before o ≡ Some (map part_of after)
 AddsParts before after false o = o ≡ None
 
+-- parts of an equation were found, and these are the others; or the equation clashes
+abbrev pub TakesApart : List FoundPart → List FoundPart → Bool → Option (List Part) → Option (List Part) → Type 0
+TakesApart before after true all others = behind before all ≡ behind after others
+TakesApart before after false all others = all ≡ None
+
 -- the parts of a part, as the substitution resolves it
 abbrev pub resolved_parts : Sub → Part → Option (List Part)
 resolved_parts s p = parts (under s (left_side p)) (under s (right_side p))

@@ -9,7 +9,7 @@ mod resolver;
 mod rows;
 mod solving;
 
-pub use bindings::Binding;
+pub use bindings::{Binding, resolve, resolve_terms};
 pub use failures::{are_among_numbers, fails_by_terms};
 pub use parts::Part;
 pub use resolver::{Resolver, resolver_of};

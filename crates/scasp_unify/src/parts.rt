@@ -1,12 +1,15 @@
 //! Equations taken apart.
-ghost use Rattle.std.specs.Prelude.{◌≡◌, IfOk};
+ghost use Rattle.std.specs.Prelude.{◌≡◌, ◌<◌, ◌+◌, ◌&&◌, nat_eq, length, IfOk};
+ghost use Rattle.scasp_syntax.specs.Tm.{items, weight, weight_s};
 ghost use Rattle.scasp_syntax.specs.View.{tm_of};
-ghost use Rattle.scasp_unify.specs.Parts.{occurs, occurs_among, part_if, parts, parts_each};
-ghost use Rattle.scasp_unify.specs.Solving.{AddsParts};
+ghost use Rattle.scasp_unify.specs.Parts.{both_parts, occurs, occurs_among, part_if, parts, parts_each};
+ghost use Rattle.scasp_unify.specs.Solving.{AddsParts, TakesApart};
 
 use scasp_list::Memory;
-use scasp_syntax::{Term, Terms, copy};
+use scasp_name::NameId;
+use scasp_syntax::{Term, Terms, Walk, copy};
 use std::alloc::Global;
+use std::slice;
 
 /// A part of an equation: a variable, and the term on the other side, which has it not.
 #[derive(Debug, Drop)]
@@ -17,28 +20,40 @@ pub struct Part {
     pub turned: bool,
 }
 
-/// Whether the variable stands in the term.
-#[cycle(occurs)]
-pub(crate) fn occurs(x: u64, term: &Term) -> bool
-    ensures { result ≡ occurs x (tm_of term.now) }
+/// Whether the variable stands in the term. It takes memory for the terms that are still to be seen, and no machine stack.
+fn occurs(alloc: Global, x: u64, term: &Term) -> Result<bool, Memory>
+    ensures { IfOk result (λ answer. answer ≡ occurs x (tm_of term.now)) }
 {
     match term {
-        Term::Var(y) => x == *y,
-        Term::Num(_) => false,
-        Term::App(_, args) => occurs_among(x, args),
+        Term::Var(y) => Ok(x == *y),
+        Term::Num(_) => Ok(false),
+        Term::App(_, args) => occurs_among(alloc, x, args),
     }
 }
 
-#[cycle(occurs)]
-fn occurs_among(x: u64, terms: &Terms) -> bool
-    ensures { result ≡ occurs_among x terms.now }
+/// Whether the variable stands in one of the terms, with memory as `occurs`.
+#[tactic(auto, using(crate::proofs::PartLemmas::seen_here, crate::proofs::PartLemmas::other_passed, crate::proofs::PartLemmas::number_passed, crate::proofs::PartLemmas::args_next, crate::proofs::PartLemmas::no_args, crate::proofs::PartLemmas::none_seen, crate::proofs::PartLemmas::less_left, crate::proofs::PartLemmas::less_entered))]
+fn occurs_among(alloc: Global, x: u64, terms: &Terms) -> Result<bool, Memory>
+    ensures { IfOk result (λ answer. answer ≡ occurs_among x terms.now) }
 {
-    for term in terms.as_slice() {
-        if occurs(x, term) {
-            return true;
+    let mut left = Walk::over(alloc, terms.as_slice());
+    'terms: while let Some(term) = left.next() {
+        match term {
+            Term::Var(y) => {
+                if x == *y {
+                    return Ok(true);
+                }
+            }
+            Term::Num(_) => {}
+            Term::App(_, args) => {
+                if args.len() == 0 {
+                    continue;
+                }
+                left.enter(args)?;
+            }
         }
     }
-    false
+    Ok(false)
 }
 
 /// Finds the part of a variable against a term that is no variable; false where the term has the variable.
@@ -51,7 +66,7 @@ fn find_part(
 ) -> Result<bool, Memory>
     ensures { IfOk result (λ whole. AddsParts found.old.items found.new.items whole (part_if at (tm_of term.now) turned)) }
 {
-    if occurs(at, term) {
+    if occurs(alloc, at, term)? {
         return Ok(false);
     }
     found.push(Part {
@@ -62,16 +77,27 @@ fn find_part(
     Ok(true)
 }
 
-/// Finds the parts of an equation between two terms, from the left, and puts them behind those found before; false
-/// where two names or numbers clash, or a variable stands inside the other side.
-#[cycle(find_parts)]
-pub(crate) fn find_parts(
+/// Whether the names are the same and have as many arguments.
+fn is_same_shape(first: NameId, args: &Terms, second: NameId, others: &Terms) -> bool
+    ensures { result ≡ (nat_eq first second && nat_eq (length (items args.now)) (length (items others.now))) }
+{
+    first == second && args.len() == others.len()
+}
+
+/// Takes two terms apart. A part is put behind those found before; arguments are left to be taken apart before what was left.
+/// False where the terms clash.
+#[tactic(auto, using(crate::proofs::PartLemmas::shapes_clash, crate::proofs::PartLemmas::names_apart, crate::proofs::PartLemmas::constants_apart))]
+fn take_apart<'a>(
     alloc: Global,
-    left: &Term,
-    right: &Term,
+    left: &'a Term,
+    right: &'a Term,
+    lefts: &mut Walk<'a>,
+    rights: &mut Walk<'a>,
     found: &mut Vec<Part>,
 ) -> Result<bool, Memory>
-    ensures { IfOk result (λ whole. AddsParts found.old.items found.new.items whole (parts (tm_of left.now) (tm_of right.now))) }
+    ensures parts { IfOk result (λ whole. TakesApart found.old.items found.new.items whole
+        (both_parts (parts (tm_of left.now) (tm_of right.now)) (parts_each lefts.old rights.old)) (parts_each lefts.new rights.new)) }
+    ensures less { IfOk result (λ whole. weight_s lefts.new < weight (tm_of left.now) + weight_s lefts.old) }
 {
     match (left, right) {
         (Term::Var(x), Term::Var(y)) => {
@@ -88,33 +114,41 @@ pub(crate) fn find_parts(
         (Term::Num(_) | Term::App(_, _), Term::Var(y)) => find_part(alloc, *y, left, true, found),
         (Term::Num(first), Term::Num(second)) => Ok(first == second),
         (Term::App(first, args), Term::App(second, others)) => {
-            if first == second {
-                find_all_parts(alloc, args, others, found)
-            } else {
-                Ok(false)
+            if !is_same_shape(*first, args, *second, others) {
+                return Ok(false);
             }
+            if args.len() == 0 {
+                return Ok(true);
+            }
+            lefts.enter(args)?;
+            rights.enter(others)?;
+            Ok(true)
         }
         (Term::Num(_), Term::App(_, _)) | (Term::App(_, _), Term::Num(_)) => Ok(false),
     }
 }
 
-#[cycle(find_parts)]
-fn find_all_parts(
+/// Finds the parts of an equation between two terms, from the left, and puts them behind those found before; false
+/// where two names or numbers clash, or a variable stands inside the other side. It takes memory for the terms that are
+/// still to be taken apart, and no machine stack.
+#[tactic(auto, using(crate::proofs::PartLemmas::whole_left, crate::proofs::PartLemmas::step_left, crate::proofs::PartLemmas::step_clash, crate::proofs::PartLemmas::left_alone, crate::proofs::PartLemmas::right_alone, crate::proofs::PartLemmas::none_left))]
+pub(crate) fn find_parts(
     alloc: Global,
-    left: &Terms,
-    right: &Terms,
+    left: &Term,
+    right: &Term,
     found: &mut Vec<Part>,
 ) -> Result<bool, Memory>
-    ensures { IfOk result (λ whole. AddsParts found.old.items found.new.items whole (parts_each left.now right.now)) }
+    ensures { IfOk result (λ whole. AddsParts found.old.items found.new.items whole (parts (tm_of left.now) (tm_of right.now))) }
 {
-    let others = right.as_slice();
-    if left.len() != others.len() {
-        return Ok(false);
-    }
-    for (place, term) in left.as_slice().iter().enumerate() {
-        if !find_parts(alloc, term, &others[place], found)? {
+    let mut lefts = Walk::over(alloc, slice::from_ref(left));
+    let mut rights = Walk::over(alloc, slice::from_ref(right));
+    'pairs: while let Some(first) = lefts.next() {
+        let Some(second) = rights.next() else {
+            return Ok(false);
+        };
+        if !take_apart(alloc, first, second, &mut lefts, &mut rights, found)? {
             return Ok(false);
         }
     }
-    Ok(true)
+    Ok(rights.next().is_none())
 }

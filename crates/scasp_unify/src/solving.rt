@@ -81,38 +81,21 @@ fn bind_first(
     Ok(Some(found))
 }
 
-/// Solves one part; false where it clashes.
-#[cycle(solve)]
-fn solve_part(alloc: Global, part: &Part, bindings: &mut Vec<Binding>) -> Result<bool, Memory>
+/// Solves the parts in order; false where one of them clashes. What is left of a part is solved before the parts behind it.
+fn solve(alloc: Global, parts: Vec<Part>, bindings: &mut Vec<Binding>) -> Result<bool, Memory>
     requires { Absorbs (sub_of bindings.old.items) (sub_of bindings.old.items) }
-    ensures solved { IfOk result (λ is_solved. Solves is_solved (sub_of bindings.old.items) (part_of part.now ∷ []) (sub_of bindings.new.items)) }
+    ensures solved { IfOk result (λ is_solved. Solves is_solved (sub_of bindings.old.items) (map part_of parts.items) (sub_of bindings.new.items)) }
     ensures resolved { IfOk result (λ is_solved. Absorbs (sub_of bindings.new.items) (sub_of bindings.new.items)) }
     ensures kept { take (length bindings.old.items) bindings.new.items ≡ bindings.old.items }
 {
-    match bind_first(alloc, part, bindings)? {
-        None => Ok(false),
-        Some(rest) => {
-            if rest.is_empty() {
-                return Ok(true);
-            }
-            let is_solved = solve(alloc, rest.as_slice(), bindings)?;
-            Ok(is_solved)
-        }
-    }
-}
-
-/// Solves the parts in order; false where one of them clashes.
-#[cycle(solve)]
-fn solve(alloc: Global, parts: &[Part], bindings: &mut Vec<Binding>) -> Result<bool, Memory>
-    requires { Absorbs (sub_of bindings.old.items) (sub_of bindings.old.items) }
-    ensures solved { IfOk result (λ is_solved. Solves is_solved (sub_of bindings.old.items) (map part_of parts.now) (sub_of bindings.new.items)) }
-    ensures resolved { IfOk result (λ is_solved. Absorbs (sub_of bindings.new.items) (sub_of bindings.new.items)) }
-    ensures kept { take (length bindings.old.items) bindings.new.items ≡ bindings.old.items }
-{
-    for part in parts {
-        if !solve_part(alloc, part, bindings)? {
+    let mut left = parts;
+    left.reverse();
+    'parts: while let Some(part) = left.pop() {
+        let Some(mut rest) = bind_first(alloc, &part, bindings)? else {
             return Ok(false);
-        }
+        };
+        rest.reverse();
+        left.append(&mut rest)?;
     }
     Ok(true)
 }
@@ -148,7 +131,7 @@ pub(crate) fn unify(
         x: part.at,
         term: part.term,
     })?;
-    if solve(alloc, parts.as_slice(), bindings)? {
+    if solve(alloc, parts, bindings)? {
         return Ok(true);
     }
     bindings.truncate(count);

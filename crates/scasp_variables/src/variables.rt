@@ -11,9 +11,16 @@ use std::alloc::Global;
 use std::marker::Model;
 
 /// What is made of each variable, in the order of their numbers.
-#[derive(Drop)]
 pub struct Variables {
     made: Trailed<Made>,
+}
+
+impl Drop for Variables {
+    /// Frees the parts. The crates above call this, and need not prove how each part is freed.
+    fn drop(self) {
+        let Variables { made } = self;
+        drop(made);
+    }
 }
 
 impl Model for Variables {

@@ -8,7 +8,8 @@ use crate::pairs::accept_apart;
 use crate::walk::{accept_lines, with_table};
 use scasp_cert::Cert;
 use scasp_checker_answer::{CheckErr, accept_answer, accept_map, accept_sample};
-use scasp_syntax::{Nested, Program};
+use scasp_depth::Nested;
+use scasp_syntax::Program;
 use std::alloc::Global;
 
 /// Tests the certificate: it is accepted, or refused by the first thing that is wrong with it. In this order: the answer, the

@@ -43,13 +43,7 @@ fn push_constraint(alloc: Global, entry: &Entry, list: &mut Cons) -> Result<(), 
 fn entries(alloc: Global, opened: &Chain<Entry>) -> Result<Vec<&Entry>, Memory>
     ensures { IfOk result (λ made. map seen made.items ≡ all_opened opened.now) }
 {
-    let mut all = Vec::new(alloc);
-    let mut rest = opened;
-    while let Some((entry, outer)) = rest.first() {
-        all.push(entry)?;
-        rest = outer;
-    }
-    Ok(all)
+    opened.items(alloc)
 }
 
 /// The given constraints, and then those of what opened, the outermost first. It takes time and memory linear in both.

@@ -1,6 +1,6 @@
 //! Lists that share what is behind their first item.
-ghost use Rattle.std.specs.Prelude.{◌≡◌, ◌+◌, [], ◌∷◌, length, IfOk, MatchOption};
-ghost use Rattle.scasp_lines_places.specs.Places.Chains.{chained, linked};
+ghost use Rattle.std.specs.Prelude.{◌≡◌, ◌+◌, [], ◌∷◌, length, map, IfOk, MatchOption};
+ghost use Rattle.scasp_lines_places.specs.Places.Chains.{behind, chained, linked};
 
 use scasp_list::Memory;
 use std::alloc::Global;
@@ -94,5 +94,18 @@ impl<T: Drop> Chain<T> {
                 Some((&link.item, &link.outer))
             }
         }
+    }
+
+    /// The items, the innermost first.
+    pub fn items(&self, alloc: Global) -> Result<Vec<&T>, Memory>
+        ensures { IfOk result (λ all. map behind all.items ≡ chained self.now) }
+    {
+        let mut all = Vec::new(alloc);
+        let mut rest = self;
+        while let Some((item, outer)) = rest.first() {
+            all.push(item)?;
+            rest = outer;
+        }
+        Ok(all)
     }
 }

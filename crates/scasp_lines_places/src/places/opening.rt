@@ -1,13 +1,14 @@
 //! What opens where a rule is taken at a literal: the arguments of its head against those of the literal, from the left.
-ghost use Rattle.std.specs.Prelude.{◌≡◌, IfOk, OnOk, option_copied, option_map};
+ghost use Rattle.std.specs.Prelude.{◌≡◌, ◌+◌, ◌<◌, length, IfOk, OnOk, option_copied, option_map};
 ghost use Rattle.scasp_lines.specs.Bodies.{open_head};
 ghost use Rattle.scasp_lines.specs.Openings.{number_one, number_zero, open_number, open_term, open_terms, open_variable, bound_to, unopened, with_assumed, with_bound, with_clash, with_shape};
+ghost use Rattle.scasp_lines_places.specs.Places.Against.{open_given, open_new};
 ghost use Rattle.scasp_lines_places.specs.Places.View.{all_bound, all_opened, opening_of};
-ghost use Rattle.scasp_syntax.specs.View.{tm_of};
+ghost use Rattle.scasp_syntax.specs.Tm.{items, var, weight, weight_s};
+ghost use Rattle.scasp_syntax.specs.View.{tm_of, tms_of};
 ghost use Rattle.scasp_unify.specs.Negations.{new_parts};
 
 use crate::places::chain::Chain;
-use crate::places::parts::new_parts;
 use crate::places::place::Entry;
 use crate::places::substitution::bound_to;
 use scasp_list::Memory;
@@ -71,13 +72,12 @@ impl Opening {
         Ok(())
     }
 
-    /// The variable is the name with so many arguments; gives the new variables for them.
-    fn shape(&mut self, alloc: Global, of: u64, name: NameId, size: u64) -> Result<Terms, Memory>
-        ensures parts { IfOk result (λ parts. parts ≡ new_parts self.old.hidden size) }
-        ensures opened { IfOk result (λ parts. opening_of self.new ≡ with_shape (opening_of self.old) of name size) }
+    /// The variable is the name with so many arguments; gives the first of the new variables for them.
+    fn shape(&mut self, alloc: Global, of: u64, name: NameId, size: u64) -> Result<u64, Memory>
+        ensures first { IfOk result (λ first. first ≡ self.old.hidden) }
+        ensures opened { IfOk result (λ first. opening_of self.new ≡ with_shape (opening_of self.old) of name size) }
     {
         let first = self.hidden;
-        let parts = new_parts(alloc, first, size)?;
         self.hidden = first.checked_add(size).ok_or(Memory)?;
         self.opened = self.opened.with(
             alloc,
@@ -88,7 +88,7 @@ impl Opening {
                 size,
             },
         )?;
-        Ok(parts)
+        Ok(first)
     }
 
     fn clash(&mut self, alloc: Global) -> Result<(), Memory>
@@ -133,49 +133,114 @@ fn open_number(alloc: Global, value: &Rat, part: &Term, opening: &mut Opening) -
     }
 }
 
-/// A part of the head against a part of the literal.
-#[cycle(opening)]
-fn open_term(alloc: Global, head: &Term, part: &Term, opening: &mut Opening) -> Result<(), Memory>
-    ensures { OnOk result (opening_of opening.new ≡ open_term (tm_of head.now) (tm_of part.now) (opening_of opening.old)) }
+/// A part of the head against a new variable; gives its arguments, and the first of the new variables that they stand against.
+fn open_new<'a>(
+    alloc: Global,
+    head: &'a Term,
+    x: u64,
+    opening: &mut Opening,
+) -> Result<(&'a [Term], u64), Memory>
+    ensures opened { IfOk result (λ inner. open_new inner (opening_of opening.new) ≡ open_term (tm_of head.now) (var x) (opening_of opening.old)) }
+    ensures lighter { IfOk result (λ inner. weight_s (tms_of inner.0.now) < weight (tm_of head.now)) }
 {
-    match (head, part) {
-        (Term::Var(x), Term::Var(_) | Term::Num(_) | Term::App(_, _)) => {
-            open_variable(alloc, *x, part, opening)
+    match head {
+        Term::Var(y) => {
+            open_variable(alloc, *y, &Term::Var(x), opening)?;
+            Ok((&[], 0))
         }
-        (Term::Num(value), Term::Var(_) | Term::Num(_) | Term::App(_, _)) => {
-            open_number(alloc, value, part, opening)
+        Term::Num(value) => {
+            open_number(alloc, value, &Term::Var(x), opening)?;
+            Ok((&[], 0))
         }
-        (Term::App(name, args), Term::Var(y)) => {
-            let parts = opening.shape(alloc, *y, *name, args.len() as u64)?;
-            open_terms(alloc, args, &parts, opening)
-        }
-        (Term::App(_, _), Term::Num(_)) => opening.clash(alloc),
-        (Term::App(name, args), Term::App(other, parts)) => {
-            if other == name && parts.len() == args.len() {
-                open_terms(alloc, args, parts, opening)
-            } else {
-                opening.clash(alloc)
-            }
+        Term::App(name, args) => {
+            let first = opening.shape(alloc, x, *name, args.len() as u64)?;
+            Ok((args.as_slice(), first))
         }
     }
 }
 
-/// Terms of the head against terms of the literal, as far as there are both.
-#[cycle(opening)]
-fn open_terms(
+/// The variable after this one.
+fn after(x: u64) -> Result<u64, Memory>
+    ensures { IfOk result (λ next. next ≡ x + 1) }
+{
+    x.checked_add(1).ok_or(Memory)
+}
+
+/// Terms of the head against new variables, from the first one on.
+fn open_all_new<'a>(
     alloc: Global,
-    heads: &Terms,
-    parts: &Terms,
+    heads: &'a [Term],
+    first: u64,
+    opening: &mut Opening,
+) -> Result<(), Memory>
+    ensures { OnOk result (opening_of opening.new ≡ open_terms (tms_of heads.now) (new_parts first (length (items (tms_of heads.now)))) (opening_of opening.old)) }
+{
+    let mut later: Vec<(&[Term], u64)> = Vec::new(alloc);
+    later.push((heads, first))?;
+    'lists: while let Some((list, x)) = later.pop() {
+        let Some((head, rest)) = list.split_first() else {
+            continue;
+        };
+        let next = after(x)?;
+        later.push((rest, next))?;
+        later.push(open_new(alloc, head, x, opening)?)?;
+    }
+    Ok(())
+}
+
+/// A part of the head against a part of the literal; gives the arguments that are still to be opened.
+fn open_outer<'a>(
+    alloc: Global,
+    head: &'a Term,
+    part: &'a Term,
+    opening: &mut Opening,
+) -> Result<(&'a [Term], &'a [Term]), Memory>
+    ensures opened { IfOk result (λ inner. open_given inner (opening_of opening.new) ≡ open_term (tm_of head.now) (tm_of part.now) (opening_of opening.old)) }
+    ensures lighter { IfOk result (λ inner. weight_s (tms_of inner.0.now) < weight (tm_of head.now)) }
+{
+    match (head, part) {
+        (Term::Var(x), Term::Var(_) | Term::Num(_) | Term::App(_, _)) => {
+            open_variable(alloc, *x, part, opening)?;
+        }
+        (Term::Num(value), Term::Var(_) | Term::Num(_) | Term::App(_, _)) => {
+            open_number(alloc, value, part, opening)?;
+        }
+        (Term::App(name, args), Term::Var(y)) => {
+            let first = opening.shape(alloc, *y, *name, args.len() as u64)?;
+            open_all_new(alloc, args.as_slice(), first, opening)?;
+        }
+        (Term::App(_, _), Term::Num(_)) => opening.clash(alloc)?,
+        (Term::App(name, args), Term::App(other, parts)) => {
+            if other == name && parts.len() == args.len() {
+                return Ok((args.as_slice(), parts.as_slice()));
+            }
+            opening.clash(alloc)?;
+        }
+    }
+    Ok((&[], &[]))
+}
+
+/// Terms of the head against terms of the literal, as far as there are both. It takes memory for the arguments that are still to be
+/// opened, and no machine stack.
+fn open_terms<'a>(
+    alloc: Global,
+    heads: &'a Terms,
+    parts: &'a Terms,
     opening: &mut Opening,
 ) -> Result<(), Memory>
     ensures { OnOk result (opening_of opening.new ≡ open_terms heads.now parts.now (opening_of opening.old)) }
 {
-    let others = parts.as_slice();
-    for (place, head) in heads.as_slice().iter().enumerate() {
-        if place >= others.len() {
-            return Ok(());
-        }
-        open_term(alloc, head, &others[place], opening)?;
+    let mut later: Vec<(&[Term], &[Term])> = Vec::new(alloc);
+    later.push((heads.as_slice(), parts.as_slice()))?;
+    'lists: while let Some((list, others)) = later.pop() {
+        let Some((head, rest)) = list.split_first() else {
+            continue;
+        };
+        let Some((part, behind)) = others.split_first() else {
+            continue;
+        };
+        later.push((rest, behind))?;
+        later.push(open_outer(alloc, head, part, opening)?)?;
     }
     Ok(())
 }

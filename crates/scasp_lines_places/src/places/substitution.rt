@@ -11,7 +11,7 @@ ghost use Rattle.scasp_syntax.specs.View.{tm_of};
 
 use crate::places::chain::Chain;
 use scasp_list::Memory;
-use scasp_syntax::{Atom, Term, Terms, copy, instance};
+use scasp_syntax::{Atom, Term, Terms, Values, copy, instance, rebuilt};
 use scasp_unify::Binding;
 use std::alloc::Global;
 
@@ -24,8 +24,21 @@ pub trait Substitution {
         ensures { IfOk result (λ made. tm_of made ≡ gives self.now x) };
 }
 
-/// The term with its variables replaced.
-#[cycle(under)]
+/// What variables stand for by a substitution.
+#[derive(Drop)]
+struct By<'a, S> {
+    by: &'a S,
+}
+
+impl<S: Substitution> Values for By<'_, S> {
+    ghost gives = { λ b. S.gives b.by.now };
+
+    fn value_of(&self, alloc: Global, x: u64) -> Result<Term, Memory> {
+        self.by.value(alloc, x)
+    }
+}
+
+/// The term with its variables replaced. It takes memory for what is still to be made, and no machine stack.
 pub fn under<S: Substitution>(alloc: Global, term: &Term, by: &S) -> Result<Term, Memory>
     ensures { IfOk result (λ made. tm_of made ≡ under (S.gives by.now) (tm_of term.now)) }
 {
@@ -36,16 +49,11 @@ pub fn under<S: Substitution>(alloc: Global, term: &Term, by: &S) -> Result<Term
     }
 }
 
-/// The terms with their variables replaced.
-#[cycle(under)]
+/// The terms with their variables replaced, with memory as `under`.
 pub fn all_under<S: Substitution>(alloc: Global, terms: &Terms, by: &S) -> Result<Terms, Memory>
     ensures { IfOk result (λ made. made ≡ all_under (S.gives by.now) terms.now) }
 {
-    let mut made = Terms::new(alloc);
-    for term in terms.as_slice() {
-        made.push(under(alloc, term, by)?)?;
-    }
-    Ok(made)
+    rebuilt(alloc, terms.as_slice(), &By { by })
 }
 
 /// The atom with its variables replaced.
@@ -78,21 +86,33 @@ impl Substitution for Replacing<'_> {
     }
 }
 
-/// What a variable is replaced by: the outermost replacement first.
+/// What a variable is replaced by: the outermost replacement first. It takes memory for the replacements where one is of this
+/// variable, and no machine stack.
+#[tactic(auto, using(crate::proofs::PlacesLemmas::ReplacedLemmas::unreplaced))]
 pub fn replaced_value(alloc: Global, all: &Chain<Binding>, x: u64) -> Result<Term, Memory>
     ensures { IfOk result (λ made. tm_of made ≡ all_replaced all.now x) }
 {
-    match all.first() {
+    match bound_to(all, x) {
         None => Ok(Term::Var(x)),
-        Some((binding, outer)) => {
-            let before = replaced_value(alloc, outer, x)?;
-            let by = Replacing {
-                x: binding.x,
-                term: &binding.term,
-            };
-            under(alloc, &before, &by)
-        }
+        Some(_) => replaced_by_each(alloc, all, x),
     }
+}
+
+/// What a variable is replaced by, one replacement after the other.
+#[tactic(auto, using(crate::proofs::PlacesLemmas::ReplacedLemmas::all_left, crate::proofs::PlacesLemmas::ReplacedLemmas::one_less))]
+fn replaced_by_each(alloc: Global, all: &Chain<Binding>, x: u64) -> Result<Term, Memory>
+    ensures { IfOk result (λ made. tm_of made ≡ all_replaced all.now x) }
+{
+    let mut left = all.items(alloc)?;
+    let mut value = Term::Var(x);
+    while let Some(binding) = left.pop() {
+        let by = Replacing {
+            x: binding.x,
+            term: &binding.term,
+        };
+        value = under(alloc, &value, &by)?;
+    }
+    Ok(value)
 }
 
 /// What is replaced, as a substitution.

@@ -1,28 +1,39 @@
-//! Deep terms: f of f of .. of a variable, made by bindings of one f each.
+//! Deep terms: f of f of .. of a variable.
+use scasp_lines_places::{Chain, Place, Replaced, inside_rule, under};
 use scasp_list::Memory;
 use scasp_name::NameId;
+use scasp_search_rules::Pairs;
+use scasp_search_terms::constraints::push_vars;
+use scasp_search_terms::pairs::push_pairs;
 use scasp_search_terms::reading::read;
-use scasp_syntax::{TERM_DEPTH, Term, Terms};
+use scasp_syntax::{Atom, Clause, Items, Term, Terms, VarList};
 use scasp_unify::Binding;
 use std::alloc::Global;
 use std::test::Fail;
 
-/// Bindings of so many variables, each to f of the next one.
-fn bindings(alloc: Global, count: u64) -> Result<Vec<Binding>, Memory> {
-    let mut made = Vec::new(alloc);
-    for x in 0..count {
-        let mut args = Terms::new(alloc);
-        args.push(Term::Var(x + 1))?;
-        let term = Term::App(NameId::new(12), args);
-        made.push(Binding { x, term })?;
+/// Walks that went down by calls would want more of the machine's stack than there is.
+const DEEP: u64 = 100_000;
+
+/// The term behind one f.
+fn applied(alloc: Global, term: Term) -> Result<Term, Memory> {
+    let mut args = Terms::new(alloc);
+    args.push(term)?;
+    Ok(Term::App(NameId::new(12), args))
+}
+
+/// The variable behind so many f.
+fn nested(alloc: Global, x: u64) -> Result<Term, Memory> {
+    let mut term = Term::Var(x);
+    for _f in 0..DEEP {
+        term = applied(alloc, term)?;
     }
-    Ok(made)
+    Ok(term)
 }
 
 /// How many f stand one below the other.
 fn depth(term: &Term) -> u64 {
     let mut term = term;
-    for depth in 0..TERM_DEPTH {
+    for depth in 0..DEEP {
         let Term::App(_, args) = term else {
             return depth;
         };
@@ -31,26 +42,70 @@ fn depth(term: &Term) -> u64 {
         };
         term = argument;
     }
-    TERM_DEPTH
+    DEEP
 }
 
-/// The depth of the term that so many bindings make.
-fn made(alloc: Global, count: u64) -> Result<u64, Memory> {
-    let bindings = bindings(alloc, count)?;
-    let term = read(alloc, &Term::Var(0), &bindings)?;
-    Ok(depth(&term))
+/// The atom of this argument.
+fn atom(alloc: Global, term: Term) -> Result<Atom, Memory> {
+    let mut args = Terms::new(alloc);
+    args.push(term)?;
+    Ok(Atom {
+        minus: false,
+        name: NameId::new(12),
+        args,
+    })
 }
 
 #[test]
-fn the_deepest_term_is_made_and_freed(rt: HostRuntime) -> Result<(), Fail> {
-    // Each binding takes two steps down, and the last variable one.
-    let most = (TERM_DEPTH - 1) / 2;
-    assert_eq!(rt; made(rt.alloc(), most)?, most);
+fn a_deep_term_is_made_by_bindings(rt: HostRuntime) -> Result<(), Fail> {
+    let alloc = rt.alloc();
+    let mut bindings = Vec::new(alloc);
+    for x in 0..DEEP {
+        let term = applied(alloc, Term::Var(x + 1))?;
+        bindings.push(Binding { x, term })?;
+    }
+    let term = read(alloc, &Term::Var(0), &bindings)?;
+    assert_eq!(rt; depth(&term), DEEP);
     Ok(())
 }
 
 #[test]
-fn a_deeper_term_is_want_of_memory(rt: HostRuntime) -> Result<(), Fail> {
-    assert!(rt; made(rt.alloc(), TERM_DEPTH / 2).is_err());
+fn variables_of_deep_terms_are_replaced(rt: HostRuntime) -> Result<(), Fail> {
+    let alloc = rt.alloc();
+    let x = 0;
+    let term = Term::Var(1);
+    let all = Chain::new().with(alloc, Binding { x, term })?;
+    let made = under(alloc, &nested(alloc, x)?, &Replaced { all: &all })?;
+    assert_eq!(rt; depth(&made), DEEP);
+    Ok(())
+}
+
+#[test]
+fn deep_terms_have_variables_and_pairs(rt: HostRuntime) -> Result<(), Fail> {
+    let alloc = rt.alloc();
+    let left = nested(alloc, 0)?;
+    let mut vars = VarList::new(alloc);
+    push_vars(&left, &mut vars)?;
+    let mut pairs = Pairs::new(alloc);
+    push_pairs(alloc, &left, &nested(alloc, 1)?, &mut pairs)?;
+    assert_eq!(rt; (vars.len(), pairs.len()), (1, 1));
+    Ok(())
+}
+
+#[test]
+fn deep_heads_are_opened(rt: HostRuntime) -> Result<(), Fail> {
+    let alloc = rt.alloc();
+    let clause = Clause {
+        head: Some(atom(alloc, nested(alloc, 0)?)?),
+        body: Items::new(alloc),
+        vars: 1,
+    };
+    let place = Place::start(1);
+    let against = atom(alloc, Term::Var(0))?;
+    let inside = inside_rule(alloc, Some(&clause), &against, 1, &place)?;
+    assert_eq!(rt; inside.here.hidden, 1 + DEEP);
+    let against = atom(alloc, nested(alloc, 1)?)?;
+    let inside = inside_rule(alloc, Some(&clause), &against, 1, &place)?;
+    assert_eq!(rt; inside.here.hidden, 1);
     Ok(())
 }

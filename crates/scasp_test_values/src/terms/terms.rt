@@ -1,7 +1,8 @@
 //! Terms: each call that takes memory, once with ample memory.
-ghost use Rattle.std.specs.Prelude.{◌≡◌, ◌+◌, ◌^◌, ◌<◌, IfOk};
+ghost use Rattle.std.specs.Prelude.{◌≡◌, ◌+◌, ◌^◌, ◌<◌, ℕ, IfOk};
 ghost use Rattle.scasp_syntax.specs.Tm.{app, cons, nil};
 ghost use Rattle.scasp_syntax.specs.View.{tm_of};
+ghost use Rattle.scasp_syntax.specs.WellFormed.{is_below};
 
 use scasp_name::{Memory, NameId};
 use scasp_num::Rat;
@@ -66,9 +67,11 @@ fn terms_are_copied_renamed_counted_and_compared(rt: HostRuntime) -> Result<(), 
 }
 
 /// The term under 100,000 names.
-fn nested(alloc: Global, inner: Term) -> Result<Term, Memory> {
+pub fn nested(alloc: Global, inner: Term) -> Result<Term, Memory>
+    ensures { (n : ℕ) → IfOk result (λ term. is_below n (tm_of term) ≡ is_below n (tm_of inner)) }
+{
     let mut term = inner;
-    for _level in 0..100_000 {
+    'levels: for _level in 0..100_000 {
         term = application(alloc, 2, term)?;
     }
     Ok(term)
@@ -88,6 +91,19 @@ fn deep_terms_are_copied(rt: HostRuntime) -> Result<(), Fail> {
     let alloc = rt.alloc();
     let open = nested(alloc, Term::Var(0))?;
     assert!(rt; same(alloc, &copy(alloc, &open)?, &open)?);
+    Ok(())
+}
+
+/// Whether V0 under 100,000 names, raised by 3, is V3 under as many.
+fn is_raised_by_three(alloc: Global) -> Result<bool, Memory> {
+    let term = nested(alloc, Term::Var(0))?;
+    let raised = rename(alloc, &term, 3)?;
+    same(alloc, &raised, &nested(alloc, Term::Var(3))?)
+}
+
+#[test]
+fn deep_terms_are_raised(rt: HostRuntime) -> Result<(), Fail> {
+    assert!(rt; is_raised_by_three(rt.alloc())?);
     Ok(())
 }
 

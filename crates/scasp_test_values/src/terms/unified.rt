@@ -1,5 +1,6 @@
 //! Lists of constraints as far as their terms go: what their equations make of variables, and which fail.
 use crate::rows::row_of;
+use crate::terms::terms::nested;
 use scasp_name::{Memory, NameId};
 use scasp_num::{Coeff, Op, Rat, Row};
 use scasp_syntax::{Con, Term, Terms};
@@ -111,5 +112,41 @@ fn parts(alloc: Global) -> Result<Option<usize>, Fail> {
 #[test]
 fn sides_are_resolved(rt: HostRuntime) -> Result<(), Fail> {
     assert_eq!(rt; parts(rt.alloc())?, Some(1));
+    Ok(())
+}
+
+/// In how many parts the two terms differ under 100,000 names, where V0 is 2.
+fn deep_parts(alloc: Global, left: Term, right: Term) -> Result<Option<usize>, Fail> {
+    let resolver = two(alloc)?;
+    let left = nested(alloc, left)?;
+    let right = nested(alloc, right)?;
+    let sides = resolved_sides(alloc, &left, &right, resolver.bindings.as_slice())?;
+    Ok(sides.map(|parts| parts.len()))
+}
+
+#[test]
+fn deep_sides_are_taken_apart(rt: HostRuntime) -> Result<(), Fail> {
+    let alloc = rt.alloc();
+    assert_eq!(rt; deep_parts(alloc, Term::Var(0), Term::Var(1))?, Some(1));
+    assert_eq!(rt;
+        deep_parts(alloc, Term::Var(0), Term::Num(Rat::new(2, 1)?))?,
+        Some(0)
+    );
+    assert_eq!(rt; deep_parts(alloc, Term::Var(0), constant(alloc)?)?, None);
+    Ok(())
+}
+
+/// V0 is V1 under 100,000 names, and V1 is the last variable under as many.
+fn deep_equations(alloc: Global, last: u64) -> Result<(bool, bool), Memory> {
+    let mut constraints = Vec::new(alloc);
+    constraints.push(Con::Eq(Term::Var(0), nested(alloc, Term::Var(1))?))?;
+    constraints.push(Con::Eq(Term::Var(1), nested(alloc, Term::Var(last))?))?;
+    answer(alloc, constraints.as_slice())
+}
+
+#[test]
+fn deep_equations_unify(rt: HostRuntime) -> Result<(), Fail> {
+    assert!(rt; deep_equations(rt.alloc(), 2)? == (true, false));
+    assert!(rt; deep_equations(rt.alloc(), 0)? == (false, true));
     Ok(())
 }

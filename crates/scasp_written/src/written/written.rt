@@ -28,7 +28,6 @@ pub enum Event {
 }
 
 /// The search for answers to a query, between two events.
-#[derive(Drop)]
 pub struct Written {
     alloc: Global,
     goal: Goal,
@@ -37,6 +36,22 @@ pub struct Written {
     waiting: Vec<Waiting>,
     stopped: Option<SearchErr>,
     ghost within: { calls ≤ budget },
+}
+
+impl Drop for Written {
+    /// Frees the parts. The crates above call this, and need not prove how each part is freed.
+    fn drop(self) {
+        let Written {
+            alloc: _,
+            goal,
+            budget: _,
+            calls: _,
+            waiting,
+            stopped: _,
+        } = self;
+        drop(goal);
+        drop(waiting);
+    }
 }
 
 /// The program with its checks and its map, for the query of this number, which has so many variables. `fresh` is the first name

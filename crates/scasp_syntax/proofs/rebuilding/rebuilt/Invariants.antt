@@ -2,7 +2,8 @@ use Rattle.std.proofs.Common.{◌≡◌, ◌+◌, ◌*◌}
 use Rattle.scasp_syntax.specs.Tm.{weight_s}
 use Rattle.scasp_syntax.specs.Values.{all_under}
 use Rattle.scasp_syntax.specs.View.{tms_of}
-use Rattle.scasp_syntax.proofs.RebuildLemmas.{closed, onto, waiting}
+use Rattle.scasp_syntax.specs.Walks.{onto}
+use Rattle.scasp_syntax.proofs.RebuildLemmas.{closed, waiting}
 use Rattle.scasp_syntax.proofs.rebuilding.rebuilt.Given as goal
 
 abbrev pub invariant-loop-x : goal.invariant-loop-x

@@ -13,8 +13,8 @@ loop-check-preserved c =
     let below : c.loop-check.check-index < length items = omega (arith, c.loop-check-test.true) in
     let b = branch_of c.check-item.result.case in
     named-next check_of (flat_map clauses_under) (flat_map preds_under) clauses_under preds_under (λ y ys. refl) (λ y ys. refl)
-    items c.loop-check.check-index c.check-item.result c.loop-check.named c.name_case.new.named
+    items c.loop-check.check-index c.check-item.result c.loop-check.named c.name_all.new.named
     (with_named c.args.named.now (flat_map clauses_under (map check_of items)) (flat_map preds_under (map check_of items)))
     below c.check-item.is c.loop-check.invariant
-    (named-then c.loop-check.named c.put_clause.new.self c.name_case.new.named (c.check-item.result.clause ∷ []) (clauses_at b) [] (preds_at b)
-    c.in_ok-put_clause.ensures c.in_ok-name_case.ensures)
+    (named-then c.loop-check.named c.put_clause.new.self c.name_all.new.named (c.check-item.result.clause ∷ []) (clauses_at b) [] (preds_at b)
+    c.in_ok-put_clause.ensures c.in_ok-name_all.ensures)

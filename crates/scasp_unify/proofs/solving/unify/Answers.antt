@@ -1,7 +1,7 @@
 use Rattle.std.proofs.Common.{◌≡◌, ◌≢◌, ◌∙◌, ◌∷◌, List, length, map, true, refl, sym, ap, subst, take, arith}
 use Rattle.std.proofs.lemmas.Bool.Decides.{nat_tests}
 use Rattle.scasp_syntax.specs.View.{tm_of}
-use Rattle.scasp_unify.specs.Solving.{Solves, part_of, sub_of}
+use Rattle.scasp_unify.specs.Solving.{part_of, sub_of}
 use Rattle.scasp_unify.specs.Unification.{Absorbs}
 use Rattle.scasp_unify.specs.declared.bindings.Binding.{Binding}
 use Rattle.scasp_unify.specs.declared.parts.Part.{Part}
@@ -68,7 +68,7 @@ returns-then-branch-clause-unified c =
     let after = c.push.new.self.items in
     let items : all ≡ part ∷ rest = first-and-rest all part filled c.remove-part.ensures.value ∙ ap (λ (ps : List Part). part ∷ ps) (sym c.remove-part.ensures.items) in
     let whole = whole-bound bs left right all rest part after c.requires found items c.in_ok-push.ensures.items in
-    let later = subst (λ (ps : List Part). Solves c.in_ok-solve.field-0 (sub_of after) (map part_of ps) (sub_of c.solve.new.bindings.items)) c.as_slice-3.ensures.value c.in_ok-solve.ensures.solved in
+    let later = c.in_ok-solve.ensures.solved in
     let solved = rest-solved c.in_ok-solve.field-0 (sub_of bs) (sub_of after) (sub_of c.solve.new.bindings.items) (map part_of all) (map part_of rest) whole.leads later in
     (sides-unify (sub_of bs) (sub_of c.solve.new.bindings.items) left right (map part_of all) c.requires found c.in_ok-solve.field-0 solved c.if-branch.true).unified
 
@@ -85,7 +85,7 @@ returns-then-branch-clause-bound c =
     let after = c.push.new.self.items in
     let items : all ≡ part ∷ rest = first-and-rest all part filled c.remove-part.ensures.value ∙ ap (λ (ps : List Part). part ∷ ps) (sym c.remove-part.ensures.items) in
     let whole = whole-bound bs left right all rest part after c.requires found items c.in_ok-push.ensures.items in
-    let later = subst (λ (ps : List Part). Solves c.in_ok-solve.field-0 (sub_of after) (map part_of ps) (sub_of c.solve.new.bindings.items)) c.as_slice-3.ensures.value c.in_ok-solve.ensures.solved in
+    let later = c.in_ok-solve.ensures.solved in
     let solved = rest-solved c.in_ok-solve.field-0 (sub_of bs) (sub_of after) (sub_of c.solve.new.bindings.items) (map part_of all) (map part_of rest) whole.leads later in
     (sides-unify (sub_of bs) (sub_of c.solve.new.bindings.items) left right (map part_of all) c.requires found c.in_ok-solve.field-0 solved c.if-branch.true).bound
 
@@ -102,7 +102,7 @@ returns-clause-unified c =
     let after = c.push.new.self.items in
     let items : all ≡ part ∷ rest = first-and-rest all part filled c.remove-part.ensures.value ∙ ap (λ (ps : List Part). part ∷ ps) (sym c.remove-part.ensures.items) in
     let whole = whole-bound bs left right all rest part after c.requires found items c.in_ok-push.ensures.items in
-    let later = subst (λ (ps : List Part). Solves c.in_ok-solve.field-0 (sub_of after) (map part_of ps) (sub_of c.solve.new.bindings.items)) c.as_slice-3.ensures.value c.in_ok-solve.ensures.solved in
+    let later = c.in_ok-solve.ensures.solved in
     let solved = rest-solved c.in_ok-solve.field-0 (sub_of bs) (sub_of after) (sub_of c.solve.new.bindings.items) (map part_of all) (map part_of rest) whole.leads later in
     (sides-clash (sub_of bs) (sub_of c.solve.new.bindings.items) left right (map part_of all) c.requires found c.in_ok-solve.field-0 solved c.if-branch.false).unified
 
@@ -119,7 +119,7 @@ returns-clause-bound c =
     let after = c.push.new.self.items in
     let items : all ≡ part ∷ rest = first-and-rest all part filled c.remove-part.ensures.value ∙ ap (λ (ps : List Part). part ∷ ps) (sym c.remove-part.ensures.items) in
     let whole = whole-bound bs left right all rest part after c.requires found items c.in_ok-push.ensures.items in
-    let later = subst (λ (ps : List Part). Solves c.in_ok-solve.field-0 (sub_of after) (map part_of ps) (sub_of c.solve.new.bindings.items)) c.as_slice-3.ensures.value c.in_ok-solve.ensures.solved in
+    let later = c.in_ok-solve.ensures.solved in
     let solved = rest-solved c.in_ok-solve.field-0 (sub_of bs) (sub_of after) (sub_of c.solve.new.bindings.items) (map part_of all) (map part_of rest) whole.leads later in
     let kept = kept-first bs after c.solve.new.bindings.items (record { x = part.at; term = part.term }) c.in_ok-push.ensures.items c.in_ok-solve.ensures.kept in
     let back = c.truncate.ensures.items ∙ ap (λ n. take n c.solve.new.bindings.items) (c.len-count.ensures ∙ c.args.bindings.now.ok.0) ∙ kept in
