@@ -1,7 +1,7 @@
 //! How deep the terms of certificates nest.
 
 use crate::terms::Nested;
-use scasp_cert::{Case, Cert, Check, Checks, Covers, Node, Nodes};
+use scasp_cert::{Case, Cert, Line, Node, Walk};
 use scasp_name::Memory;
 use std::alloc::Global;
 
@@ -10,65 +10,37 @@ impl Nested for Cert {
         self.terms.serves_walks(alloc)?;
         self.given.serves_walks(alloc)?;
         self.sample.serves_walks(alloc)?;
-        nodes_serve(alloc, &self.trees)?;
-        checks_serve(alloc, &self.checks)
+        let mut walk = Walk::of(alloc, self)?;
+        while let Some(line) = walk.next()? {
+            line_serves(alloc, &line)?;
+        }
+        Ok(())
     }
 }
 
-fn checks_serve(alloc: Global, checks: &Checks) -> Result<(), Memory> {
-    for Check { case, .. } in checks.as_slice() {
-        case_serves(alloc, case)?;
+fn line_serves(alloc: Global, line: &Line<'_>) -> Result<(), Memory> {
+    match line {
+        Line::Node(node) => node_serves(alloc, node),
+        Line::Case(case) => case_serves(alloc, case),
+        Line::Rule(_) | Line::Check(_) => Ok(()),
     }
-    Ok(())
 }
 
-#[cycle(serves)]
 fn node_serves(alloc: Global, node: &Node) -> Result<(), Memory> {
     match node {
-        Node::Pos {
-            atom,
-            terms,
-            children,
-            ..
-        } => {
+        Node::Pos { atom, terms, .. } => {
             atom.serves_walks(alloc)?;
-            terms.serves_walks(alloc)?;
-            nodes_serve(alloc, children)
+            terms.serves_walks(alloc)
         }
-        Node::Neg { atom, covers } => {
-            atom.serves_walks(alloc)?;
-            covers_serve(alloc, covers)
-        }
+        Node::Neg { atom, .. } => atom.serves_walks(alloc),
         Node::Loop { lit, .. } | Node::Seen { lit, .. } => lit.serves_walks(alloc),
         Node::Test { con, .. } => con.serves_walks(alloc),
     }
 }
 
-#[cycle(serves)]
-fn nodes_serve(alloc: Global, nodes: &Nodes) -> Result<(), Memory> {
-    for node in &nodes.list {
-        node_serves(alloc, node)?;
-    }
-    Ok(())
-}
-
-#[cycle(serves)]
-fn covers_serve(alloc: Global, covers: &Covers) -> Result<(), Memory> {
-    for cover in &covers.list {
-        case_serves(alloc, &cover.case)?;
-    }
-    Ok(())
-}
-
-#[cycle(serves)]
 fn case_serves(alloc: Global, case: &Case) -> Result<(), Memory> {
     match case {
-        Case::Split { con, first, second } => {
-            con.serves_walks(alloc)?;
-            case_serves(alloc, first)?;
-            case_serves(alloc, second)
-        }
-        Case::Void { .. } => Ok(()),
-        Case::Leaf { children, .. } | Case::Head { children } => nodes_serve(alloc, children),
+        Case::Split { con, .. } => con.serves_walks(alloc),
+        Case::Void { .. } | Case::Leaf { .. } | Case::Head { .. } => Ok(()),
     }
 }
