@@ -86,12 +86,7 @@ pub fn push_pairs(alloc: Global, left: &Term, right: &Term, found: &mut Pairs) -
 }
 
 /// Puts the pairs that the terms of two lists come to behind those found before, up to the end of the shorter.
-fn push_inner(
-    alloc: Global,
-    left: &[Term],
-    right: &[Term],
-    found: &mut Pairs,
-) -> Result<(), Memory>
+fn push_inner(alloc: Global, left: &[Term], right: &[Term], found: &mut Pairs) -> Result<(), Memory>
     ensures { OnOk result (found.new ≡ found.old ++ all_pairs_of (tms_of left.now) (tms_of right.now)) }
 {
     if left.is_empty() {
@@ -99,14 +94,14 @@ fn push_inner(
     }
     let mut unseen: Vec<(&[Term], &[Term])> = Vec::new(alloc);
     unseen.push((left, right))?;
-    'lists: while let Some((terms, others)) = unseen.pop() {
-        let Some((term, terms)) = terms.split_first() else {
+    'lists: while let Some((list, others)) = unseen.pop() {
+        let Some((term, rest)) = list.split_first() else {
             continue;
         };
-        let Some((other, others)) = others.split_first() else {
+        let Some((other, behind)) = others.split_first() else {
             continue;
         };
-        unseen.push((terms, others))?;
+        unseen.push((rest, behind))?;
         unseen.push(push_outer(alloc, term, other, found)?)?;
     }
     Ok(())
