@@ -1,16 +1,13 @@
 -- Terms that differ by a name or a number do not unify.
 use Rattle.std.proofs.Common.{◌≡◌, ◌≢◌, ℕ, suc, Bool, true, false, ◌||◌, not, nat_eq, List, [], ◌∷◌, ◌++◌, length, Option, None, Some, if◌then◌else◌, max, map, refl, ap, sym, ◌∙◌, arith}
-use Rattle.std.proofs.lemmas.List.{length-map}
 use Rattle.scasp_num.specs.Arithmetic.{◌>>=◌}
 use Rattle.scasp_syntax.specs.Same.{same_number}
 use Rattle.scasp_syntax.specs.Tm.{Tm, Tms, var, num, app, nil, cons, items}
 use Rattle.scasp_syntax.specs.Values.{Sub, under, all_under}
-use Rattle.scasp_syntax.specs.View.{tm_of, tms_of}
+use Rattle.scasp_syntax.specs.View.{tm_of}
 use Rattle.scasp_syntax.specs.declared.con.Con.{Con}
 use Rattle.scasp_syntax.specs.declared.con.Con.TheVariants as con
 use Rattle.scasp_syntax.specs.declared.hint.Hint.TheVariants as hint
-use Rattle.scasp_syntax.specs.declared.term.Term.{Term}
-use Rattle.scasp_syntax.proofs.TermLemmas.{items-tms_of}
 use Rattle.scasp_unify.specs.Parts.{Part, parts, parts_each, both_parts}
 use Rattle.scasp_unify.specs.Unification.{then_by, unifier, solved, term_vars}
 use Rattle.scasp_unify.specs.Resolver.{taken}
@@ -143,15 +140,8 @@ or-true : (b : Bool) → (b || true) ≡ true
 or-true true = refl
 or-true false = refl
 
-clash_among-lengths : (ts us : Tms) → length (items ts) ≢ length (items us) → clash_among ts us ≡ true
+pub clash_among-lengths : (ts us : Tms) → length (items ts) ≢ length (items us) → clash_among ts us ≡ true
 clash_among-lengths nil nil n = absurd (n refl)
 clash_among-lengths nil (cons u us) n = refl
 clash_among-lengths (cons t ts) nil n = refl
 clash_among-lengths (cons t ts) (cons u us) n = ap (λ b. clash t u || b) (clash_among-lengths ts us (λ e. n (ap suc e))) ∙ or-true (clash t u)
-
-pub lengths-clash : (b : Bool) (ts us : List Term) → length ts ≢ length us → true ≡ (b || clash_among (tms_of ts) (tms_of us))
-lengths-clash b ts us n =
-    sym (ap (λ a. b || a) (clash_among-lengths (tms_of ts) (tms_of us) (λ e. n (sym (length-items ts) ∙ e ∙ length-items us))) ∙ or-true b)
-  where
-    length-items : (ts : List Term) → length (items (tms_of ts)) ≡ length ts
-    length-items ts = ap length (items-tms_of ts) ∙ length-map ts tm_of
