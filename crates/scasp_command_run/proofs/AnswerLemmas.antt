@@ -3,7 +3,7 @@ use Rattle.std.proofs.Common.{◌≡◌, ◌∙◌, ℕ, zero, suc, ◌+◌, nat
 use Rattle.std.specs.List.{list_all, list_any}
 use Rattle.std.proofs.lemmas.List.Folds.{list_any-append}
 use Rattle.scasp_cert.specs.Certificate.{Certificate}
-use Rattle.scasp_search_ends.specs.Ends.Sampling.{evaluated, is_in_range, point_for, sample, values_from}
+use Rattle.scasp_sample.specs.Sampling.{evaluated, is_in_range, point_for, sample, values_from}
 use Rattle.scasp_fill.specs.Finishing.Finishes.{ArePairsApart, HasOverflow}
 use Rattle.scasp_hint.specs.Finding.{overflows_in}
 use Rattle.scasp_hint.specs.Satisfying.{sat}

@@ -8,6 +8,7 @@ mod knowing;
 pub mod laws;
 mod lowering;
 mod retiring;
+mod sampling;
 mod store;
 
 pub use asking::{Assumed, StoreErr};

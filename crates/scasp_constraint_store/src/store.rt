@@ -10,6 +10,7 @@ ghost use Rattle.scasp_unify.specs.Resolver.{resolver};
 ghost use Rattle.scasp_unify.specs.Sorted.{Sorted};
 ghost use Rattle.scasp_constraint_store.specs.Asked.{AfterAssumed, assumed, is_tested};
 ghost use Rattle.scasp_constraint_store.specs.Held.{Content, after, times, times_at, with_constraint, with_depth_at, with_variable, without};
+ghost use Rattle.scasp_constraint_store.specs.Sampled.{sampled};
 
 use crate::asking::{Assumed, StoreErr, passes_with};
 use crate::binding::bindings_of;
@@ -17,11 +18,13 @@ use crate::change::{Change, ListChange, restore};
 use crate::knowing::knows;
 use crate::lowering::lower;
 use crate::retiring::kept;
+use crate::sampling::sample_of;
 use scasp_bind::{Bindings, Sort};
 use scasp_list::Memory;
+use scasp_num::RowErr;
 use scasp_search_terms::forms::negated;
 use scasp_search_terms::reading::read;
-use scasp_syntax::{Con, DeepCopy, PlaceList, Term};
+use scasp_syntax::{Con, DeepCopy, PlaceList, Term, Terms, VarList};
 use scasp_unify::resolver_of;
 use std::alloc::Global;
 use std::marker::Model;
@@ -222,6 +225,21 @@ impl Store {
         }
         self.put(constraint)?;
         Ok(Assumed::Added)
+    }
+
+    /// Values for these variables, in order: a number for each of which the list says that it is one, by the rows and
+    /// disequations of the list, and a name of its own for each other variable, from `fresh` on. Overflow exactly where the
+    /// equations of the list cannot replace a row in the range of the numbers, or where the arithmetic of the sample overflows.
+    pub fn sample(&mut self, order: &VarList, fresh: u64) -> Result<Terms, StoreErr>
+        ensures value { IfOk result (λ made. sampled fresh order.now self.old.now.list ≡ Some made) }
+        ensures overflow { result ≡ Err StoreErr.Overflow → sampled fresh order.now self.old.now.list ≡ None }
+        ensures unchanged { self.new ≡ self.old }
+    {
+        match sample_of(self.alloc, fresh, order, self.list.as_slice()) {
+            Ok(made) => Ok(made),
+            Err(RowErr::Overflow) => Err(StoreErr::Overflow),
+            Err(RowErr::Memory) => Err(StoreErr::Memory),
+        }
     }
 
     /// The term under the bindings that the equations of the list make.

@@ -16,7 +16,7 @@ use Rattle.scasp_rows.specs.Samples.{sample_of, value_in}
 use Rattle.scasp_rows.specs.declared.state.Halt.{Halt}
 use Rattle.scasp_rows.specs.declared.state.Halt.TheVariants as halt
 use Rattle.scasp_search_ends.specs.Ends.Ends.{problem}
-use Rattle.scasp_search_ends.specs.Ends.Sampling.{all_differ, all_plain, evaluated, is_in_range, point_by, point_for, values_from}
+use Rattle.scasp_sample.specs.Sampling.{all_differ, all_plain, evaluated, is_in_range, point_by, point_for, values_from}
 use Rattle.scasp_syntax.specs.Programs.{numbered}
 use Rattle.scasp_syntax.specs.Tm.{Tms, num, app, nil, cons, items}
 use Rattle.scasp_syntax.specs.Values.{giving}

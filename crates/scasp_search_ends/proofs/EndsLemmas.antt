@@ -2,5 +2,3 @@ pub mod AnswerLemmas
 pub mod BehindLemmas
 pub mod ClashLemmas
 pub mod PairLemmas
-pub mod SampleLemmas
-pub mod ValueLemmas

@@ -2,12 +2,8 @@
 
 mod answers;
 mod behind;
-mod differing;
 mod pairs;
-mod plain;
 mod replacing;
-mod sampling;
 
 pub use answers::answer_at;
 pub use replacing::close_overflows;
-pub use sampling::sample;

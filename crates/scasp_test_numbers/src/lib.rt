@@ -16,4 +16,6 @@ mod rows;
 #[cfg(test)]
 mod simplex;
 #[cfg(test)]
+mod stores;
+#[cfg(test)]
 mod written;

@@ -2,7 +2,7 @@
 use Rattle.std.specs.Prelude.{◌≡◌, ◌≢◌, ⊤, ℕ, Option, None, Some, []}
 use Rattle.scasp_search_constraints.specs.declared.assuming.step.SearchErr.{SearchErr}
 use Rattle.scasp_cert.specs.Certificate.{Certificate, certificate_of}
-use Rattle.scasp_search_ends.specs.Ends.Sampling.{sample}
+use Rattle.scasp_sample.specs.Sampling.{sample}
 use Rattle.scasp_fill.specs.Finishing.Right.{Completes, HasNoAccepted}
 use Rattle.scasp_graph.specs.Map.{MapHolds}
 use Rattle.scasp_hint.specs.Finding.{overflows_in}

@@ -2,7 +2,7 @@
 use Rattle.std.specs.Prelude.{◌≡◌, ℕ, zero, suc, Bool, true, false, if◌then◌else◌, Option, None, Some, List}
 use Rattle.std.proofs.Common.{◌∙◌, refl, ap, sym, length}
 use Rattle.scasp_search_ends.specs.Ends.Ends.{problem}
-use Rattle.scasp_search_ends.specs.Ends.Sampling.{evaluated, values_from, point_for, sample}
+use Rattle.scasp_sample.specs.Sampling.{evaluated, values_from, point_for, sample}
 use Rattle.scasp_command_run.proofs.AnswerLemmas.{evaluated-is}
 use Rattle.scasp_nmr.specs.declared.items.CheckItem.{CheckItem}
 use Rattle.scasp_num.specs.Arithmetic.{◌>>=◌}

@@ -12,7 +12,7 @@ use Rattle.scasp_search_rules.specs.Successors.Problems.{Problem}
 use Rattle.scasp_syntax.specs.declared.con.Con.{Con}
 use Rattle.scasp_syntax.specs.declared.predicate_map.PredMap.{PredMap}
 use Rattle.scasp_syntax.specs.declared.program.Program.{Program}
-use Rattle.scasp_search_ends.specs.Ends.Sampling.{sample}
+use Rattle.scasp_sample.specs.Sampling.{sample}
 
 -- the program, the number of its query, the clauses that are checked, the map, and the first name of samples
 abbrev pub problem : Program → ℕ → List CheckItem → List PredMap → ℕ → Problem

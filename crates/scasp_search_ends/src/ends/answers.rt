@@ -2,7 +2,7 @@
 ghost use Rattle.std.specs.Prelude.{◌≡◌, [], List};
 ghost use Rattle.scasp_cert.specs.Certificate.{certificate_of};
 ghost use Rattle.scasp_search_ends.specs.Ends.Ends.{Ends, Sampled, problem};
-ghost use Rattle.scasp_search_ends.specs.Ends.Sampling.{sample};
+ghost use Rattle.scasp_sample.specs.Sampling.{sample};
 ghost use Rattle.scasp_lines.specs.Lines.{free_of};
 ghost use Rattle.scasp_nmr.specs.declared.items.CheckItem.{CheckItem};
 ghost use Rattle.scasp_search_rules.specs.Successors.Answers.{answer_of, certificate_at, sampled};
@@ -10,10 +10,10 @@ ghost use Rattle.scasp_search_rules.specs.Successors.Search.{answer_at, asked_by
 
 use crate::ends::pairs::all_apart;
 use crate::ends::replacing::end_overflows;
-use crate::ends::sampling::sample;
 use crate::finished::{About, certificate_at};
 use scasp_cert::Cert;
 use scasp_num::RowErr;
+use scasp_sample::sample;
 use scasp_search_constraints::SearchErr;
 use scasp_search_rules::State;
 use std::alloc::Global;

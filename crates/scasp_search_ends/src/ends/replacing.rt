@@ -1,50 +1,13 @@
 //! Rows that the bindings of a state cannot replace within the range of the numbers.
-ghost use Rattle.std.specs.Prelude.{◌≡◌, IfOk, is_none};
-ghost use Rattle.std.specs.List.{list_any};
-ghost use Rattle.scasp_search_rules.specs.Successors.Replacing.{close_overflows, closes, end_overflows, has_universals, is_close, is_unreplaced, lines_overflow, tells_unreplaced};
-ghost use Rattle.scasp_unify.specs.ResolvedRows.{resolved_row};
+ghost use Rattle.std.specs.Prelude.{◌≡◌, IfOk};
+ghost use Rattle.scasp_search_rules.specs.Successors.Replacing.{close_overflows, closes, end_overflows, has_universals, is_close, lines_overflow, tells_unreplaced};
 ghost use Rattle.scasp_unify.specs.Solving.{sub_of};
 
 use scasp_list::Memory;
-use scasp_num::{Row, RowErr};
+use scasp_sample::{any_unreplaced, is_unreplaced};
 use scasp_search_rules::{Cover, Line, State, Task};
-use scasp_syntax::Con;
-use scasp_unify::{Binding, resolved_row};
+use scasp_unify::Binding;
 use std::alloc::Global;
-
-/// Whether a replacement by the bindings overflows in the row.
-fn is_row_unreplaced(alloc: Global, bindings: &[Binding], row: &Row) -> Result<bool, Memory>
-    ensures { IfOk result (λ answer. answer ≡ is_none (resolved_row (sub_of bindings.now) row.now)) }
-{
-    match resolved_row(alloc, row, bindings) {
-        Ok(_) => Ok(false),
-        Err(RowErr::Overflow) => Ok(true),
-        Err(RowErr::Memory) => Err(Memory),
-    }
-}
-
-/// Whether the constraint is a row in which a replacement by the bindings overflows.
-fn is_unreplaced(alloc: Global, bindings: &[Binding], constraint: &Con) -> Result<bool, Memory>
-    ensures { IfOk result (λ answer. answer ≡ is_unreplaced (sub_of bindings.now) constraint.now) }
-{
-    match constraint {
-        Con::Row(row) => is_row_unreplaced(alloc, bindings, row),
-        Con::Eq(_, _) | Con::Neq(_, _) | Con::NotShape(_, _, _) | Con::Num(_) | Con::NotNum(_) => {
-            Ok(false)
-        }
-    }
-}
-
-fn any_unreplaced(alloc: Global, bindings: &[Binding], constraints: &[Con]) -> Result<bool, Memory>
-    ensures { IfOk result (λ answer. answer ≡ list_any (is_unreplaced (sub_of bindings.now)) constraints.now) }
-{
-    for constraint in constraints {
-        if is_unreplaced(alloc, bindings, constraint)? {
-            return Ok(true);
-        }
-    }
-    Ok(false)
-}
 
 /// Whether the line tells such a row.
 fn tells_unreplaced(alloc: Global, bindings: &[Binding], line: &Line) -> Result<bool, Memory>

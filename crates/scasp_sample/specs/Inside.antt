@@ -1,0 +1,3 @@
+-- Words for contracts of private functions.
+pub mod Lists
+pub mod Values

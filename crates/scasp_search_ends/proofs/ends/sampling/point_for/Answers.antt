@@ -1,8 +1,0 @@
-use Rattle.scasp_search_ends.proofs.EndsLemmas.SampleLemmas.{lists-differ, rows-plain}
-use Rattle.scasp_search_ends.proofs.ends.sampling.point_for.Goals as goal
-
-pub sample-requires-clause-rows : goal.sample-requires-clause-rows
-sample-requires-clause-rows c = rows-plain _ c.args.given.now c.in_ok-rows.rows c.in_ok-rows.ensures
-
-pub sample-requires-clause-differ : goal.sample-requires-clause-differ
-sample-requires-clause-differ c = lists-differ c.args.given.now c.args.given.now c.in_ok-differ.differ c.in_ok-differ.ensures

@@ -1,7 +1,0 @@
-use Rattle.std.proofs.Common.{pos, refl}
-use Rattle.scasp_num.proofs.SameNumber.{same_number}
-use Rattle.scasp_rows.specs.Samples.{zero_number}
-use Rattle.scasp_search_ends.proofs.ends.sampling.zero.Goals as goal
-
-pub returns : goal.returns
-returns c = same_number c.in-Ok.zero zero_number (pos 0) (pos 1) (λ e. cc) c.in-Ok.ensures.exact refl

@@ -1,0 +1,4 @@
+//! A store of constraints.
+mod random;
+mod tables;
+mod trials;
