@@ -6,7 +6,6 @@ ghost use Rattle.scasp_cert.specs.Trees.{covering, head, leaf, listed, neg_tree,
 ghost use Rattle.scasp_cert.specs.View.{branch_of, covers_of, tree_of, trees_of};
 ghost use Rattle.scasp_search_rules.specs.Successors.Trees.{first_case, no_lines, with_case, with_node, without_nodes};
 
-use crate::depths::Depths;
 use scasp_cert::{Case, Check, Checks, Cover, Covers, Node, Nodes};
 use scasp_list::Memory;
 use scasp_syntax::{Atom, Con, Hint, Terms};
@@ -19,7 +18,6 @@ pub struct Stacks {
     pub cases: Vec<Case>,
     pub covers: Vec<Cover>,
     pub checks: Vec<Check>,
-    depths: Depths,
 }
 
 impl Stacks {
@@ -32,7 +30,6 @@ impl Stacks {
             cases: Vec::new(alloc),
             covers: Vec::new(alloc),
             checks: Vec::new(alloc),
-            depths: Depths::new(alloc),
         }
     }
 }
@@ -132,7 +129,6 @@ pub fn put_pos(
 ) -> Result<(), Memory>
     ensures { OnOk result (built_of stacks.new ≡ with_node (pos_tree atom rule terms (listed (take children (nodes_in stacks.old.nodes.items)))) children (built_of stacks.old)) }
 {
-    stacks.depths.node_over_nodes(children)?;
     let children = pop_nodes(alloc, children, &mut stacks.nodes)?;
     let node = Node::Pos {
         atom,
@@ -147,7 +143,6 @@ pub fn put_pos(
 pub fn put_neg(alloc: Global, atom: Atom, rules: u64, stacks: &mut Stacks) -> Result<(), Memory>
     ensures { OnOk result (built_of stacks.new ≡ with_node (neg_tree atom (covering (take rules (covers_in stacks.old.covers.items)))) 0 (without_covers rules (built_of stacks.old))) }
 {
-    stacks.depths.node_over_covers(rules)?;
     let covers = pop_covers(alloc, rules, &mut stacks.covers)?;
     push_node(Node::Neg { atom, covers }, &mut stacks.nodes)
 }
@@ -171,7 +166,6 @@ fn split_case(con: Con, first: Box<Case>, second: Box<Case>) -> Case
 pub fn put_split(alloc: Global, con: Con, stacks: &mut Stacks) -> Result<(), Memory>
     ensures { OnOk result (built_of stacks.new ≡ with_case (split con (first_case (cases_in stacks.old.cases.items)) (first_case (drop 1 (cases_in stacks.old.cases.items)))) 2 (built_of stacks.old)) }
 {
-    stacks.depths.case_over_cases(2)?;
     let first = boxed_case(alloc, &mut stacks.cases)?;
     let second = boxed_case(alloc, &mut stacks.cases)?;
     push_case(split_case(con, first, second), &mut stacks.cases)?;
@@ -182,7 +176,6 @@ pub fn put_split(alloc: Global, con: Con, stacks: &mut Stacks) -> Result<(), Mem
 pub fn put_leaf(alloc: Global, item: u64, count: u64, stacks: &mut Stacks) -> Result<(), Memory>
     ensures { OnOk result (built_of stacks.new ≡ with_case (leaf item (listed (take count (nodes_in stacks.old.nodes.items)))) 0 (without_nodes count (built_of stacks.old))) }
 {
-    stacks.depths.case_over_nodes(count)?;
     let children = pop_nodes(alloc, count, &mut stacks.nodes)?;
     push_case(Case::Leaf { item, children }, &mut stacks.cases)
 }
@@ -191,7 +184,6 @@ pub fn put_leaf(alloc: Global, item: u64, count: u64, stacks: &mut Stacks) -> Re
 pub fn put_head(alloc: Global, count: u64, stacks: &mut Stacks) -> Result<(), Memory>
     ensures { OnOk result (built_of stacks.new ≡ with_case (head (listed (take count (nodes_in stacks.old.nodes.items)))) 0 (without_nodes count (built_of stacks.old))) }
 {
-    stacks.depths.case_over_nodes(count)?;
     let children = pop_nodes(alloc, count, &mut stacks.nodes)?;
     push_case(Case::Head { children }, &mut stacks.cases)
 }
@@ -200,7 +192,6 @@ pub fn put_head(alloc: Global, count: u64, stacks: &mut Stacks) -> Result<(), Me
 pub fn put_node(node: Node, stacks: &mut Stacks) -> Result<(), Memory>
     ensures { OnOk result (built_of stacks.new ≡ with_node (tree_of node) 0 (built_of stacks.old)) }
 {
-    stacks.depths.node_over_nodes(0)?;
     push_node(node, &mut stacks.nodes)
 }
 
@@ -208,7 +199,6 @@ pub fn put_node(node: Node, stacks: &mut Stacks) -> Result<(), Memory>
 pub fn put_case(case: Case, stacks: &mut Stacks) -> Result<(), Memory>
     ensures { OnOk result (built_of stacks.new ≡ with_case (branch_of case) 0 (built_of stacks.old)) }
 {
-    stacks.depths.case_over_nodes(0)?;
     push_case(case, &mut stacks.cases)
 }
 
@@ -216,7 +206,6 @@ pub fn put_case(case: Case, stacks: &mut Stacks) -> Result<(), Memory>
 pub fn put_rule(rule: u64, stacks: &mut Stacks) -> Result<(), Memory>
     ensures { OnOk result (built_of stacks.new ≡ with_rule rule (built_of stacks.old)) }
 {
-    stacks.depths.cover_over_case()?;
     let case = pop_case(&mut stacks.cases);
     push_cover(rule, case, &mut stacks.covers)
 }
@@ -225,7 +214,6 @@ pub fn put_rule(rule: u64, stacks: &mut Stacks) -> Result<(), Memory>
 pub fn put_check(clause: u64, stacks: &mut Stacks) -> Result<(), Memory>
     ensures { OnOk result (built_of stacks.new ≡ with_check clause (built_of stacks.old)) }
 {
-    stacks.depths.check_over_case();
     let case = pop_case(&mut stacks.cases);
     push_check(clause, case, &mut stacks.checks)
 }
@@ -266,7 +254,6 @@ pub fn trees_and_checks(alloc: Global, stacks: Stacks) -> Result<(Nodes, Checks)
         cases: _,
         covers: _,
         checks,
-        depths: _,
     } = stacks;
     Ok((all_nodes(alloc, nodes)?, all_checks(alloc, checks)?))
 }
