@@ -6,5 +6,5 @@ mod placing;
 mod top;
 
 pub use closing::close_to;
-pub use opens::{DEPTH_LIMIT, Opens};
+pub use opens::Opens;
 pub use placing::Placing;

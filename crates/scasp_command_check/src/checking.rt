@@ -145,7 +145,7 @@ fn write_checked<K: Sink>(alloc: Global, blocks: u64, out: &mut K) -> Result<(),
 }
 
 /// Writes what each block of an answer file is worth, a line each as soon as it stands, and then how many blocks there are; tells
-/// whether all are accepted. Only `see_rows` and freeing go down a certificate by calls.
+/// whether all are accepted.
 ///
 /// # Errors
 ///

@@ -23,7 +23,7 @@ pub enum Worth {
     Refused(Refusal),
 }
 
-/// What a certificate is worth. Only `see_rows` and freeing go down it by calls.
+/// What a certificate is worth.
 ///
 /// # Errors
 ///

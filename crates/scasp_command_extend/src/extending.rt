@@ -105,7 +105,7 @@ fn write_extended<K: Sink>(alloc: Global, models: u64, out: &mut K) -> Result<()
 
 /// Writes what comes of extending each block of an answer file over the domain, where its free variables have the values of its
 /// sample: as soon as it stands the text of each, and then how many models there are. Tells how that ends. The names of the program,
-/// the answers and the domain stand in the table. Only `see_rows` and freeing go down a certificate by calls.
+/// the answers and the domain stand in the table.
 ///
 /// # Errors
 ///

@@ -18,7 +18,7 @@ pub enum Checked {
     Refused(Refusal),
 }
 
-/// What a check comes to. Only `see_rows` and freeing go down a certificate by calls.
+/// What a check comes to.
 pub(crate) fn check_anew(alloc: Global, program: &Program, cert: &Cert) -> Result<Checked, Memory>
     ensures { IfOk result (λ checked. checked ≡ checked_of program.now (certificate_of cert.now)) }
 {

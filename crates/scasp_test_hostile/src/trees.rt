@@ -20,7 +20,7 @@ fn tree(alloc: Global, lines: u64) -> Result<String, Memory> {
     Ok(text)
 }
 
-/// How many lines, what the check of them prints, and the status. A tree that is deeper than 10,000 lines is want of memory.
+/// How many lines, what the check of them prints, and the status.
 const TREES: &[(u64, &str, Status)] = &[
     (
         1,
@@ -32,7 +32,11 @@ const TREES: &[(u64, &str, Status)] = &[
         "1.1 refused 5001 loop without negation\nchecked 1\n",
         Status::Refused,
     ),
-    (10_001, "", Status::Memory),
+    (
+        10_001,
+        "1.1 refused 10002 loop without negation\nchecked 1\n",
+        Status::Refused,
+    ),
 ];
 
 /// Whether the check of so many lines prints this, and ends so.

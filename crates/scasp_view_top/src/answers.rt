@@ -60,7 +60,7 @@ fn print_judged(
 }
 
 /// The blocks of an answer file under a program, and whether each that is asked for is accepted. Above a block stands the line that
-/// `check` tells of it. Only freeing and `see_entries` go down a certificate by calls.
+/// `check` tells of it.
 ///
 /// # Errors
 ///

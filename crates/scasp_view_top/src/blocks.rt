@@ -58,7 +58,6 @@ fn print_all(
 }
 
 /// The text of the blocks, with their checks whole or as a number; all, or each answer once and then how many were left out.
-/// Only freeing goes down a certificate by calls.
 ///
 /// # Errors
 ///

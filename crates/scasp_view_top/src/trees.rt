@@ -336,7 +336,7 @@ fn with_checks(page: Page, view: &View<'_>, checks: bool, cert: &Cert) -> Result
 }
 
 /// The text with what is shown of a block below its query: a row for each line of its trees, numbered as in the block, and the checks
-/// so too, or their number. Only freeing goes down a certificate by calls.
+/// so too, or their number.
 ///
 /// # Errors
 ///

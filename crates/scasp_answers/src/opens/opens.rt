@@ -7,10 +7,6 @@ use crate::parts::{Open, Part};
 use scasp_list::Memory;
 use std::alloc::Global;
 
-/// The most lines that are open at once. Freeing a tree goes down it by calls, which the machine's stack serves so far; in a
-/// deeper one memory is wanting.
-pub const DEPTH_LIMIT: usize = 10_000;
-
 /// The lines that are open.
 #[derive(Drop)]
 pub struct Opens {
@@ -34,14 +30,10 @@ impl Opens {
         self.list.len()
     }
 
-    /// Opens a line below the others, of which there may be `DEPTH_LIMIT`.
+    /// Opens a line below the others.
     pub fn push(&mut self, line: Open) -> Result<(), Memory>
         ensures { OnOk result (opens_of self.new ≡ open_of line ∷ opens_of self.old) }
     {
-        if self.list.len() >= DEPTH_LIMIT {
-            drop(line);
-            return Err(Memory);
-        }
         self.list.push(line)?;
         Ok(())
     }

@@ -40,7 +40,7 @@ fn covered(alloc: Global, checks: &Checks) -> Result<RuleList, Memory>
     Ok(rules)
 }
 
-/// Checks a certificate against the program alone. Only `see_rows` and freeing go down it by calls.
+/// Checks a certificate against the program alone. Each walk over it has a stack of its own.
 ///
 /// # Errors
 ///
