@@ -1,4 +1,5 @@
 pub mod Answers
+pub mod Commanding
 pub mod Finding
 pub mod Parts
 pub mod Tables

@@ -1,1 +1,3 @@
 pub mod RunChecked
+pub mod Commands
+pub mod Examples

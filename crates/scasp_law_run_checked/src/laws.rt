@@ -1,4 +1,5 @@
 //! Runs, and checks of what they printed.
+ghost use Rattle.scasp_law_run_checked.specs.Commands.{RunsAreChecked};
 ghost use Rattle.scasp_law_run_checked.specs.RunChecked.{RunsAreFoundRight};
 
 use scasp_answers::blocks::laws::blocks_are_lines;
@@ -6,8 +7,8 @@ use scasp_law_checked::laws::{searched_answers_are_right, searches_are_named};
 use scasp_law_printable::laws::{answers_are_printable, answers_are_sampled};
 use scasp_law_tables::laws::grown_tables_read;
 
-/// What a run of a program that was read has printed is read, and a check of the text has the line of a right block for each
-/// answer, in order.
+/// What a run of a program that is read has printed is read, and each of its blocks is found right: a line for each answer,
+/// in order.
 pub fn runs_are_found_right()
     ensures { RunsAreFoundRight }
 {
@@ -17,4 +18,11 @@ pub fn runs_are_found_right()
     answers_are_sampled();
     searched_answers_are_right();
     grown_tables_read();
+}
+
+/// So a check of a program's file and the text of its run prints the line of a right answer for each answer of the run.
+pub fn runs_are_checked()
+    ensures { RunsAreChecked }
+{
+    runs_are_found_right();
 }
