@@ -139,11 +139,13 @@ module _ (job : Job) (named : AreNamed job.program job.names) where
       let here : k + 0 ≡ k = omega arith in
       let one = query-met (suc k) q s (ap (slice_get job.program.queries) (sym here) ∙ sym (at 0)) r.0 in
       let others = runs-met (suc k) qs all (λ i. at (suc i) ∙ ap (slice_get job.program.queries) (farther k i)) (rest-runs job (suc (suc k)) qs s.end all r.1) in
-      let turned : others.0 + one.0 ≡ one.0 + others.0 = omega arith in
-      (one.0 + others.0, (
-        subst (λ (m : ℕ). AreMet job.program job.names m s.answers) turned (all-later job.program job.names one.0 others.0 s.answers one.1),
-        Each-map (λ t. AreMet job.program job.names others.0 t.answers) (λ t. AreMet job.program job.names (one.0 + others.0) t.answers) (λ t h. all-later job.program job.names others.0 one.0 t.answers h) all others.1,
-      ))
+      let turned : others.0 + one.0 ≡ one.0 + others.0 = omega arith in (
+        one.0 + others.0,
+        (
+          subst (λ (m : ℕ). AreMet job.program job.names m s.answers) turned (all-later job.program job.names one.0 others.0 s.answers one.1),
+          Each-map (λ t. AreMet job.program job.names others.0 t.answers) (λ t. AreMet job.program job.names (one.0 + others.0) t.answers) (λ t h. all-later job.program job.names others.0 one.0 t.answers h) all others.1,
+        ),
+      )
     where
       farther : (k i : ℕ) → k + suc i ≡ suc k + i
       farther k i = omega arith

@@ -188,9 +188,7 @@ module _ (p : Program) (names : List (List ℕ)) (most : ℕ)
   Part text answers = IsPart p names (with_samples names most) text answers
 
   own-grows : (one : Printed) → IsMet p names most one → Grows one.names (with_samples names most)
-  own-grows one h =
-      subst (λ (t : List (List ℕ)). Grows t (with_samples names most)) (sym h.table_is)
-      (subst (λ (n : ℕ). Grows (with_samples names h.tried) (with_samples names n)) (sym h.within) (samples-grow names h.tried h.more))
+  own-grows one h = subst (λ (t : List (List ℕ)). Grows t (with_samples names most)) (sym h.table_is) (samples-grow names h.tried h.more most h.within)
 
   is-filled : (n : ℕ) (one : Printed) → (h : IsMet p names most one) → IsPlaced (n, one.certificate) → IsFilled h.problem n h.tree one.certificate
   is-filled n one h placed = record {

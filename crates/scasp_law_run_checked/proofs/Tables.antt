@@ -100,11 +100,13 @@ pub samples-larger : (names : List (List ℕ)) (n : ℕ) → IsTable names → I
 samples-larger names zero t = record { grows = grows-self names; is = t }
 samples-larger names (suc n) t = with-one names (with_samples names n) (codes "w" ++ decimal n) (samples-larger names n t) (sample-utf8 n)
 
-pub samples-grow : (names : List (List ℕ)) (n more : ℕ) → Grows (with_samples names n) (with_samples names (more + n))
-samples-grow names n zero = grows-self (with_samples names n)
-samples-grow names n (suc more) =
-    grows-on (with_samples names n) (with_samples names (more + n)) (with_samples names (suc (more + n))) (samples-grow names n more)
-    (put-grows (with_samples names (more + n)) (codes "w" ++ decimal (more + n)))
+pub samples-grow : (names : List (List ℕ)) (n more k : ℕ) → k ≡ more + n → Grows (with_samples names n) (with_samples names k)
+samples-grow names n zero k e =
+    let same : n ≡ k = omega (arith, e) in
+    subst (λ (m : ℕ). Grows (with_samples names n) (with_samples names m)) same (grows-self (with_samples names n))
+samples-grow names n (suc more) zero e = absurd (omega (arith, e))
+samples-grow names n (suc more) (suc k) e =
+    grows-on (with_samples names n) (with_samples names k) (with_samples names (suc k)) (samples-grow names n more k (omega (arith, e))) (put-grows (with_samples names k) (codes "w" ++ decimal k))
 
 -- ---- the names of a file
 
