@@ -1,5 +1,4 @@
 pub mod Answers
-pub mod Commanding
 pub mod Finding
 pub mod Parts
 pub mod Tables

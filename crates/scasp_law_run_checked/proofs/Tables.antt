@@ -1,12 +1,12 @@
 -- The tables of a run and of a check of its text are proper ones, and each has the program's names first.
-use Rattle.std.specs.Prelude.{◌≡◌, ℕ, zero, suc, ◌+◌, Bool, true, false, ◌&&◌, ◌==◌, not, if◌then◌else◌, Option, None, Some, List, [], ◌∷◌, ◌++◌, codes, decimal, drop, length, slice_get, take, ⊤}
+use Rattle.std.specs.Prelude.{◌≡◌, ℕ, zero, suc, ◌+◌, ◌/◌, ◌%◌, ◌<◌, nat_lt, Bool, true, false, ◌&&◌, ◌==◌, not, if◌then◌else◌, Option, None, Some, List, [], ◌∷◌, ◌++◌, codes, decimal, drop, length, slice_get, take, ⊤}
 use Rattle.std.specs.Char.{encode_utf8}
 use Rattle.std.specs.List.{take_while}
-use Rattle.std.specs.Str.{IsUtf8, chars, is_utf8}
+use Rattle.std.specs.Fmt.{digit_glyph, digits as numeral, digits_onto}
+use Rattle.std.specs.Str.{IsAscii, IsUtf8, chars, is_utf8}
 use Rattle.std.proofs.Common.{arith, refl, subst, sym}
 use Rattle.std.proofs.lemmas.Bool.{and_parts}
-use Rattle.std.proofs.lemmas.Str.{IsUtf8-append, IsUtf8-from_is_utf8, IsUtf8-nil}
-use Rattle.core.proofs.fmt.DigitsParse.{digits-IsUtf8}
+use Rattle.std.proofs.lemmas.Str.{IsUtf8-append, IsUtf8-from_ascii, IsUtf8-from_is_utf8, IsUtf8-nil}
 use Rattle.scasp_abduce.specs.NewNames.{Named, named, negated, new_name, or_empty, text_of as name_text_of}
 use Rattle.scasp_abduce.specs.Occurrences.{has, names_of}
 use Rattle.scasp_abduce.specs.Translation.{IsTranslation, opposed}
@@ -92,9 +92,38 @@ translated-larger names written p table is t =
 
 -- ---- the names of samples
 
+ascii-more : (b : ℕ) (bytes : List ℕ) → b < 128 → IsAscii bytes → IsAscii (b ∷ bytes)
+ascii-more b bytes h all zero = h
+ascii-more b bytes h all (suc i) = all i
+
+glyph-ascii : (d : ℕ) → d < 10 → digit_glyph false d < 128
+glyph-ascii d h = by (nat_lt d 10)
+  where
+    by : (t : Bool) → (if t then 48 + d else 87 + d) < 128
+    by true = omega (arith, h)
+    by false = omega (arith, h)
+
+digits-ascii : (k n : ℕ) (text : List ℕ) → IsAscii text → IsAscii (digits_onto k 10 false n text)
+digits-ascii zero n text h = h
+digits-ascii (suc k) n text h =
+    let small : n % 10 < 10 = omega arith in
+    let more : IsAscii (digit_glyph false (n % 10) ∷ text) = ascii-more (digit_glyph false (n % 10)) text (glyph-ascii (n % 10) small) h in
+    by (n / 10 == 0) (digit_glyph false (n % 10) ∷ text) (digits_onto k 10 false (n / 10) (digit_glyph false (n % 10) ∷ text)) more (digits-ascii k (n / 10) (digit_glyph false (n % 10) ∷ text) more)
+  where
+    by : (t : Bool) (xs ys : List ℕ) → IsAscii xs → IsAscii ys → IsAscii (if t then xs else ys)
+    by true xs ys p q = p
+    by false xs ys p q = q
+
+none-ascii : IsAscii []
+none-ascii i = omega arith
+
+decimal-utf8 : (n : ℕ) → IsUtf8 (decimal n)
+unfolding numeral
+decimal-utf8 n = IsUtf8-from_ascii (decimal n) (digits-ascii 64 n [] none-ascii)
+
 sample-utf8 : (n : ℕ) → IsUtf8 (codes "w" ++ decimal n)
 unfolding is_utf8 chars encode_utf8
-sample-utf8 n = IsUtf8-append (codes "w") (decimal n) (IsUtf8-from_is_utf8 (codes "w") refl) (digits-IsUtf8 10 false n (omega arith) (omega arith))
+sample-utf8 n = IsUtf8-append (codes "w") (decimal n) (IsUtf8-from_is_utf8 (codes "w") refl) (decimal-utf8 n)
 
 pub samples-larger : (names : List (List ℕ)) (n : ℕ) → IsTable names → IsLarger names (with_samples names n)
 samples-larger names zero t = record { grows = grows-self names; is = t }

@@ -1,3 +1,2 @@
 pub mod RunChecked
-pub mod Commands
 pub mod Examples

@@ -1,5 +1,4 @@
 //! Runs, and checks of what they printed.
-ghost use Rattle.scasp_law_run_checked.specs.Commands.{RunsAreChecked};
 ghost use Rattle.scasp_law_run_checked.specs.RunChecked.{RunsAreFoundRight};
 
 use scasp_answers::blocks::laws::blocks_are_lines;
@@ -18,11 +17,4 @@ pub fn runs_are_found_right()
     answers_are_sampled();
     searched_answers_are_right();
     grown_tables_read();
-}
-
-/// So a check of a program's file and the text of its run prints the line of a right answer for each answer of the run.
-pub fn runs_are_checked()
-    ensures { RunsAreChecked }
-{
-    runs_are_found_right();
 }

@@ -26,7 +26,7 @@ use Rattle.scasp_command_inputs.specs.declared.status.Status.{Status}
 use Rattle.scasp_command_inputs.specs.declared.status.Status.TheVariants.{Done, Memory, Refused}
 
 -- what is printed for these bytes, and the status: the program is refused, or the answers are, or the blocks are checked
-pub data Comes (bytes blocks text : List ℕ) (status : Status) : Type 0 where
+data Comes (bytes blocks text : List ℕ) (status : Status) : Type 0 where
   at_program : (f : Fault) → program_in list_names bytes ≡ Err f
       → Says (refusal_line input.Program f.at (program_refusal f.kind)) (refusal_status (program_refusal f.kind)) text status → Comes bytes blocks text status
   at_answers : (p : Program) (names : List (List ℕ)) (f : AnswerFault) → IsProgram (Some bytes) p names → answers_in names blocks ≡ Err f
@@ -37,7 +37,7 @@ pub data Comes (bytes blocks text : List ℕ) (status : Status) : Type 0 where
 -- ---- one text and one status come
 
 -- a program that is read is not refused
-pub none-refused : (bytes : List ℕ) (f : Fault) (p : Program) (names : List (List ℕ)) → program_in list_names bytes ≡ Err f → IsProgram (Some bytes) p names → ⊥
+none-refused : (bytes : List ℕ) (f : Fault) (p : Program) (names : List (List ℕ)) → program_in list_names bytes ≡ Err f → IsProgram (Some bytes) p names → ⊥
 none-refused bytes f p names h g = cc (sym h ∙ ap (program_in list_names) (sym (g.is).are) ∙ (g.is).read)
 
 -- one line or text is said
@@ -109,7 +109,7 @@ module _ (program answers : List ℕ) (o : Outside) (bytes blocks : List ℕ) (t
   whole-check p entries text status k None is ending = absurd (k ending)
   whole-check p entries text status k (Some end) is ending = record { line_is = is.0; ending_is = ending ∙ ap (λ (e : Rechecked). check_status (Some e)) is.1 }
 
-  pub comes : (text : List ℕ) (status : Status) → status ≢ Memory → Outputs (Some (Check program answers)) (without_faults o) text status → Comes bytes blocks text status
+  comes : (text : List ℕ) (status : Status) → status ≢ Memory → Outputs (Some (Check program answers)) (without_faults o) text status → Comes bytes blocks text status
   comes text status k (nothing says) = absurd (k says.ending_is)
   comes text status k (usage is says) = cc
   comes text status k (no_program command file is named (unread rose says)) = absurd (calm o file rose)
