@@ -35,7 +35,7 @@ fewer None = None
 fewer (Some n) = Some (n - 1)
 
 -- From the rest of a query's search, where so many more answers are asked for, these are printed, and so the run of the query ends. A tree of the search is
--- printed with hints and clash lines that make it right; one that none make accepted is passed over. Without an end the run is cut off.
+-- printed with the hints and clash lines that are found, which make it right; one that none make accepted is passed over. Without an end the run is cut off.
 pub data Prints (p : Program) (names : List (List ℕ)) : Option ℕ → Rest → List Printed → Option QueryEnd → Type 0 where
   prints : (asked : Option ℕ) (rest next : Rest) (tree : Certificate) (one : Printed) (more : List Printed) (end : Option QueryEnd)
       → asked ≢ Some 0 → Meets rest (answered tree) next → Completes p tree one.certificate → NamesSample names one.names one.certificate

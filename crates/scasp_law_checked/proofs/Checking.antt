@@ -13,7 +13,7 @@ use Rattle.scasp_command_check.specs.declared.worth.Worth.TheVariants.{Right}
 use Rattle.scasp_graph.specs.Map.{map_faults}
 use Rattle.scasp_law_answer_text.specs.LineReadback.Texts.{Piece, remark, answer, ending, rejection, file_text, piece_entries}
 use Rattle.scasp_law_printable.specs.Printable.{AnswersAreSampled}
-use Rattle.scasp_law_tables.specs.Moved.{GrownTablesRead, IsFine, ReadAnswersAccepted, are_values, is_value, moved_piece, moved_sample}
+use Rattle.scasp_law_tables.specs.Moved.{GrownTablesRead, IsFine, IsWrittenFile, ReadAnswersAccepted, are_values, is_value, moved_piece, moved_sample}
 use Rattle.scasp_lines.specs.Lines.{free_of}
 use Rattle.scasp_num.proofs.Numbers.{lt_ltb}
 use Rattle.scasp_syntax.specs.Tm.{Tm, Tms, var, num, app, nil, cons}
@@ -23,7 +23,7 @@ use Rattle.scasp_list.proofs.EachLemmas.{Each-append, Each-map}
 use Rattle.scasp_list.proofs.MemberLemmas.{Contains-here, Contains-there}
 use Rattle.scasp_sound.specs.MapLevels.{covered}
 use Rattle.scasp_syntax.specs.declared.program.Program.{Program}
-use Rattle.scasp_law_checked.specs.Checked.{IsFoundRight, IsSearchedPiece, PrintedAnswersAreRight, SearchedAnswersAreRight}
+use Rattle.scasp_law_checked.specs.Checked.{IsFoundRight, IsSearchedFile, IsSearchedPiece, PrintedAnswersAreRight, SearchedAnswersAreRight}
 
 -- without a fault, with the map kept
 worth-right : (p : Program) (c : Certificate) → Accepts p c → map_faults p (covered c) c.map ≡ [] → worth_of p c ≡ Right
@@ -69,17 +69,17 @@ module _ (count total more : ℕ) (l : total ≤ more) where
       let vs = and_parts (is_value count total t) (are_values count total ts) v in
       and_from (is_value count more t) (are_values count more ts) (value-larger t vs.0) (values-larger ts vs.1)
 
-pub searched-right : PrintedAnswersAreRight → AnswersAreSampled → SearchedAnswersAreRight
-searched-right prints sampled p names written pieces file =
-    prints p names written pieces (record {
-      lists = file.lists;
-      longer = file.longer;
-      agree = file.agree;
-      table = file.table;
-      read = file.read;
-      fine = Each-map (IsSearchedPiece p names written) (IsFine (length names) (length written)) one pieces file.searched;
-      short = file.short;
-    }) (λ n c i. (Each-member (IsSearchedPiece p names written) pieces (answer n c) file.searched i).right)
+-- a file of answers of searches is one that is written
+pub searched-written : AnswersAreSampled → (p : Program) (names written : List (List ℕ)) (pieces : List Piece) → IsSearchedFile p names written pieces → IsWrittenFile names written pieces
+searched-written sampled p names written pieces file = record {
+  lists = file.lists;
+  longer = file.longer;
+  agree = file.agree;
+  table = file.table;
+  read = file.read;
+  fine = Each-map (IsSearchedPiece p names written) (IsFine (length names) (length written)) one pieces file.searched;
+  short = file.short;
+}
   where
     one : (q : Piece) → IsSearchedPiece p names written q → IsFine (length names) (length written) q
     one (remark text) h = h
@@ -88,3 +88,8 @@ searched-right prints sampled p names written pieces file =
         record { printable = k.printable; values = values-larger (length names) (length names + free_of c) (length written) h.enough c.sample k.values; fits = k.fits }
     one (ending e q) h = h
     one (rejection q n at reason) h = h
+
+pub searched-right : PrintedAnswersAreRight → AnswersAreSampled → SearchedAnswersAreRight
+searched-right prints sampled p names written pieces file =
+    prints p names written pieces (searched-written sampled p names written pieces file)
+    (λ n c i. (Each-member (IsSearchedPiece p names written) pieces (answer n c) file.searched i).right)

@@ -284,7 +284,7 @@ reading-within names bytes r table e =
     one p g = let h = and_parts (nat_lt p.name (length r.names)) (nat_le p.arity ARITY_LIMIT) g in (ltb-true p.name (length r.names) h.0, few p.arity h.1)
 
 -- the names of lists are a table
-lists-table : IsTable list_names
+pub lists-table : IsTable list_names
 unfolding is_utf8 chars encode_utf8
 lists-table = record {
   utf8 = (IsUtf8-from_is_utf8 (codes "[]") refl, (IsUtf8-from_is_utf8 (codes "[|]") refl, tt));
@@ -293,7 +293,7 @@ lists-table = record {
 }
 
 -- a table with the two names of lists has more than one
-two-names : (names : List (List ℕ)) → BeginWithLists names → 1 < length names
+pub two-names : (names : List (List ℕ)) → BeginWithLists names → 1 < length names
 two-names [] h = absurd (cc h.nil)
 two-names (n ∷ []) h = absurd (cc h.pair)
 two-names (n ∷ m ∷ names) h = omega arith

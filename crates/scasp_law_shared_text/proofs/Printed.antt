@@ -65,7 +65,7 @@ copy-good : (d n : ℕ) → n ≤ byte_limit → IsSound (copy_line d n) × IsSp
 copy-good d n h =
     let wide : n < 2 ^ 128 = omega (arith, h) in
     let narrow : n < 2 ^ 64 = omega (arith, h) in
-    let clean : IsClean (codes "copy " ++ decimal n) = clean-append (codes "copy ") (decimal n) refl (clean-decimal n wide) in
+    let clean : IsClean (codes "copy " ++ decimal n) = clean-append (codes "copy ") (decimal n) refl (clean-decimal n) in
     let last : last_number (copy_line d n).words ≡ n = number-last d n narrow in
     let place : is_place n ≡ true = lt-ltb n (2 ^ 63) (omega (arith, h)) in
     ((clean, refl), λ c. (number-read n wide ∙ ap Some (sym last), ap is_place last ∙ place))
@@ -89,7 +89,7 @@ module _ (names : List (List ℕ)) (table : IsTable names) where
   good-row (comment text) e = e
   good-row (written p) e =
       let h = and_parts (is_written (length names) p.line) (line_fits p.line) e in
-      ((words-clean_line names (length names) p.line h.0 h.1, words-begin names p.line), λ c. absurd (false≢true (sym (plain-row p e).0 ∙ c)))
+      ((words-clean_line names (length names) p.line h.0, words-begin names p.line), λ c. absurd (false≢true (sym (plain-row p e).0 ∙ c)))
 
   good-rows : (rows : List Row) → list_all (is_row_fine (length names)) rows ≡ true → Each IsGood (map item_of rows)
   good-rows [] e = tt

@@ -95,7 +95,7 @@ around-larger n m l k c h = record { before = lines-larger n m l (lines_before c
 
 -- ---- texts of lines
 
-texts-same : (count : ℕ) (names table : List (List ℕ)) → Agree count names table → (ps : List Placed) → are_printable count ps ≡ true → flat_map (placed_text names) ps ≡ flat_map (placed_text table) ps
+pub texts-same : (count : ℕ) (names table : List (List ℕ)) → Agree count names table → (ps : List Placed) → are_printable count ps ≡ true → flat_map (placed_text names) ps ≡ flat_map (placed_text table) ps
 texts-same count names table same [] e = refl
 texts-same count names table same (p ∷ ps) e =
     let h = and_parts (is_written count p.line && line_fits p.line) (are_printable count ps) e in
@@ -126,7 +126,7 @@ module _ (names written : List (List ℕ)) (pieces : List Piece) (lists : 1 < le
   row-clean (comment text) e = e
   row-clean (row p) e =
       let h = and_parts (is_written (length written) p.line) (line_fits p.line) e in
-      clean-append (replicate p.depth 32) (words_of written p.line) (clean-blanks p.depth) (words-clean_line written (length written) p.line h.0 h.1)
+      clean-append (replicate p.depth 32) (words_of written p.line) (clean-blanks p.depth) (words-clean_line written (length written) p.line h.0)
 
   -- each row is a line of the file
   rows-have : (rows : List Row) → list_all (is_row_fine (length written)) rows ≡ true → (r : Row) → Contains rows r → Contains (split_lines (flat_map (row_text written) rows)).lines (row_bytes written r)

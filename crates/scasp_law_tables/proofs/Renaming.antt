@@ -53,6 +53,11 @@ abbrev mutual
   EachNames K nil = ⊤
   EachNames K (cons t ts) = EachName K t × EachNames K ts
 
+-- there are as many terms as before
+pub length-renamed : (h : ℕ → ℕ) (ts : Tms) → length (items (all_renamed h ts)) ≡ length (items ts)
+length-renamed h nil = refl
+length-renamed h (cons t ts) = ap suc (length-renamed h ts)
+
 -- the names that K holds of stay apart, and the first `count` are among them and stay
 module _ (h : ℕ → ℕ) (count : ℕ) (K : ℕ → Type 0) (known : (f : ℕ) → f < count → K f) (stays : (f : ℕ) → f < count → h f ≡ f) (apart : (f g : ℕ) → K f → K g → h f ≡ h g → f ≡ g) where
   same-name : (f g : ℕ) → K f → K g → nat_eq (h f) (h g) ≡ nat_eq f g
@@ -92,10 +97,6 @@ module _ (h : ℕ → ℕ) (count : ℕ) (K : ℕ → Type 0) (known : (f : ℕ)
     all-ground-renamed nil = refl
     all-ground-renamed (cons t ts) = λ i. ground-renamed t i && all-ground-renamed ts i
 
-  length-renamed : (ts : Tms) → length (items (all_renamed h ts)) ≡ length (items ts)
-  length-renamed nil = refl
-  length-renamed (cons t ts) = ap suc (length-renamed ts)
-
   number-renamed : (t : Tm) → (is_number (renamed h t) ≡ is_number t) × (number_of (renamed h t) ≡ number_of t)
   number-renamed (var x) = (refl, refl)
   number-renamed (num q) = (refl, refl)
@@ -106,7 +107,7 @@ module _ (h : ℕ → ℕ) (count : ℕ) (K : ℕ → Type 0) (known : (f : ℕ)
   shape-renamed f n l (num q) k = refl
   shape-renamed f n l (app g us) k =
       let name : nat_eq (h g) f ≡ nat_eq g f = ap (nat_eq (h g)) (sym (stays f l)) ∙ same-name g f k.0 (known f l) in
-      λ i. name i && nat_eq (length-renamed us i) n
+      λ i. name i && nat_eq (length-renamed h us i) n
 
   -- ---- under a sample
 
@@ -221,7 +222,7 @@ pub renamed-accepted : (h : ℕ → ℕ) (count : ℕ) (K : ℕ → Type 0) → 
     → (p : Program) (c : Certificate) → list_all (is_spelled count) c.given ≡ true → EachNames K c.sample → Accepts p c → Accepts p (record c { sample = all_renamed h c.sample })
 renamed-accepted h count K known stays apart p c given names right =
     let ts : Tms = all_renamed h c.sample in
-    let fewer : length (items ts) ≡ length (items c.sample) = length-renamed h count K known stays apart c.sample in
+    let fewer : length (items ts) ≡ length (items c.sample) = length-renamed h c.sample in
     let old : sample_faults c ≡ [] = sample-none (are_ground c.sample) (list_all (holds_bounded (giving (items c.sample))) c.given) right.sample_ground right.sample_meets in
     let new : sample_faults (record c { sample = ts }) ≡ [] =
     sample-none (are_ground ts) (list_all (holds_bounded (giving (items ts))) c.given) (all-ground-renamed h count K known stays apart c.sample ∙ right.sample_ground)

@@ -46,6 +46,7 @@ map-same p c d e h =
 pub right-completes : (p : Program) (tree c : Certificate) → c ≡ filled p tree → Accepts p c → map_faults p (covered c) c.map ≡ [] → GoodRight p c
     → (IsTrue (is_flat c) → HasClosedDomains p c) → Completes p tree c
 right-completes p tree c e accepted kept good domains = record {
+  is = e;
   same = ap skeleton e ∙ skeleton-filled p tree;
   right = record { accepted = accepted; map = kept; good = good; domains = domains };
 }

@@ -77,7 +77,7 @@ module _ (names : List (List ℕ)) (table : IsTable names) where
   row-clean (comment text) e = e
   row-clean (written p) e =
       let h = and_parts (is_written (length names) p.line) (line_fits p.line) e in
-      clean-append (replicate p.depth 32) (words_of names p.line) (clean-blanks p.depth) (words-clean_line names (length names) p.line h.0 h.1)
+      clean-append (replicate p.depth 32) (words_of names p.line) (clean-blanks p.depth) (words-clean_line names (length names) p.line h.0)
 
   split-rows : (rows : List Row) → list_all (is_row_fine (length names)) rows ≡ true → split_lines (flat_map (row_text names) rows) ≡ record { lines = map (row_bytes names) rows; rest = [] }
   split-rows [] e = refl

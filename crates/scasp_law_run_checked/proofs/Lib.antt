@@ -1,0 +1,5 @@
+pub mod Answers
+pub mod Finding
+pub mod Parts
+pub mod Tables
+pub mod Variables

@@ -1,0 +1,2 @@
+pub mod RunChecked
+pub mod Examples
