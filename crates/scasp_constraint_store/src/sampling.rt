@@ -1,11 +1,12 @@
 //! The sample of a list.
-ghost use Rattle.std.specs.Prelude.{◌≡◌, IfOk};
+ghost use Rattle.std.specs.Prelude.{◌≡◌, Err, IfOk, None, Some};
 ghost use Rattle.scasp_num.specs.Linear.{Gives};
 ghost use Rattle.scasp_search_rules.specs.Successors.Numbering.{con_renamed, placing};
 ghost use Rattle.scasp_search_rules.specs.Successors.Reading.{con_under};
 ghost use Rattle.scasp_unify.specs.Solving.{sub_of};
 ghost use Rattle.scasp_constraint_store.specs.Sampled.{is_equation, placed, sampled};
 
+use crate::asking::StoreErr;
 use scasp_list::Memory;
 use scasp_num::RowErr;
 use scasp_sample::{Placing, any_unreplaced, con_renamed, sample};
@@ -58,7 +59,7 @@ fn placed(
 
 /// Values for these variables by a list, where the names of those that are no numbers start with `fresh`. Overflow exactly
 /// where the list's bindings cannot replace a row in the range of the numbers, or where the arithmetic of the sample overflows.
-pub(crate) fn sample_of(
+fn sample_of(
     alloc: Global,
     fresh: u64,
     order: &VarList,
@@ -76,4 +77,21 @@ pub(crate) fn sample_of(
     };
     let given = placed(alloc, list, bindings, &by)?;
     sample(alloc, fresh, given.as_slice(), order.len() as u64)
+}
+
+/// The same, with the errors of a store.
+pub(crate) fn sample_by(
+    alloc: Global,
+    fresh: u64,
+    order: &VarList,
+    list: &[Con],
+) -> Result<Terms, StoreErr>
+    ensures value { IfOk result (λ made. sampled fresh order.now list.now ≡ Some made) }
+    ensures overflow { result ≡ Err StoreErr.Overflow → sampled fresh order.now list.now ≡ None }
+{
+    match sample_of(alloc, fresh, order, list) {
+        Ok(made) => Ok(made),
+        Err(RowErr::Overflow) => Err(StoreErr::Overflow),
+        Err(RowErr::Memory) => Err(StoreErr::Memory),
+    }
 }

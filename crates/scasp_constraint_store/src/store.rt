@@ -18,10 +18,9 @@ use crate::change::{Change, ListChange, restore};
 use crate::knowing::knows;
 use crate::lowering::lower;
 use crate::retiring::kept;
-use crate::sampling::sample_of;
+use crate::sampling::sample_by;
 use scasp_bind::{Bindings, Sort};
 use scasp_list::Memory;
-use scasp_num::RowErr;
 use scasp_search_terms::forms::negated;
 use scasp_search_terms::reading::read;
 use scasp_syntax::{Con, DeepCopy, PlaceList, Term, Terms, VarList};
@@ -235,11 +234,7 @@ impl Store {
         ensures overflow { result ≡ Err StoreErr.Overflow → sampled fresh order.now self.old.now.list ≡ None }
         ensures unchanged { self.new ≡ self.old }
     {
-        match sample_of(self.alloc, fresh, order, self.list.as_slice()) {
-            Ok(made) => Ok(made),
-            Err(RowErr::Overflow) => Err(StoreErr::Overflow),
-            Err(RowErr::Memory) => Err(StoreErr::Memory),
-        }
+        sample_by(self.alloc, fresh, order, self.list.as_slice())
     }
 
     /// The term under the bindings that the equations of the list make.

@@ -23,7 +23,7 @@ pub enum Told {
     Compared(&'static [(u64, i128)], i128, Op),
 }
 
-pub fn term(alloc: Global, given: &Written) -> Result<Term, Fail> {
+fn term(alloc: Global, given: &Written) -> Result<Term, Fail> {
     match given {
         Written::V(x) => Ok(Term::Var(*x)),
         Written::N(value) => Ok(Term::Num(Rat::new(*value, 1)?)),
@@ -47,7 +47,7 @@ fn disequation(alloc: Global, left: &Written, right: &Written) -> Result<Con, Fa
     Ok(Con::Neq(left, term(alloc, right)?))
 }
 
-pub fn constraint(alloc: Global, given: &Told) -> Result<Con, Fail> {
+fn constraint(alloc: Global, given: &Told) -> Result<Con, Fail> {
     match given {
         Told::Equal(left, right) => equation(alloc, left, right),
         Told::Differ(left, right) => disequation(alloc, left, right),

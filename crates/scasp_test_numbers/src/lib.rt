@@ -16,6 +16,4 @@ mod rows;
 #[cfg(test)]
 mod simplex;
 #[cfg(test)]
-mod stores;
-#[cfg(test)]
 mod written;

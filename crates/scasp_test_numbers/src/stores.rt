@@ -1,4 +1,0 @@
-//! A store of constraints.
-mod random;
-mod tables;
-mod trials;
