@@ -74,7 +74,8 @@ fn variables_of_deep_terms_are_replaced(rt: HostRuntime) -> Result<(), Fail> {
     let alloc = rt.alloc();
     let x = 0;
     let term = Term::Var(1);
-    let all = Chain::new().with(alloc, Binding { x, term })?;
+    let none = Chain::new();
+    let all = none.with(alloc, Binding { x, term })?;
     let made = under(alloc, &nested(alloc, x)?, &Replaced { all: &all })?;
     assert_eq!(rt; depth(&made), DEEP);
     Ok(())
