@@ -2,6 +2,7 @@
 
 mod building;
 mod certificate;
+mod depth;
 mod given;
 mod numbering;
 mod renaming;
