@@ -8,4 +8,4 @@ mod versioned;
 
 pub use crate::states::{Block, Entries, Entry};
 pub use error::AnswerErr;
-pub use read::{BYTE_LIMIT, MARK_LIMIT, read_answers};
+pub use read::{BYTE_LIMIT, read_answers};

@@ -8,4 +8,4 @@ mod parts;
 mod states;
 
 pub use blocks::{AnswerFault, AnswerKind};
-pub use files::{AnswerErr, BYTE_LIMIT, Block, Entries, Entry, MARK_LIMIT, read_answers};
+pub use files::{AnswerErr, BYTE_LIMIT, Block, Entries, Entry, read_answers};

@@ -38,14 +38,3 @@ pub fn is_remark(line: &[u8]) -> bool
         [first, ..] => *first == b'%',
     }
 }
-
-/// How many brackets open and how many commas stand in the line; no term in it is deeper than that.
-pub fn marks(line: &[u8]) -> usize {
-    let mut count = 0usize;
-    for byte in line {
-        if matches!(*byte, b'(' | b'[' | b',') {
-            count = count.saturating_add(1);
-        }
-    }
-    count
-}

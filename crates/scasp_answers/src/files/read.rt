@@ -7,7 +7,7 @@ ghost use Rattle.scasp_answers.specs.Files.Texts.{with_names};
 ghost use Rattle.scasp_answers.specs.Files.View.{Told};
 
 use crate::blocks::{AnswerFault, AnswerKind};
-use crate::files::bytes::{indent, is_remark, line_len, marks};
+use crate::files::bytes::{indent, is_remark, line_len};
 use crate::files::error::AnswerErr;
 use crate::files::names::add_names;
 use crate::files::versioned::Versioned;
@@ -17,10 +17,6 @@ use std::alloc::Global;
 
 /// The longest file that is read.
 pub const BYTE_LIMIT: usize = 67_108_864;
-
-/// The most opening brackets and commas of a line, each of which takes memory while the line is read; in a line with more
-/// of them memory is wanting.
-pub const MARK_LIMIT: usize = 1_000_000;
 
 /// The fault of the line that stands at the byte `at`.
 fn fault_of(at: usize, line: &[u8], kind: AnswerKind) -> AnswerFault
@@ -51,9 +47,6 @@ fn read_line<'a>(
 {
     if is_remark(line) {
         return Ok(());
-    }
-    if line.len() > MARK_LIMIT && marks(line) > MARK_LIMIT {
-        return Err(AnswerErr::Memory);
     }
     match read.read_line(alloc, line, names)? {
         None => Ok(()),
