@@ -63,7 +63,7 @@ all_kept n f xs ys h e =
 
 -- ---- marks
 
-or-false : (b : Bool) → (b || false) ≡ b
+pub or-false : (b : Bool) → (b || false) ≡ b
 or-false true = refl
 or-false false = refl
 

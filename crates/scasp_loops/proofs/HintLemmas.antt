@@ -1,9 +1,10 @@
 -- What is known of the literals before one.
-use Rattle.std.proofs.Common.{◌≡◌, ◌≢◌, ◌+◌, ◌-◌, ◌<◌, ◌≤◌, ◌⊎◌, inl, inr, ℕ, zero, suc, Bool, true, false, not, ◌||◌, nat_eq, if◌then◌else◌, List, [], ◌∷◌, ◌++◌, length, slice_get, slice_set, take, Option, None, Some, arith, refl, ap, sym, subst, ◌∙◌}
+use Rattle.std.proofs.Common.{◌≡◌, ◌+◌, ◌-◌, ◌<◌, ◌≤◌, ◌⊎◌, inl, inr, ℕ, zero, suc, Bool, true, false, not, ◌||◌, nat_eq, if◌then◌else◌, List, [], ◌∷◌, ◌++◌, length, slice_get, slice_set, take, None, Some, arith, refl, ap, sym, subst, ◌∙◌}
+use Rattle.std.proofs.Math.Bool.{or-true}
 use Rattle.std.proofs.lemmas.Bool.{cases_order}
 use Rattle.std.proofs.lemmas.Bool.Decides.{Decides-eqb}
 use Rattle.scasp_loops.specs.Held.{literal_of}
-use Rattle.scasp_loops.specs.Inside.Hinted.{AreHinted, AreHintedEach, AreHints, AreLatest, IsHint, Within, has_no_variable, is_done, is_other, lit_key, place_in}
+use Rattle.scasp_loops.specs.Inside.Hinted.{AreHinted, AreHintedEach, AreHints, AreLatest, IsHint, Within, has_no_variable, is_done, is_other, is_past, lit_key, place_in}
 use Rattle.scasp_loops.specs.Inside.Kept.{AllStay, StayEach, StaysSo}
 use Rattle.scasp_loops.specs.Inside.Zipped.{StandsAt, literals_from}
 use Rattle.scasp_loops.specs.declared.entry.Entry.{Entry}
@@ -14,7 +15,6 @@ use Rattle.scasp_readings.specs.Readings.{reading}
 use Rattle.scasp_search_rules.specs.Successors.Calls.{lit_under}
 use Rattle.scasp_search_rules.specs.declared.states.state.Literal.{Literal}
 use Rattle.scasp_syntax.specs.Values.{are_ground}
-use Rattle.scasp_syntax.specs.declared.atom.Lit.{Lit}
 use Rattle.scasp_trail.specs.Past.{earlier, latest}
 use Rattle.scasp_unify.specs.declared.bindings.Binding.{Binding}
 
@@ -37,6 +37,9 @@ joined p lo mid hi ls v w = record { each = λ j a l h g. by j a l h g (cases_or
     by j a l h g (inr (inl b)) = v.each j a l b g
     by j a l h g (inr (inr b)) = w.each j a (omega (arith, b)) h g
 
+pub from_first : (p : Literal → Bool) (left count : ℕ) (ls : List Literal) → left ≤ 0 → Within p left count ls → Within p 0 count ls
+from_first p left count ls z w = record { each = λ j a l h g. w.each j a (omega (arith, z)) h g }
+
 pub one_within : (p : Literal → Bool) (at next : ℕ) (a : Literal) (ls : List Literal) → next ≡ at + 1 → slice_get ls at ≡ Some a → p a ≡ true → Within p at next ls
 one_within p at next a ls e s q = record { each = λ j b l h g. by j b l h g (omega (arith, e, l, h)) }
   where
@@ -57,6 +60,9 @@ none_hinted = record {
 
 pub same_known : (ls : List Literal) (hs : List Hint) (at key : ℕ) (h : Hint) → AreHints ls hs → slice_get hs at ≡ Some h → h.key ≡ key → Within (is_other key) h.same at ls
 same_known ls hs at key h a g e = subst (λ (k : ℕ). Within (is_other k) h.same at ls) e (a.each at h g).same
+
+pub around_known : (ls : List Literal) (hs : List Hint) (at key : ℕ) (h : Hint) → AreHints ls hs → slice_get hs at ≡ Some h → h.key ≡ key → Within (is_past key) h.around at ls
+around_known ls hs at key h a g e = subst (λ (k : ℕ). Within (is_past k) h.around at ls) e (a.each at h g).around
 
 pub undone_known : (ls : List Literal) (hs : List Hint) (at : ℕ) (h : Hint) → AreHints ls hs → slice_get hs at ≡ Some h → Within is_done h.undone at ls
 undone_known ls hs at h a g = (a.each at h g).undone
@@ -121,6 +127,34 @@ pub noted : (ts us vs : List ℕ) (key place k : ℕ) → ((n : ℕ) → place_i
 noted ts us vs key place k same h e =
     ap (λ (ws : List ℕ). place_in ws k) e ∙ noted_here us key place k h ∙ ap (λ (n : ℕ). if nat_eq key k then place else n) (same k)
 
+-- ---- open literals of a key
+
+pub past_start : (key lo hi : ℕ) (ls : List Literal) → Within (is_other key) lo hi ls → Within (is_past key) lo hi ls
+past_start key lo hi ls w = record { each = λ j a l h g. ap (λ (d : Bool). d || a.is_done) (w.each j a l h g) }
+
+-- the last one that was not looked at is done
+pub past_done : (es : List Entry) (ms : List Marks) (key to left count : ℕ) (m : Marks) → length ms ≤ length es → 0 < left → slice_get ms (left - 1) ≡ Some m → m.is_done ≡ true
+    → Within (is_past key) to (left - 1) (literals_from 0 es ms) → Within (is_past key) left count (literals_from 0 es ms) → Within (is_past key) to count (literals_from 0 es ms)
+past_done es ms key to left count m fit p h d v w =
+    let ls = literals_from 0 es ms in
+    joined (is_past key) to left count ls
+    (joined (is_past key) to (left - 1) left ls v
+    (record {
+      each = λ j a l n g.
+          let e : j ≡ left - 1 = omega (arith, p, l, n) in
+          ap (λ (b : Bool). is_other key a || b) (done_at 0 (left - 1) es ms m a h (ap (slice_get ls) (sym e) ∙ g) ∙ d) ∙ or-true (is_other key a);
+    }))
+    w
+  where
+    done_at : (k n : ℕ) (es : List Entry) (ms : List Marks) (m : Marks) (a : Literal) → slice_get ms n ≡ Some m → slice_get (literals_from k es ms) n ≡ Some a → a.is_done ≡ m.is_done
+    done_at k n [] ms m a h g = absurd (cc g)
+    done_at k n (e ∷ es) [] m a h g = absurd (cc h)
+    done_at k zero (e ∷ es) (n ∷ ms) m a h g =
+        let r : n ≡ m = cc h in
+        let q : literal_of k e n ≡ a = cc g in
+        ap (λ (b : Literal). b.is_done) (sym q) ∙ ap (λ (x : Marks). x.is_done) r
+    done_at k (suc n) (e ∷ es) (o ∷ ms) m a h g = done_at (suc k) n es ms m a h g
+
 -- ---- the hint of the next one
 
 marks_there : (ms : List Marks) (n : ℕ) → n < length ms → (m : Marks) × (slice_get ms n ≡ Some m)
@@ -135,9 +169,10 @@ varied_more es ms place last count e fit p c l g q w =
     joined has_no_variable place last count (literals_from 0 es ms) w
     (one_within has_no_variable last count (literal_of last e m.0) (literals_from 0 es ms) (omega (arith, p, l)) (literal_there es ms last e m.0 g m.1) q)
 
-pub known_next : (ls : List Literal) (h : Hint) (at : ℕ) → Within (is_other h.key) h.same at ls → h.undone ≡ at → Within has_no_variable h.varied at ls → IsHint ls at h
-known_next ls h at s u v = record {
+pub known_next : (ls : List Literal) (h : Hint) (at : ℕ) → Within (is_other h.key) h.same at ls → Within (is_past h.key) h.around at ls → h.undone ≡ at → Within has_no_variable h.varied at ls → IsHint ls at h
+known_next ls h at s r u v = record {
   same = s;
+  around = r;
   undone = subst (λ (n : ℕ). Within is_done n at ls) (sym u) (none_within is_done at ls);
   varied = v;
 }
@@ -244,6 +279,7 @@ hinted_more ls hs gs ts us h a at place r e p s q u = record {
         let w : n ≤ length ls = omega (arith, some_within gs n g t, r.few) in
         record {
           same = within_pushed (is_other g.key) g.same n ls a w i.same;
+          around = within_pushed (is_past g.key) g.around n ls a w i.around;
           undone = within_pushed is_done g.undone n ls a w i.undone;
           varied = within_pushed has_no_variable g.varied n ls a w i.varied;
         };
@@ -344,12 +380,20 @@ within_stays p lo hi ls ks q f w = record {
 other_stays : (k : ℕ) (a b : Literal) → StaysSo a b → is_other k a ≡ true → is_other k b ≡ true
 other_stays k a b s o = ap (λ (n : ℕ). not (nat_eq n k)) s.key ∙ o
 
+past_stays : (k : ℕ) (a b : Literal) → StaysSo a b → is_past k a ≡ true → is_past k b ≡ true
+past_stays k a b s o = by (is_other k a) refl
+  where
+    by : (c : Bool) → is_other k a ≡ c → is_past k b ≡ true
+    by true e = ap (λ (d : Bool). d || b.is_done) (other_stays k a b s e)
+    by false e = ap (λ (d : Bool). is_other k b || d) (s.done (sym (ap (λ (d : Bool). d || a.is_done) e) ∙ o)) ∙ or-true (is_other k b)
+
 pub hints_stay : (ls ks : List Literal) (hs : List Hint) → AllStay ls ks → AreHints ls hs → AreHints ks hs
 hints_stay ls ks hs f a = record {
   each = λ at h g.
       let i : IsHint ls at h = a.each at h g in
       record {
         same = within_stays (is_other h.key) h.same at ls ks (other_stays h.key) f i.same;
+        around = within_stays (is_past h.key) h.around at ls ks (past_stays h.key) f i.around;
         undone = within_stays is_done h.undone at ls ks (λ c d s e. s.done e) f i.undone;
         varied = within_stays has_no_variable h.varied at ls ks (λ c d s e. s.ground e) f i.varied;
       };
@@ -398,17 +442,17 @@ hints_set ls hs n h a i = record { each = λ at g t. by at g (item_there hs n at
     by at g (inr p) = a.each at g p
 
 pub noted_undone : (ls : List Literal) (hs gs : List Hint) (at undone : ℕ) (old new : Hint) → AreHints ls hs → slice_get hs at ≡ Some old → Within is_done undone at ls
-    → new ≡ record { key = old.key; same = old.same; undone = undone; varied = old.varied; top = old.top } → gs ≡ slice_set hs at new → AreHints ls gs
+    → new ≡ record { key = old.key; same = old.same; around = old.around; undone = undone; varied = old.varied; top = old.top } → gs ≡ slice_set hs at new → AreHints ls gs
 noted_undone ls hs gs at undone old new a o w e s =
     let i : IsHint ls at old = a.each at old o in
-    let j : IsHint ls at (record { key = old.key; same = old.same; undone = undone; varied = old.varied; top = old.top }) = record { same = i.same; undone = w; varied = i.varied } in
+    let j : IsHint ls at (record { key = old.key; same = old.same; around = old.around; undone = undone; varied = old.varied; top = old.top }) = record { same = i.same; around = i.around; undone = w; varied = i.varied } in
     subst (AreHints ls) (sym s) (hints_set ls hs at new a (subst (λ (h : Hint). IsHint ls at h) (sym e) j))
 
 pub noted_varied : (ls : List Literal) (hs gs : List Hint) (at varied : ℕ) (old new : Hint) → AreHints ls hs → slice_get hs at ≡ Some old → Within has_no_variable varied at ls
-    → new ≡ record { key = old.key; same = old.same; undone = old.undone; varied = varied; top = old.top } → gs ≡ slice_set hs at new → AreHints ls gs
+    → new ≡ record { key = old.key; same = old.same; around = old.around; undone = old.undone; varied = varied; top = old.top } → gs ≡ slice_set hs at new → AreHints ls gs
 noted_varied ls hs gs at varied old new a o w e s =
     let i : IsHint ls at old = a.each at old o in
-    let j : IsHint ls at (record { key = old.key; same = old.same; undone = old.undone; varied = varied; top = old.top }) = record { same = i.same; undone = i.undone; varied = w } in
+    let j : IsHint ls at (record { key = old.key; same = old.same; around = old.around; undone = old.undone; varied = varied; top = old.top }) = record { same = i.same; around = i.around; undone = i.undone; varied = w } in
     subst (AreHints ls) (sym s) (hints_set ls hs at new a (subst (λ (h : Hint). IsHint ls at h) (sym e) j))
 
 -- one more without variables

@@ -1,4 +1,5 @@
 -- Lemmas of the proofs.
+pub mod ApartLemmas
 pub mod AskLemmas
 pub mod EndLemmas
 pub mod HintLemmas

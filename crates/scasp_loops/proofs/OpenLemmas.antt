@@ -17,14 +17,14 @@ use Rattle.scasp_search_rules.specs.declared.states.state.State.{State}
 
 -- ---- one more of the first literals
 
-taken_more : {T : Type 0} (xs : List T) (n : ℕ) (x : T) → slice_get xs n ≡ Some x → take (n + 1) xs ≡ take n xs ++ x ∷ []
+pub taken_more : {T : Type 0} (xs : List T) (n : ℕ) (x : T) → slice_get xs n ≡ Some x → take (n + 1) xs ≡ take n xs ++ x ∷ []
 taken_more [] n x g = absurd (cc g)
 taken_more (y ∷ xs) zero x g = let s : y ≡ x = cc g in ap (λ z. z ∷ []) s
 taken_more (y ∷ xs) (suc n) x g =
     let m : suc n + 1 ≡ suc (n + 1) = omega arith in
     ap (λ (k : ℕ). take k (y ∷ xs)) m ∙ ap (λ ys. y ∷ ys) (taken_more xs n x g)
 
-open_pushed : (ls : List Literal) (a : Literal) → open_among (ls ++ a ∷ []) ≡ (if a.is_done then open_among ls else a ∷ open_among ls)
+pub open_pushed : (ls : List Literal) (a : Literal) → open_among (ls ++ a ∷ []) ≡ (if a.is_done then open_among ls else a ∷ open_among ls)
 open_pushed ls a = rw (reverse-append ls (a ∷ [])) (by a.is_done refl)
   where
     by : (b : Bool) → a.is_done ≡ b → filter (λ c. not c.is_done) (a ∷ reverse ls) ≡ (if b then open_among ls else a ∷ open_among ls)
@@ -37,14 +37,14 @@ open_more es ms n e m g h =
     ap open_among (taken_more (literals_from 0 es ms) n (literal_of n e m) (literal_there es ms n e m g h))
     ∙ open_pushed (take n (literals_from 0 es ms)) (literal_of n e m)
 
-stands : {T : Type 0} (xs : List T) (n : ℕ) → n < length xs → (x : T) × (slice_get xs n ≡ Some x)
+pub stands : {T : Type 0} (xs : List T) (n : ℕ) → n < length xs → (x : T) × (slice_get xs n ≡ Some x)
 stands [] n h = absurd (omega (arith, h))
 stands (x ∷ xs) zero h = (x, refl)
 stands (x ∷ xs) (suc n) h = stands xs n (omega (arith, h))
 
 -- ---- those between are done
 
-not_there : {T : Type 0} (xs : List T) (n : ℕ) → slice_get xs n ≡ None → length xs ≤ n
+pub not_there : {T : Type 0} (xs : List T) (n : ℕ) → slice_get xs n ≡ None → length xs ≤ n
 not_there [] n g = omega arith
 not_there (x ∷ xs) zero g = absurd (cc g)
 not_there (x ∷ xs) (suc n) g = omega (arith, not_there xs n g)

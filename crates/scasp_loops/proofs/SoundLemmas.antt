@@ -1,9 +1,9 @@
 -- All lists of literals together.
-use Rattle.std.proofs.Common.{◌≡◌, ◌<◌, ◌≤◌, ◌+◌, ℕ, suc, List, [], ◌∷◌, ◌++◌, length, slice_get, arith, refl, ap, sym, subst, ◌∙◌}
+use Rattle.std.proofs.Common.{◌≡◌, ◌≤◌, ◌+◌, ℕ, suc, List, [], ◌∷◌, ◌++◌, length, arith, refl, ap, sym, subst, ◌∙◌}
 use Rattle.scasp_loops.specs.Inside.Hinted.{AreHinted, AreHintedEach, AreHints}
 use Rattle.scasp_loops.specs.Inside.Kept.{AllStay, AreLeft, AreMarked, AreSound, SameMarks, SameNow, literals_in}
-use Rattle.scasp_loops.specs.Inside.Topped.{AreTops, AreTopsEach, AreTopped}
-use Rattle.scasp_loops.specs.Inside.Zipped.{Fit, FitEach, StandsAt, literals_each, literals_from}
+use Rattle.scasp_loops.specs.Inside.Topped.{AreTops, AreTopsEach}
+use Rattle.scasp_loops.specs.Inside.Zipped.{FitEach, StandsAt, literals_each, literals_from}
 use Rattle.scasp_loops.specs.Held.{literal_of}
 use Rattle.scasp_loops.specs.declared.entry.Entry.{Entry}
 use Rattle.scasp_loops.specs.declared.entry.Marks.{Marks}

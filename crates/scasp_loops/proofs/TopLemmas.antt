@@ -1,10 +1,10 @@
 -- With which variables literals start.
-use Rattle.std.proofs.Common.{◌≡◌, ◌+◌, ◌-◌, ◌<◌, ◌≤◌, ◌⊎◌, inl, inr, ℕ, zero, suc, Bool, true, false, not, ◌&&◌, nat_eq, List, [], ◌∷◌, ◌++◌, length, slice_get, slice_set, take, Option, None, Some, Result, Ok, Err, OnOk, OnErr, arith, refl, ap, sym, subst, ◌∙◌}
+use Rattle.std.proofs.Common.{◌≡◌, ◌+◌, ◌-◌, ◌<◌, ◌≤◌, ◌⊎◌, inl, inr, ℕ, zero, suc, Bool, true, false, not, ◌&&◌, nat_eq, List, [], ◌∷◌, length, slice_get, slice_set, Option, None, Some, Result, Ok, Err, OnOk, OnErr, arith, refl, ap, sym, subst, ◌∙◌}
 use Rattle.std.proofs.lemmas.Bool.{cases_order}
 use Rattle.std.proofs.lemmas.Bool.Decides.{Decides-eqb}
 use Rattle.scasp_bound.specs.Bounds.{ReadsDown, as_variable}
 use Rattle.scasp_loops.specs.Held.{literal_of}
-use Rattle.scasp_loops.specs.Inside.Asked.{is_not, is_seen}
+use Rattle.scasp_loops.specs.Inside.Asked.{is_not, is_repeated, is_seen}
 use Rattle.scasp_loops.specs.Inside.Hinted.{Within}
 use Rattle.scasp_loops.specs.Inside.Topped.{AllStartBefore, AreTops, AreTopsEach, AreTopped, IsFloor, IsTop, StartsBefore, first_read}
 use Rattle.scasp_loops.specs.Inside.Zipped.{StandsAt, literals_from}
@@ -86,18 +86,18 @@ first-apart m r bs (cons u us) (cons t ts) e d h b =
     by (num q) c = refl
     by (app f vs) c = refl
 
-none-of : (g p q s t : Bool) → t ≡ false → (g && (p && (q && s && t))) ≡ false
-none-of false p q s t e = refl
-none-of true false q s t e = refl
-none-of true true false s t e = refl
-none-of true true true false t e = refl
-none-of true true true true t e = e
+pub none_of : (g p q s t : Bool) → t ≡ false → (g && (p && (q && s && t))) ≡ false
+none_of false p q s t e = refl
+none_of true false q s t e = refl
+none_of true true false s t e = refl
+none_of true true true false t e = refl
+none_of true true true true t e = e
 
 pub floor_is : (n m r : ℕ) (bs : List Binding) (l : Lit) → first_read bs l.atom.args ≡ Some r → ReadsDown m bs → m < r → n < r → IsFloor n bs l r
 floor_is n m r bs l e d h b = record {
   beyond = b;
   apart = λ a s.
-      none-of (not a.is_general) (same_bool a.lit.positive l.positive) (same_bool a.lit.atom.minus l.atom.minus) (nat_eq a.lit.atom.name l.atom.name)
+      none_of (not a.is_general) (same_bool a.lit.positive l.positive) (same_bool a.lit.atom.minus l.atom.minus) (nat_eq a.lit.atom.name l.atom.name)
       (same_tms (all_under (sub_of bs) a.lit.atom.args) (all_under (sub_of bs) l.atom.args)) (first-apart m r bs a.lit.atom.args l.atom.args e d h s);
 }
 
@@ -112,6 +112,15 @@ entry-there k (suc n) (e ∷ es) (m ∷ ms) a g = entry-there (suc k) n es ms a 
 same-last : (p q : Bool) → q ≡ false → not (p && q) ≡ true
 same-last true q e = ap not e
 same-last false q e = refl
+
+pub unrepeated_floor : (bs : List Binding) (l : Lit) (n r at : ℕ) (es : List Entry) (ms : List Marks) → IsFloor n bs l r → AllStartBefore r at es
+    → Within (is_not (is_repeated (reading bs) l)) 0 at (literals_from 0 es ms)
+unrepeated_floor bs l n r at es ms f b = record {
+  each = λ j a z h g.
+      let e = entry-there 0 j es ms a g in
+      let s : StartsBefore r a.lit.atom.args = subst (λ (k : Lit). StartsBefore r k.atom.args) (sym e.1.1) (b.each j e.0 h e.1.0) in
+      same-last (not a.is_done) (is_same (reading bs) l a) (f.apart a s);
+}
 
 pub unseen_floor : (bs : List Binding) (cases : List ℕ) (l : Lit) (n r at : ℕ) (es : List Entry) (ms : List Marks) → IsFloor n bs l r → AllStartBefore r at es
     → Within (is_not (is_seen bs cases l)) 0 at (literals_from 0 es ms)

@@ -146,6 +146,7 @@ fn note_varied(hints: &mut Trailed<Hint>, at: usize, varied: usize) -> Result<()
             let new = Hint {
                 key: old.key,
                 same: old.same,
+                around: old.around,
                 undone: old.undone,
                 varied,
                 top: old.top,

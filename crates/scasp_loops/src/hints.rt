@@ -1,6 +1,6 @@
 //! What is known of the literals before each one, so that a walk can leave them out.
 ghost use Rattle.std.specs.Prelude.{◌≡◌, ◌≤◌, ◌<◌, ◌+◌, ◌*◌, ◌%◌, ℕ, List, length, if◌then◌else◌, nat_eq, option_copied, slice_get, true, OnOk, OnErr};
-ghost use Rattle.scasp_loops.specs.Inside.Hinted.{AreHints, AreLatest, Within, has_no_variable, is_done, is_other, key_of, place_in};
+ghost use Rattle.scasp_loops.specs.Inside.Hinted.{AreHints, AreLatest, Within, has_no_variable, is_done, is_other, is_past, key_of, place_in};
 ghost use Rattle.scasp_loops.specs.Inside.Topped.{AllStartBefore, AreTops};
 ghost use Rattle.scasp_loops.specs.declared.entry.Entry.{Entry as ThisEntry};
 ghost use Rattle.scasp_search_rules.specs.declared.states.state.Literal.{Literal as ThisLiteral};
@@ -16,6 +16,8 @@ pub(crate) struct Hint {
     pub(crate) key: usize,
     /// From this place on none before it has this key.
     pub(crate) same: usize,
+    /// From this place on none before it that is open has this key.
+    pub(crate) around: usize,
     /// From this place on all before it are done.
     pub(crate) undone: usize,
     /// From this place on none before it has a variable.
@@ -59,6 +61,24 @@ pub(crate) fn same_before(hints: &[Hint], key: usize, at: usize) -> usize
         Some(hint) => {
             if hint.key == key && hint.same < at {
                 hint.same
+            } else {
+                at
+            }
+        }
+        None => at,
+    }
+}
+
+/// A place from which on no open literal before `at` has this key.
+#[tactic(auto, using(crate::proofs::HintLemmas::around_known, crate::proofs::HintLemmas::none_within))]
+pub(crate) fn around_before(hints: &[Hint], key: usize, at: usize) -> usize
+    ensures place { result ≤ at }
+    ensures others { (ls : List ThisLiteral) → AreHints ls hints.now → Within (is_past key) result at ls }
+{
+    match hint_at(hints, at) {
+        Some(hint) => {
+            if hint.key == key && hint.around < at {
+                hint.around
             } else {
                 at
             }

@@ -87,6 +87,7 @@ fn note_undone(hints: &mut Trailed<Hint>, at: usize, undone: usize) -> Result<()
             let new = Hint {
                 key: old.key,
                 same: old.same,
+                around: old.around,
                 undone,
                 varied: old.varied,
                 top: old.top,

@@ -2,6 +2,7 @@
 #![tactic(auto)]
 
 mod asking;
+mod called;
 mod ending;
 mod entry;
 mod hints;

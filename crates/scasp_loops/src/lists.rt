@@ -2,15 +2,15 @@
 ghost use Rattle.std.specs.Prelude.{◌≡◌, ◌≤◌, ◌<◌, ◌+◌, ℕ, [], ◌∷◌, ◌++◌, List, length, slice_get, Some, IfOk, OnOk, OnErr};
 ghost use Rattle.scasp_bound.specs.Bounds.{ReadsDown};
 ghost use Rattle.scasp_loops.specs.Held.{literal_of};
-ghost use Rattle.scasp_loops.specs.Inside.Hinted.{AreHinted, AreHints, IsHint, Within, has_no_variable, lit_key};
+ghost use Rattle.scasp_loops.specs.Inside.Hinted.{AreHinted, AreHints, IsHint, Within, has_no_variable, is_past, lit_key};
 ghost use Rattle.scasp_loops.specs.Inside.Kept.{AreLeft, AreMarked, SameMarks, SameNow, literals_in};
 ghost use Rattle.scasp_loops.specs.Inside.Topped.{AreTops, IsTop, StartsBefore};
 ghost use Rattle.scasp_loops.specs.Inside.Zipped.{StandsAt};
 ghost use Rattle.scasp_loops.specs.declared.entry.Marks.{Marks as TheseMarks};
 
 use crate::entry::{Entry, Marks};
-use crate::hints::{Hint, key_of, note_latest, same_among, varied_before};
-use crate::innermost::entry_at;
+use crate::hints::{Hint, around_before, key_of, note_latest, same_among, varied_before};
+use crate::innermost::{entry_at, marks_at};
 use scasp_bound::Bound;
 use scasp_list::Memory;
 use scasp_syntax::{Lit, Term, Terms, are_ground};
@@ -158,6 +158,27 @@ fn varied_among(alloc: Global, lists: &Lists) -> Result<usize, Memory>
     }
 }
 
+/// A place from which on no open literal has the key.
+#[tactic(auto, using(crate::proofs::HintLemmas::past_start, crate::proofs::HintLemmas::past_done, crate::proofs::HintLemmas::from_first, crate::proofs::ZipLemmas::literals_length))]
+pub(crate) fn open_same(lists: &Lists, latest: &[usize], key: usize) -> usize
+    requires fit { length lists.now.marks.now ≤ length lists.now.entries.now }
+    requires hinted { AreHinted (literals_in lists.now) lists.now.hints.now latest.now }
+    ensures place { result ≤ length lists.now.marks.now }
+    ensures others { Within (is_past key) result (length lists.now.marks.now) (literals_in lists.now) }
+{
+    let marks = lists.marks.as_slice();
+    let hints = lists.hints.as_slice();
+    let mut left = same_among(latest, key, marks.len());
+    'literals: while left > 0 {
+        let at = left - 1;
+        if !marks_at(marks, at).is_done {
+            return left;
+        }
+        left = around_before(hints, key, at);
+    }
+    0
+}
+
 /// What is known of the literals before one that comes next.
 #[tactic(auto, using(crate::proofs::HintLemmas::known_next, crate::proofs::HintLemmas::enough_hints))]
 pub(crate) fn next_hint(
@@ -174,11 +195,13 @@ pub(crate) fn next_hint(
     let count = lists.marks.len();
     let key = key_of(lit.positive, lit.atom.name);
     let same = same_among(latest, key, count);
+    let around = open_same(lists, latest, key);
     let varied = varied_among(alloc, lists)?;
     let top = top_among(lists);
     Ok(Hint {
         key,
         same,
+        around,
         undone: count,
         varied,
         top,

@@ -1,14 +1,17 @@
 //! Literals with their marks and cases.
-ghost use Rattle.std.specs.Prelude.{◌≡◌, ◌<◌, ◌≤◌, [], ◌∷◌, ◌++◌, false, filter, length, map, slice_get, Some, IfOk, OnOk, OnErr};
+ghost use Rattle.std.specs.Prelude.{◌≡◌, ◌<◌, ◌≤◌, [], ◌∷◌, ◌++◌, Bool, List, false, filter, length, map, slice_get, Some, IfOk, OnOk, OnErr};
 ghost use Rattle.scasp_loops.specs.Inside.Zipped.{StandsAt, literals_from};
 ghost use Rattle.scasp_loops.specs.Held.{entered, literal_of};
+ghost use Rattle.scasp_search_rules.specs.Successors.Assumptions.{assume_all};
 ghost use Rattle.scasp_search_rules.specs.Successors.Calls.{ancestors, can_be_seen, differing, leave_literal, marked, nearest, open_cases, opposites};
 ghost use Rattle.scasp_search_rules.specs.Successors.Cases.{kept_literal};
 ghost use Rattle.scasp_search_rules.specs.declared.states.state.State.{State};
 ghost use Rattle.scasp_search_state.specs.Words.{first_number};
+ghost use Rattle.scasp_syntax.specs.declared.con.Con.{Con as ThisCon};
 ghost use Rattle.scasp_trail.specs.Past.{earlier, is_marked, latest};
 
 use crate::asking::{first_seen, nearest_open};
+use crate::called::{Called, known_first};
 use crate::ending::{end_each, note_each};
 use crate::entry::{Entered, Entry, Marks};
 use crate::innermost::{end_last, entry_at, loop_out, marks_at, note_done};
@@ -113,10 +116,8 @@ impl Loops {
     ) -> Result<Option<Repeated>, Memory>
         ensures { (s : State) → s.literals ≡ self.now.now → s.bound ≡ bound.now.now → IfOk result (λ found. found ≡ nearest s lit.now false (ancestors s)) }
     {
-        let entries = self.lists.entries.as_slice();
-        let marks = self.lists.marks.as_slice();
-        let hints = self.lists.hints.as_slice();
-        let found = nearest_open(alloc, entries, marks, hints, bound, lit)?;
+        let latest = self.latest.as_slice();
+        let found = nearest_open(alloc, &self.lists, latest, bound, lit)?;
         Ok(found)
     }
 
@@ -149,7 +150,28 @@ impl Loops {
         ensures { (s : State) → s.literals ≡ self.now.now → s.bound ≡ bound.now.now → s.made ≡ variables.now.now → IfOk result (λ made. made ≡ map (differing lit.now) (opposites s lit.now)) }
     {
         let latest = self.latest.as_slice();
-        let made = apart_from_opposites(alloc, &self.lists, latest, bound, variables, lit)?;
+        let first = None;
+        let call = Called { bound, lit, first };
+        let made = apart_from_opposites(alloc, &self.lists, latest, variables, &call)?;
+        Ok(made)
+    }
+
+    /// The same without literals whose first arguments clash with that of this one, as the bindings read them: in order, what is
+    /// left is assumed as all are.
+    #[tactic(auto, using(crate::proofs::ApartLemmas::assumed_alike))]
+    pub fn unclear_opposites(
+        &self,
+        alloc: Global,
+        bound: &Bound,
+        variables: &Variables,
+        lit: &Lit,
+    ) -> Result<Cons, Memory>
+        ensures { (s : State) → s.literals ≡ self.now.now → s.bound ≡ bound.now.now → s.made ≡ variables.now.now → IfOk result (λ made. (sat : List ThisCon → Bool) → assume_all sat made s ≡ assume_all sat (map (differing lit.now) (opposites s lit.now)) s) }
+    {
+        let latest = self.latest.as_slice();
+        let first = known_first(alloc, bound, &lit.atom.args)?;
+        let call = Called { bound, lit, first };
+        let made = apart_from_opposites(alloc, &self.lists, latest, variables, &call)?;
         Ok(made)
     }
 

@@ -1,15 +1,16 @@
 //! Literals of the other sign.
-ghost use Rattle.std.specs.Prelude.{◌≡◌, ◌≤◌, [], ◌++◌, filter, length, map, reverse, IfOk, OnOk};
+ghost use Rattle.std.specs.Prelude.{◌≡◌, ◌≤◌, [], ◌++◌, filter, length, map, option_map, reverse, IfOk, OnOk};
 ghost use Rattle.scasp_loops.specs.Held.{literal_of};
-ghost use Rattle.scasp_loops.specs.Inside.Asked.{only_if, standing};
+ghost use Rattle.scasp_loops.specs.Inside.Asked.{is_opposed, only_if, opposed, standing};
 ghost use Rattle.scasp_loops.specs.Inside.Hinted.{AreHinted};
 ghost use Rattle.scasp_loops.specs.Inside.Kept.{literals_in};
-ghost use Rattle.scasp_search_rules.specs.Successors.Calls.{differing, is_free, is_opposite, opposites};
+ghost use Rattle.scasp_search_rules.specs.Successors.Calls.{differing, is_free, is_opposite};
 ghost use Rattle.scasp_search_rules.specs.Successors.Variables.{has_universal};
 ghost use Rattle.scasp_syntax.specs.Tm.{app, cons, items, nil};
 ghost use Rattle.scasp_syntax.specs.View.{tm_of};
 ghost use Rattle.scasp_unify.specs.SimpleForm.{differ, list_term};
 
+use crate::called::{Called, starts_apart};
 use crate::entry::{Entry, Marks};
 use crate::hints::{key_of, same_among, same_before};
 use crate::innermost::{entry_at, marks_at};
@@ -64,6 +65,22 @@ fn is_opposite(
         return Ok(false);
     }
     is_free(alloc, bound, variables, &entry.lit)
+}
+
+/// The same, and whether its first argument does not clash with the call's.
+fn is_opposed(
+    alloc: Global,
+    variables: &Variables,
+    call: &Called<'_>,
+    entry: &Entry,
+    marks: Marks,
+) -> Result<bool, Memory>
+    ensures { IfOk result (λ is. is ≡ is_opposed (standing variables.now.now call.now.bound.now.now []) (option_map tm_of call.now.first) call.now.lit.now (literal_of 0 entry.now marks)) }
+{
+    if starts_apart(alloc, call.bound, &call.first, &entry.lit)? {
+        return Ok(false);
+    }
+    is_opposite(alloc, call.bound, variables, call.lit, entry, marks)
 }
 
 /// The list of a term and the terms of a list.
@@ -125,52 +142,52 @@ fn turned(made: Cons) -> Cons
     Cons::from(list)
 }
 
-/// That the arguments differ from those of each literal that is opposite. It goes back over those that have the key of the
-/// other sign.
+/// That the arguments differ from those of each literal that is opposite and does not clash with the call's first argument. It
+/// goes back over those that have the key of the other sign.
 #[tactic(auto, using(crate::proofs::AskLemmas::apart_start, crate::proofs::AskLemmas::apart_next, crate::proofs::AskLemmas::apart_whole, crate::proofs::ZipLemmas::literals_length))]
 fn all_differing(
     alloc: Global,
     lists: &Lists,
     latest: &[usize],
-    bound: &Bound,
     variables: &Variables,
-    lit: &Lit,
+    call: &Called<'_>,
 ) -> Result<Cons, Memory>
     requires fit { length lists.now.marks.now ≤ length lists.now.entries.now }
     requires hinted { AreHinted (literals_in lists.now) lists.now.hints.now latest.now }
-    ensures { IfOk result (λ made. made ≡ map (differing lit.now) (filter (is_opposite (standing variables.now.now bound.now.now []) lit.now) (literals_in lists.now))) }
+    ensures { IfOk result (λ made. made ≡ map (differing call.now.lit.now) (filter (is_opposed (standing variables.now.now call.now.bound.now.now []) (option_map tm_of call.now.first) call.now.lit.now) (literals_in lists.now))) }
 {
     let entries = lists.entries.as_slice();
     let marks = lists.marks.as_slice();
     let hints = lists.hints.as_slice();
+    let lit = call.lit;
     let key = key_of(!lit.positive, lit.atom.name);
     let mut made = Cons::new(alloc);
     let mut left = same_among(latest, key, marks.len());
     'literals: while left > 0 {
         let at = left - 1;
         let entry = entry_at(entries, at);
-        let are_opposite = is_opposite(alloc, bound, variables, lit, entry, marks_at(marks, at))?;
-        push_differing(alloc, are_opposite, lit, entry, &mut made)?;
+        let are_opposed = is_opposed(alloc, variables, call, entry, marks_at(marks, at))?;
+        push_differing(alloc, are_opposed, lit, entry, &mut made)?;
         left = same_before(hints, key, at);
     }
     Ok(turned(made))
 }
 
-/// That the arguments differ from those of each literal that is opposite, if the literal itself has no universal variable.
+/// That the arguments differ from those of each literal that is opposite and does not clash with the call's first argument, if
+/// the literal itself has no universal variable.
 pub(crate) fn apart_from_opposites(
     alloc: Global,
     lists: &Lists,
     latest: &[usize],
-    bound: &Bound,
     variables: &Variables,
-    lit: &Lit,
+    call: &Called<'_>,
 ) -> Result<Cons, Memory>
     requires fit { length lists.now.marks.now ≤ length lists.now.entries.now }
     requires hinted { AreHinted (literals_in lists.now) lists.now.hints.now latest.now }
-    ensures { IfOk result (λ made. made ≡ map (differing lit.now) (opposites (standing variables.now.now bound.now.now (literals_in lists.now)) lit.now)) }
+    ensures { IfOk result (λ made. made ≡ map (differing call.now.lit.now) (opposed (standing variables.now.now call.now.bound.now.now (literals_in lists.now)) (option_map tm_of call.now.first) call.now.lit.now)) }
 {
-    if is_free(alloc, bound, variables, lit)? {
-        all_differing(alloc, lists, latest, bound, variables, lit)
+    if is_free(alloc, call.bound, variables, call.lit)? {
+        all_differing(alloc, lists, latest, variables, call)
     } else {
         Ok(Cons::new(alloc))
     }

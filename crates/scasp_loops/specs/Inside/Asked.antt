@@ -1,16 +1,19 @@
 -- What is asked of literals, in states that have what the answer needs and nothing else.
-use Rattle.std.specs.Prelude.{ℕ, Bool, true, false, not, ◌&&◌, nat_eq, List, [], ◌∷◌}
+use Rattle.std.specs.Prelude.{ℕ, Bool, true, false, not, ◌&&◌, nat_eq, if◌then◌else◌, Option, None, Some, List, [], ◌∷◌, filter}
 use Rattle.std.specs.List.{list_all}
 use Rattle.scasp_readings.specs.Readings.{reading}
-use Rattle.scasp_search_rules.specs.Successors.Calls.{is_firm, is_same}
+use Rattle.scasp_search_rules.specs.Successors.Calls.{is_firm, is_free, is_opposite, is_same}
 use Rattle.scasp_search_rules.specs.Successors.Reading.{among}
 use Rattle.scasp_search_rules.specs.Successors.Search.{nothing}
 use Rattle.scasp_search_rules.specs.declared.states.state.Literal.{Literal}
 use Rattle.scasp_search_rules.specs.declared.states.state.Made.{Made}
 use Rattle.scasp_search_rules.specs.declared.states.state.State.{State}
-use Rattle.scasp_syntax.specs.Same.{same_bool}
+use Rattle.scasp_syntax.specs.Same.{same_bool, same_number}
+use Rattle.scasp_syntax.specs.Tm.{Tm, Tms, var, num, app, nil, cons}
+use Rattle.scasp_syntax.specs.Values.{all_under}
 use Rattle.scasp_syntax.specs.declared.atom.Lit.{Lit}
 use Rattle.scasp_syntax.specs.declared.con.Con.{Con}
+use Rattle.scasp_unify.specs.Solving.{sub_of}
 use Rattle.scasp_unify.specs.declared.bindings.Binding.{Binding}
 
 -- the two have one sign and one name, whatever their arguments
@@ -25,6 +28,10 @@ is_left_firm cases a = a.is_done && is_firm a && list_all (λ k. among k cases) 
 abbrev pub is_seen : List Binding → List ℕ → Lit → Literal → Bool
 is_seen bs cases l a = is_left_firm cases a && is_same (reading bs) l a
 
+-- it is open and is this one
+abbrev pub is_repeated : State → Lit → Literal → Bool
+is_repeated s l a = not a.is_done && is_same s l a
+
 abbrev pub is_not : (Literal → Bool) → Literal → Bool
 is_not p a = not (p a)
 
@@ -36,3 +43,35 @@ standing made bs ls = record nothing { made = made; bound = bs; literals = ls }
 abbrev pub only_if : Bool → Con → List Con
 only_if true c = c ∷ []
 only_if false c = []
+
+-- ---- first arguments that clash
+
+-- the two begin in different ways, whatever their variables stand for
+abbrev pub clash : Tm → Tm → Bool
+clash (var x) u = false
+clash (num q) (var y) = false
+clash (num q) (num r) = not (same_number q r)
+clash (num q) (app g us) = true
+clash (app f ts) (var y) = false
+clash (app f ts) (num r) = true
+clash (app f ts) (app g us) = not (nat_eq f g)
+
+abbrev pub clash_if : Option Tm → Option Tm → Bool
+clash_if None o = false
+clash_if (Some t) None = false
+clash_if (Some t) (Some u) = clash t u
+
+abbrev pub first_of : Tms → Option Tm
+first_of nil = None
+first_of (cons t ts) = Some t
+
+-- the first argument of the literal, as the bindings read it, clashes with this term
+abbrev pub starts_apart : List Binding → Option Tm → Lit → Bool
+starts_apart bs o l = clash_if o (first_of (all_under (sub_of bs) l.atom.args))
+
+-- it is opposite, and its first argument does not clash with this term
+abbrev pub is_opposed : State → Option Tm → Lit → Literal → Bool
+is_opposed s o l a = not (starts_apart s.bound o a.lit) && is_opposite s l a
+
+abbrev pub opposed : State → Option Tm → Lit → List Literal
+opposed s o l = if is_free s l then filter (is_opposed s o l) s.literals else []

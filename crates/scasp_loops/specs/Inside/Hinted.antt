@@ -1,5 +1,5 @@
 -- What is known of the literals before each one.
-use Rattle.std.specs.Prelude.{◌≡◌, ◌≤◌, ◌<◌, ◌+◌, ◌*◌, ◌%◌, ℕ, Bool, true, not, nat_eq, if◌then◌else◌, List, [], ◌∷◌, length, slice_get, slice_index, Some, ⊤}
+use Rattle.std.specs.Prelude.{◌≡◌, ◌≤◌, ◌<◌, ◌+◌, ◌*◌, ◌%◌, ℕ, Bool, true, not, ◌||◌, nat_eq, if◌then◌else◌, List, [], ◌∷◌, length, slice_get, slice_index, Some, ⊤}
 use Rattle.scasp_loops.specs.declared.hints.Hint.{Hint}
 use Rattle.scasp_search_rules.specs.declared.states.state.Literal.{Literal}
 use Rattle.scasp_syntax.specs.Values.{are_ground}
@@ -25,6 +25,10 @@ is_other k a = not (nat_eq (lit_key a.lit) k)
 abbrev pub is_done : Literal → Bool
 is_done a = a.is_done
 
+-- it has another key, or is done
+abbrev pub is_past : ℕ → Literal → Bool
+is_past k a = is_other k a || a.is_done
+
 abbrev pub has_no_variable : Literal → Bool
 has_no_variable a = are_ground a.lit.atom.args
 
@@ -33,6 +37,7 @@ has_no_variable a = are_ground a.lit.atom.args
 -- what the hint says of those before this place is so
 pub record IsHint (ls : List Literal) (at : ℕ) (h : Hint) : Type 0 where
   pub same : Within (is_other h.key) h.same at ls
+  pub around : Within (is_past h.key) h.around at ls
   pub undone : Within is_done h.undone at ls
   pub varied : Within has_no_variable h.varied at ls
 

@@ -1,11 +1,8 @@
 -- Literals of which some change.
-use Rattle.std.specs.Prelude.{◌≡◌, ◌≤◌, ◌<◌, ℕ, zero, suc, Bool, true, List, [], ◌∷◌, length, ⊤}
+use Rattle.std.specs.Prelude.{◌≡◌, ℕ, zero, suc, true, List, [], ◌∷◌, ⊤}
 use Rattle.scasp_loops.specs.Inside.Hinted.{AreHinted, AreHintedEach, lit_key}
 use Rattle.scasp_loops.specs.Inside.Topped.{AreTopped}
 use Rattle.scasp_loops.specs.Inside.Zipped.{Fit, literals_each, literals_from}
-use Rattle.scasp_loops.specs.declared.entry.Entry.{Entry}
-use Rattle.scasp_loops.specs.declared.entry.Marks.{Marks}
-use Rattle.scasp_loops.specs.declared.hints.Hint.{Hint}
 use Rattle.scasp_loops.specs.declared.lists.Lists.{Lists}
 use Rattle.scasp_search_rules.specs.declared.states.state.Literal.{Literal}
 use Rattle.scasp_syntax.specs.Values.{are_ground}

@@ -1,13 +1,18 @@
 -- Literals that are open.
-use Rattle.std.specs.Prelude.{◌≡◌, ℕ, Bool, true, false, not, if◌then◌else◌, Option, None, Some, List, [], ◌∷◌, filter, reverse, slice_get, take}
+use Rattle.std.specs.Prelude.{◌≡◌, ◌+◌, ℕ, Bool, true, false, not, if◌then◌else◌, Option, None, Some, List, [], ◌∷◌, filter, length, reverse, slice_get, take}
 use Rattle.scasp_loops.specs.Held.{literal_of}
+use Rattle.scasp_loops.specs.Inside.Asked.{is_not, is_repeated}
+use Rattle.scasp_loops.specs.Inside.Hinted.{Within}
 use Rattle.scasp_loops.specs.Inside.Zipped.{literals_from}
 use Rattle.scasp_loops.specs.declared.entry.Entry.{Entry}
 use Rattle.scasp_loops.specs.declared.entry.Marks.{Marks}
+use Rattle.scasp_readings.specs.Readings.{reading}
 use Rattle.scasp_search_rules.specs.Successors.Calls.{ancestors, leave_literal, marked}
 use Rattle.scasp_search_rules.specs.Successors.Search.{nothing}
 use Rattle.scasp_search_rules.specs.declared.states.state.Literal.{Literal}
 use Rattle.scasp_search_rules.specs.declared.states.state.State.{State}
+use Rattle.scasp_syntax.specs.declared.atom.Lit.{Lit}
+use Rattle.scasp_unify.specs.declared.bindings.Binding.{Binding}
 
 abbrev pub open_among : List Literal → List Literal
 open_among ls = filter (λ a. not a.is_done) (reverse ls)
@@ -37,3 +42,8 @@ looped_out ls = (marked (ancestors (holding ls)) (holding ls)).literals
 -- the literals where the innermost one that is open is done
 abbrev pub left : List Literal → List Literal
 left ls = (leave_literal (holding ls)).literals
+
+-- the last literal that is open and is this one, as the bindings read both, stands at this place
+pub record IsLast (bs : List Binding) (l : Lit) (at : ℕ) (ls : List Literal) : Type 0 where
+  pub there : (a : Literal) → slice_get ls at ≡ Some a → is_repeated (reading bs) l a ≡ true
+  pub behind : Within (is_not (is_repeated (reading bs) l)) (at + 1) (length ls) ls

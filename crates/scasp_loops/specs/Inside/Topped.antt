@@ -1,5 +1,5 @@
 -- How far the variables go with which literals start.
-use Rattle.std.specs.Prelude.{◌≡◌, ◌<◌, ℕ, Bool, false, List, [], ◌∷◌, slice_get, Option, None, Some, ⊤}
+use Rattle.std.specs.Prelude.{◌≡◌, ◌<◌, ℕ, false, List, [], ◌∷◌, slice_get, Option, None, Some, ⊤}
 use Rattle.scasp_bound.specs.Bounds.{as_variable}
 use Rattle.scasp_loops.specs.declared.entry.Entry.{Entry}
 use Rattle.scasp_loops.specs.declared.hints.Hint.{Hint}

@@ -1,4 +1,4 @@
-use Rattle.std.proofs.Common.{true, List, ap, refl, slice_get, sym, ◌∙◌}
+use Rattle.std.proofs.Common.{List, ap, slice_get, sym, ◌∙◌}
 use Rattle.scasp_loops.specs.declared.entry.Marks.{Marks}
 use Rattle.scasp_trail.specs.Past.{Past}
 use Rattle.scasp_loops.proofs.HintLemmas.{stay_equal, stay_set}

@@ -1,4 +1,4 @@
-use Rattle.std.proofs.Common.{◌≡◌, ◌≤◌, ◌<◌, ℕ, List, length}
+use Rattle.std.proofs.Common.{◌≡◌, ◌≤◌, ℕ, List, length}
 use Rattle.scasp_loops.specs.Inside.Hinted.{AreHints, Within, has_no_variable}
 use Rattle.scasp_loops.specs.Inside.Topped.{AreTops}
 use Rattle.scasp_loops.specs.Inside.Zipped.{literals_from}

@@ -15,6 +15,7 @@ returns-clause-known c =
       c.key_of-key.ensures,
       record {
         same = subst (λ (k : ℕ). Within (is_other c.key_of-key.result) c.same_among-same.result k ls) count (c.same_among-same.ensures.others ls c.requires.hinted.latest all);
+        around = c.open_same-around.ensures.others;
         undone = subst (λ (k : ℕ). Within is_done k n ls) (sym count) (none_within is_done n ls);
         varied = c.in_ok-varied.ensures;
       },
