@@ -1,8 +1,9 @@
 -- States in front that are left out.
-use Rattle.std.specs.Prelude.{◌≡◌, ℕ, Bool, true, false, None, Some, List, [], ◌∷◌, ◌++◌, slice_get, refl}
+use Rattle.std.specs.Prelude.{◌≡◌, ℕ, Bool, true, false, None, Some, List, [], ◌∷◌, ◌++◌, map, slice_get, refl}
 use Rattle.std.proofs.Common.{inl, inr, ap, subst, sym, ◌∙◌}
 use Rattle.std.proofs.lemmas.Bool.{true≢false}
 use Rattle.scasp_search_rules.specs.declared.states.state.State.{State}
+use Rattle.scasp_search_rules.specs.Successors.Calls.{by_rule}
 use Rattle.scasp_search_state.specs.Choices.{Forked, Point, Taken, left, rules_behind, states, waiting}
 use Rattle.scasp_search_state.specs.declared.choice.Choice.{Choice}
 use Rattle.scasp_search_state.specs.declared.choice.Choice.TheVariants as choice
@@ -62,11 +63,24 @@ clash_skipped p l e first last rule r c before s rest h =
     both-skipped p (left p (choice.ByRules l first) s ++ rest) (left p (choice.ByRules l last) s ++ rest) (left p (choice.ByRules l rule) s ++ rest) (before s rest h)
     (rw r (inr (comes-to-nothing p s l rule e h c, none_skipped p (left p (choice.ByRules l rule) s ++ rest))))
 
-pub gone_behind : (may : Bool) (p : Program) (l : Lit) (behind last : ℕ) (s : State) (e : Expected) → ExpectsFirst s l.atom.args e → (may ≡ false → e ≡ expected.Open) → (e ≡ expected.Open → last ≡ behind)
+pub near_skipped : (p : Program) (l : Lit) (e : Expected) (first last near : ℕ) → rules_behind p l near ≡ rules_behind p l last
+    → ((s : State) (rest : List State) → ExpectsFirst s l.atom.args e → Skips p (left p (choice.ByRules l first) s ++ rest) (left p (choice.ByRules l last) s ++ rest))
+    → (s : State) (rest : List State) → ExpectsFirst s l.atom.args e → Skips p (left p (choice.ByRules l first) s ++ rest) (left p (choice.ByRules l near) s ++ rest)
+near_skipped p l e first last near q before s rest h =
+    subst (λ (ks : List ℕ). Skips p (left p (choice.ByRules l first) s ++ rest) (map (by_rule p s l) ks ++ rest)) (sym q) (before s rest h)
+
+pub near_open : (p : Program) (l : Lit) (e : Expected) (behind last near : ℕ) → rules_behind p l near ≡ rules_behind p l last → (e ≡ expected.Open → last ≡ behind) → e ≡ expected.Open
+    → rules_behind p l near ≡ rules_behind p l behind
+near_open p l e behind last near q n o = q ∙ ap (rules_behind p l) (n o)
+
+pub last_open : (p : Program) (l : Lit) (e : Expected) (behind last : ℕ) → (e ≡ expected.Open → last ≡ behind) → e ≡ expected.Open → rules_behind p l last ≡ rules_behind p l behind
+last_open p l e behind last n o = ap (rules_behind p l) (n o)
+
+pub gone_behind : (may : Bool) (p : Program) (l : Lit) (behind last : ℕ) (s : State) (e : Expected) → ExpectsFirst s l.atom.args e → (may ≡ false → e ≡ expected.Open) → (e ≡ expected.Open → rules_behind p l last ≡ rules_behind p l behind)
     → ((t : State) (rest : List State) → ExpectsFirst t l.atom.args e → Skips p (left p (choice.ByRules l behind) t ++ rest) (left p (choice.ByRules l last) t ++ rest))
     → (rest : List State) → SkipsIf may p (left p (choice.ByRules l behind) s ++ rest) (left p (choice.ByRules l last) s ++ rest)
 gone_behind true p l behind last s e h o n k rest = k s rest h
-gone_behind false p l behind last s e h o n k rest = ap (λ (i : ℕ). left p (choice.ByRules l i) s ++ rest) (n (o refl))
+gone_behind false p l behind last s e h o n k rest = ap (λ (ks : List ℕ). map (by_rule p s l) ks ++ rest) (n (o refl))
 
 -- ---- choices
 

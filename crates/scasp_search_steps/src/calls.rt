@@ -22,7 +22,7 @@ fn new_call<M: Foresees>(
 ) -> Result<bool, SearchErr>
     ensures { ForksIf M.foresees program.now (unrepeated program.now sat (M.now at.old) lit.now []) (M.now at.new) (M.points at.new) (M.points at.old) result }
 {
-    let apart = at.opposites(alloc, lit)?;
+    let apart = at.unclear_opposites(alloc, lit)?;
     match assume_all(alloc, at, apart.as_slice()) {
         Err(SearchErr::Overflow) => Err(SearchErr::Overflow),
         Err(SearchErr::Memory) => Err(SearchErr::Memory),

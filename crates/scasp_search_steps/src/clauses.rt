@@ -1,5 +1,5 @@
 //! Clauses by number, and the rules of a literal.
-ghost use Rattle.std.specs.Prelude.{◌≡◌, ◌∷◌, ℕ, [], IfOk, MatchOption, length};
+ghost use Rattle.std.specs.Prelude.{◌≡◌, ◌<◌, ◌-◌, ◌∷◌, ℕ, [], IfOk, MatchOption, length, ⊤};
 ghost use Rattle.scasp_search_rules.specs.Successors.Items.{body_of};
 ghost use Rattle.scasp_search_state.specs.Choices.{rules_behind, rules_in};
 ghost use Rattle.scasp_syntax.specs.Programs.{pred_of};
@@ -19,9 +19,10 @@ pub(crate) fn body_length(alloc: Global, program: &Program, clause: u64) -> Resu
     }
 }
 
-/// The first rule of the predicate behind so many clauses.
+/// The first rule of the predicate behind so many clauses; none stands between them and this rule.
 fn first_rule(clauses: &[Clause], atom: &Atom, behind: u64) -> Option<u64>
-    ensures { MatchOption result (rules_in clauses.now (pred_of atom.now) behind ≡ []) (λ k. rules_in clauses.now (pred_of atom.now) behind ≡ k ∷ rules_in clauses.now (pred_of atom.now) k) }
+    ensures first { MatchOption result (rules_in clauses.now (pred_of atom.now) behind ≡ []) (λ k. rules_in clauses.now (pred_of atom.now) behind ≡ k ∷ rules_in clauses.now (pred_of atom.now) k) }
+    ensures near { MatchOption result ⊤ (λ k. (0 < k) × (rules_in clauses.now (pred_of atom.now) (k - 1) ≡ rules_in clauses.now (pred_of atom.now) behind)) }
 {
     let mut place = behind as usize;
     while place < clauses.len() {
@@ -33,9 +34,10 @@ fn first_rule(clauses: &[Clause], atom: &Atom, behind: u64) -> Option<u64>
     None
 }
 
-/// The first rule of the literal behind that of this number.
+/// The first rule of the literal behind that of this number; none stands between them.
 pub(crate) fn next_rule(program: &Program, lit: &Lit, behind: u64) -> Option<u64>
-    ensures { MatchOption result (rules_behind program.now lit.now behind ≡ []) (λ k. rules_behind program.now lit.now behind ≡ k ∷ rules_behind program.now lit.now k) }
+    ensures near { MatchOption result ⊤ (λ k. (0 < k) × (rules_behind program.now lit.now (k - 1) ≡ rules_behind program.now lit.now behind)) }
+    ensures first { MatchOption result (rules_behind program.now lit.now behind ≡ []) (λ k. rules_behind program.now lit.now behind ≡ k ∷ rules_behind program.now lit.now k) }
 {
     first_rule(program.clauses.as_slice(), &lit.atom, behind)
 }

@@ -1,7 +1,10 @@
 //! Rules that come to nothing by the first argument of their heads, left out before a state is touched.
-ghost use Rattle.std.specs.Prelude.{◌≡◌, ◌++◌, Bool, IfOk, List, false};
+ghost use Rattle.std.specs.Prelude.{◌≡◌, ◌++◌, Bool, IfOk, List, false, map};
+ghost use Rattle.scasp_hint.specs.Satisfying.{sat};
+ghost use Rattle.scasp_search_rules.specs.Successors.Assumptions.{assume_all};
+ghost use Rattle.scasp_search_rules.specs.Successors.Calls.{differing, opposites};
 ghost use Rattle.scasp_search_rules.specs.declared.states.state.State.{State as ThisState};
-ghost use Rattle.scasp_search_state.specs.Choices.{left};
+ghost use Rattle.scasp_search_state.specs.Choices.{left, rules_behind};
 ghost use Rattle.scasp_search_steps.specs.Foresight.{Expects, ExpectsFirst, Skips, SkipsIf, clashes, clashes_with_name, clashes_with_number, first_clashes, head_clashes};
 ghost use Rattle.scasp_syntax.specs.Tm.{app};
 ghost use Rattle.scasp_syntax.specs.View.{tm_of};
@@ -12,7 +15,7 @@ use scasp_list::Memory;
 use scasp_name::NameId;
 use scasp_num::Rat;
 use scasp_search_state::{Choice, Situation};
-use scasp_syntax::{Lit, Program, Term, Terms};
+use scasp_syntax::{Cons, Lit, Program, Term, Terms};
 use std::alloc::Global;
 
 /// A state that tells something of terms before they are equated.
@@ -24,6 +27,11 @@ pub trait Foresees: Situation {
     fn expected(&self, alloc: Global, term: &Term) -> Result<Expected, Memory>
         ensures expects { IfOk result (Expects (Self.now self.now) (tm_of term.now)) }
         ensures open { foresees ≡ false → IfOk result (λ e. e ≡ Expected.Open) };
+
+    /// That the arguments differ from those of earlier literals of the other sign. Some of which that holds as it reads may be
+    /// left out: in order, what is left is assumed as all are.
+    fn unclear_opposites(&self, alloc: Global, lit: &Lit) -> Result<Cons, Memory>
+        ensures { IfOk result (λ made. assume_all sat made (Self.now self.now) ≡ assume_all sat (map (differing lit.now) (opposites (Self.now self.now) lit.now)) (Self.now self.now)) };
 }
 
 // ---- heads
@@ -98,16 +106,16 @@ fn expected_first<M: Foresees>(alloc: Global, at: &M, args: &Terms) -> Result<Ex
     }
 }
 
-/// The number of the last of the rules behind this one that clash one after the other, or this number.
-#[tactic(auto, using(crate::proofs::SkipLemmas::none_skipped, crate::proofs::SkipLemmas::clash_skipped, crate::proofs::SkipLemmas::open_head))]
+/// A number behind which the rules go on behind those that clash one after the other.
+#[tactic(auto, using(crate::proofs::SkipLemmas::none_skipped, crate::proofs::SkipLemmas::clash_skipped, crate::proofs::SkipLemmas::near_skipped, crate::proofs::SkipLemmas::open_head, crate::proofs::SkipLemmas::near_open, crate::proofs::SkipLemmas::last_open))]
 fn behind_clashes(program: &Program, lit: &Lit, expected: &Expected, behind: u64) -> u64
-    ensures none { expected.now ≡ Expected.Open → result ≡ behind }
+    ensures none { expected.now ≡ Expected.Open → rules_behind program.now lit.now result ≡ rules_behind program.now lit.now behind }
     ensures skips { (s : ThisState) (rest : List ThisState) → ExpectsFirst s lit.now.atom.args expected.now → Skips program.now (left program.now (Choice.ByRules lit.now behind) s ++ rest) (left program.now (Choice.ByRules lit.now result) s ++ rest) }
 {
     let mut last = behind;
     while let Some(rule) = next_rule(program, lit, last) {
         if !head_clashes(program, expected, rule) {
-            return last;
+            return rule - 1;
         }
         last = rule;
     }

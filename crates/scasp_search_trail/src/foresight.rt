@@ -9,7 +9,7 @@ use crate::parts::Parts;
 use crate::trail::Trail;
 use scasp_list::Memory;
 use scasp_search_steps::{Expected, Foresees};
-use scasp_syntax::Term;
+use scasp_syntax::{Cons, Lit, Term};
 use std::alloc::Global;
 
 /// What is known of a variable.
@@ -54,5 +54,14 @@ impl Foresees for Trail {
 
     fn expected(&self, alloc: Global, term: &Term) -> Result<Expected, Memory> {
         expected(alloc, &self.parts, term)
+    }
+
+    fn unclear_opposites(&self, alloc: Global, lit: &Lit) -> Result<Cons, Memory> {
+        let parts = &self.parts;
+        let bound = parts.store.bound();
+        let made = parts
+            .loops
+            .unclear_opposites(alloc, bound, &parts.variables, lit)?;
+        Ok(made)
     }
 }
