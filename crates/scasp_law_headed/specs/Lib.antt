@@ -1,0 +1,4 @@
+pub mod Examples
+pub mod Finished
+pub mod Good
+pub mod Reading
