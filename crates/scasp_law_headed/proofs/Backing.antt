@@ -24,11 +24,11 @@ use Rattle.scasp_syntax.specs.Values.{Sub, all_under}
 use Rattle.scasp_syntax.specs.declared.atom.Lit.{Lit}
 use Rattle.scasp_syntax.specs.declared.program.Program.{Program}
 use Rattle.scasp_unify.specs.Negations.{new_parts}
-use Rattle.scasp_law_headed.proofs.Counting.{Counts, Rises, apart-above, case-is, cases-append, lines-append, lines-rise, rises-strictly, trail-counts}
+use Rattle.scasp_law_headed.proofs.Counting.{Counts, Rises, apart-above, case-is, cases-append, lines-append, lines-rise, rises-strictly}
 use Rattle.scasp_law_headed.proofs.Fitting.{Fits, fit-begin, fit-check, fit-gives_up, fit-loop, fit-negated, fit-positive, fit-rematch, fit-rule, fit-seen, fit-test, fit-void}
 use Rattle.scasp_law_headed.proofs.Shapes.{entry, rounds}
 use Rattle.scasp_law_headed.specs.Good.{Enters, LoopsBack, SeesLine, above, apart_lines, around, ats, cats, first_tree, is_literal_line, node_at}
-use Rattle.scasp_law_headed.proofs.Views.{Begins, Case, Checks, GivesUp, GoesIn, IsNew, Leaves, Move, Negates, Numbered, Rematches, Repeats, Sees, TakesRule, TellsTest, TellsVoid, Trail, View, Want, adds, apart_cases, begins, case_numbers, checks_clause, closes, first_with, follows, gives_up, goes_in, is_negative, leaves, left_by, moves_mark, negates, opens, rematches, repeats, rests, sees, stays, takes_rule, tells_test, tells_void, want_check, want_close, want_leave, want_match, want_node, want_rule, want_void, wanted}
+use Rattle.scasp_law_headed.proofs.Views.{Begins, Case, Checks, GivesUp, GoesIn, IsNew, Leaves, Move, Negates, Numbered, Rematches, Repeats, Sees, TakesRule, TellsTest, TellsVoid, View, Want, adds, apart_cases, begins, case_numbers, checks_clause, closes, first_with, gives_up, goes_in, is_negative, leaves, left_by, moves_mark, negates, opens, rematches, repeats, rests, sees, takes_rule, tells_test, tells_void, want_check, want_close, want_leave, want_match, want_node, want_rule, want_void, wanted}
 use Rattle.scasp_law_headed.specs.Reading.{body_dues, case_lines, cases_of, is_case_line, is_plain_rule, reading}
 
 -- ---- the literals that are open
@@ -542,7 +542,3 @@ module _ (p : Program) (f : State) (v : Sub) (ls : List Line) where
         fits = with-wants a (want_close ∷ m.behind) (coming a.lines) m.wants
             (subst (λ (z : List Around). Fits p f v ls (suc (length a.lines)) (entries (ats p f v ls) (opens a.literals)) z m.behind (coming a.lines)) (rounds-dropped (cats p f v ls) a.cases) s.fits);
       }
-
-  pub trail-back : (start a : View) → Trail p f v start a → Counts start → Shape a → Shape start
-  trail-back start _ stays n sh = sh
-  trail-back start _ (follows a b t m) n sh = trail-back start a t n (move-back a b (trail-counts p f v start a t n) m sh)

@@ -1,5 +1,5 @@
 -- The trees of a finished state are good: the whole way leads back from its lines to its start.
-use Rattle.std.specs.Prelude.{◌≡◌, ℕ, suc, ◌+◌, true, List, [], ◌∷◌, ◌++◌, map, drop, length}
+use Rattle.std.specs.Prelude.{◌≡◌, ℕ, zero, suc, ◌+◌, ◌<◌, true, Some, List, [], ◌∷◌, ◌++◌, map, drop, slice_get, length}
 use Rattle.std.proofs.Common.{◌∙◌, ap, arith, refl, subst, sym}
 use Rattle.std.proofs.lemmas.List.{append-nil, drop_all}
 use Rattle.scasp_cert.specs.Lines.{lines_at, lines_below}
@@ -10,19 +10,22 @@ use Rattle.scasp_law_sorted.specs.Asking.{is_rowless}
 use Rattle.scasp_nmr.specs.declared.items.CheckItem.{CheckItem}
 use Rattle.scasp_search_rules.specs.Successors.Problems.{Problem}
 use Rattle.scasp_search_rules.specs.Successors.Search.{start}
-use Rattle.scasp_search_rules.specs.Successors.Trees.{Built, built, literal_lines}
+use Rattle.scasp_search_rules.specs.Successors.Trees.{Built, built, line_of, literal_lines}
 use Rattle.scasp_search_rules.specs.declared.states.covers.Cover.{Cover}
 use Rattle.scasp_search_rules.specs.declared.states.lines.Line.{Line}
+use Rattle.scasp_search_rules.specs.declared.states.lines.Line.TheVariants as line
 use Rattle.scasp_search_rules.specs.declared.states.state.State.{State}
 use Rattle.scasp_search_rules.specs.declared.states.tasks.Task.TheVariants as task
 use Rattle.scasp_syntax.specs.Flat.{flat_body}
 use Rattle.scasp_syntax.specs.Values.{Sub}
+use Rattle.scasp_syntax.specs.declared.atom.Lit.{Lit}
 use Rattle.scasp_syntax.specs.declared.clause.FlatItem.{FlatItem}
 use Rattle.scasp_syntax.specs.declared.clause.Query.{Query}
 use Rattle.scasp_syntax.specs.declared.program.Program.{Program}
 use Rattle.scasp_unify.specs.declared.bindings.Binding.{Binding}
 use Rattle.scasp_law_headed.proofs.Ahead.{LineFine, case_read, lines_before, view, wants-append, wants_of}
-use Rattle.scasp_law_headed.proofs.Backing.{Begun, FitsAt, Shape, coming, trail-back}
+use Rattle.scasp_law_headed.proofs.Backing.{Begun, FitsAt, Shape, coming}
+use Rattle.scasp_law_headed.proofs.Passing.{Passed, past-begun, trail-passed}
 use Rattle.scasp_law_headed.proofs.Counting.{Closed, closing, closing-wanted, trail-closed}
 use Rattle.scasp_law_headed.proofs.Fitting.{Fits, fit-trees}
 use Rattle.scasp_law_headed.proofs.Reaching.{arrived, fine-there}
@@ -32,7 +35,7 @@ use Rattle.scasp_list.proofs.EachLemmas.{Each-map}
 use Rattle.scasp_list.specs.Each.{Each}
 use Rattle.scasp_search_rules.specs.Successors.Cases.{line_under}
 use Rattle.scasp_search_rules.specs.Successors.Numbering.{line_renamed}
-use Rattle.scasp_law_headed.specs.Good.{GoodChecks, GoodTrees, ats}
+use Rattle.scasp_law_headed.specs.Good.{GoodChecks, GoodTrees, SeenRight, ats}
 use Rattle.scasp_law_headed.proofs.Views.{Trail, Want, want_check, wanted}
 use Rattle.scasp_law_headed.specs.Reading.{dues_read, line_read, reading}
 
@@ -77,6 +80,11 @@ module _ (p : Program) (f : State) (v : Sub) (ls : List Line) where
 
 -- ---- the finished state
 
+get-within : {A : Type 0} (xs : List A) (i : ℕ) (x : A) → slice_get xs i ≡ Some x → i < length xs
+get-within [] i x e = absurd (cc e)
+get-within (y ∷ ys) zero x e = omega arith
+get-within (y ∷ ys) (suc i) x e = let k = get-within ys i x e in omega (arith, k)
+
 module _ (p : Problem) (q : Query) (is : IsHeaded p q) (rowless : is_rowless p q ≡ true) (f : State) (reached : IsReachable p q f) (ended : f.work ≡ []) (v : Sub) where
   wants-begun : wants_of (reading f v) [] (start q p.checks).work ≡ wanted (dues_read (reading f v) (flat_body q.body)) ++ checking p.checks
   wants-begun =
@@ -115,20 +123,23 @@ module _ (p : Problem) (q : Query) (is : IsHeaded p q) (rowless : is_rowless p q
     );
   }
 
-  shape-begun : Shape p.program f v (told f v) (view p.program f v (start q p.checks))
-  shape-begun = trail-back p.program f v (told f v) (view p.program f v (start q p.checks)) (view p.program f v f) way (record { numbered = refl; lines = refl }) shape-ended
+  passed : Passed p.program f v (told f v) (view p.program f v (start q p.checks)) (view p.program f v f)
+  passed =
+      trail-passed p.program f v (told f v) (view p.program f v (start q p.checks)) (view p.program f v f) way (record { numbered = refl; lines = refl })
+      (λ s. past-begun p.program f v (told f v) (wants_of (reading f v) [] (start q p.checks).work)) shape-ended
 
   abbrev pub made : Built
   made = built (ats p.program f v (told f v)) (told f v)
 
   fits-begun : Fits p.program f v (told f v) 1 [] [] (wanted (dues_read (reading f v) (flat_body q.body)) ++ checking p.checks) made
-  fits-begun = subst (λ (ws : List Want). Fits p.program f v (told f v) 1 [] [] ws made) wants-begun shape-begun.fits
+  fits-begun = subst (λ (ws : List Want). Fits p.program f v (told f v) 1 [] [] ws made) wants-begun passed.shape.fits
 
   -- the trees of the lines
   pub record AreGood : Type 0 where
     pub trees : GoodTrees p.program f v (told f v) 1 [] [] (dues_read (reading f v) (flat_body q.body)) (listed made.nodes)
     pub checks : GoodChecks p.program f v (told f v) (1 + lines_below (listed made.nodes)) [] [] made.checks
     pub numbers : map (λ (c : ℕ × Branch). c.0) made.checks ≡ map (λ (i : CheckItem). i.clause) p.checks
+    pub seen : (i : ℕ) (l : Lit) (n : ℕ) → slice_get (told f v) i ≡ Some (line.Seen l n) → SeenRight p.program f v (told f v) (suc i) l (line_of (ats p.program f v (told f v)) n)
 
   pub are-good : AreGood
   are-good =
@@ -139,6 +150,7 @@ module _ (p : Problem) (q : Query) (is : IsHeaded p q) (rowless : is_rowless p q
         trees = subst (λ (z : List Tree). GoodTrees p.program f v (told f v) 1 [] [] (dues_read (reading f v) (flat_body q.body)) (listed z)) (sym same) t.good;
         checks = subst (λ (z : List Tree). GoodChecks p.program f v (told f v) (1 + lines_below (listed z)) [] [] made.checks) (sym same) c.good;
         numbers = c.numbers;
+        seen = λ i l n e. passed.past.seen i l n (subst (λ (z : List Line). i < length z) (sym lines-told) (get-within (told f v) i (line.Seen l n) e)) e;
       }
 
 -- ---- the certificate
@@ -156,4 +168,5 @@ finished-good p q f is rowless reached ended =
       trees = subst (λ (b : Built). GoodTrees p.program f v (told f v) 1 [] [] (dues_read (reading f v) (flat_body q.body)) (listed b.nodes)) same g.trees;
       checks = subst (λ (b : Built). GoodChecks p.program f v (told f v) (1 + lines_below (listed b.nodes)) [] [] b.checks) same g.checks;
       numbers = sym (ap (λ (b : Built). map (λ (c : ℕ × Branch). c.0) b.checks) same) ∙ g.numbers;
+      seen = g.seen;
     }

@@ -29,8 +29,8 @@ use Rattle.scasp_unify.specs.Negations.{new_parts}
 use Rattle.scasp_law_headed.proofs.Backing.{Shape, coming, entries, IsNext, long-one, made-next, move-back, new-line, next-line, node-next, opens-finished}
 use Rattle.scasp_law_headed.proofs.Counting.{Counts, trail-counts}
 use Rattle.scasp_law_headed.proofs.Fitting.{Fits, case-long, dropped, dues-long, fit-covers, fit-trees, head-long, taken}
-use Rattle.scasp_law_headed.proofs.Shapes.{rounds}
-use Rattle.scasp_law_headed.specs.Good.{ats, cats, first_tree, is_literal_line, line_at, node_at}
+use Rattle.scasp_law_headed.proofs.Shapes.{first_entry, rounds}
+use Rattle.scasp_law_headed.specs.Good.{SeenRight, ats, cats, first_tree, is_literal_line, line_at, node_at}
 use Rattle.scasp_law_headed.proofs.Spanning.{Ends, Spans, head_marked, node_of, spans-covers, spans-marked, spans-negative, spans-trees}
 use Rattle.scasp_law_headed.proofs.Views.{Begins, Case, Checks, GoesIn, IsCaseOf, IsNew, Leaves, Move, Negates, Repeats, Sees, TakesRule, TellsTest, TellsVoid, Trail, View, Want, adds, begins, checks_clause, closes, first_with, follows, gives_up, goes_in, leaves, left_by, moves_mark, negates, opens, rematches, repeats, rests, sees, stays, takes_rule, tells_test, tells_void, want_check, want_close, want_leave, want_match, want_node, want_rule, want_void, wanted}
 use Rattle.scasp_law_headed.specs.Reading.{body_dues, reading}
@@ -72,18 +72,13 @@ module _ (p : Program) (fin : State) (u : Sub) (ls : List Line) where
     pub ended : a.is_done ≡ true → line_of (ats p fin u ls) a.number + lines_of (node_of p fin u ls a) ≤ at
     pub firm : a.is_done ≡ true → is_firm_literal a ≡ true → is_firm (node_of p fin u ls a) ≡ true
 
-  pub record SeenRight (at : ℕ) (l : Lit) (to : ℕ) : Type 0 where
-    pub literal : is_literal_line (line_at p fin u ls to) ≡ true
-    pub node : IsTreeOf l (node_at p fin u ls to)
-    pub ended : to + lines_of (node_at p fin u ls to) ≤ at
-
   abbrev pub SpansAt : View → Type 0
   SpansAt v = Spans p fin u ls (suc (length v.lines)) true (opens v.literals) v.wants (coming p fin u ls v.lines)
 
   pub record Past (v : View) : Type 0 where
     pub spans : SpansAt v
     pub known : Each (Known (suc (length v.lines))) v.literals
-    pub seen : (i : ℕ) (l : Lit) (n : ℕ) → i < length v.lines → slice_get ls i ≡ Some (line.Seen l n) → SeenRight (suc i) l (line_of (ats p fin u ls) n)
+    pub seen : (i : ℕ) (l : Lit) (n : ℕ) → i < length v.lines → slice_get ls i ≡ Some (line.Seen l n) → SeenRight p fin u ls (suc i) l (line_of (ats p fin u ls) n)
 
   -- ---- literals
 
@@ -145,7 +140,7 @@ module _ (p : Program) (fin : State) (u : Sub) (ls : List Line) where
   -- ---- what is seen
 
   abbrev pub AreSeen : ℕ → Type 0
-  AreSeen n = (i : ℕ) (l : Lit) (k : ℕ) → i < n → slice_get ls i ≡ Some (line.Seen l k) → SeenRight (suc i) l (line_of (ats p fin u ls) k)
+  AreSeen n = (i : ℕ) (l : Lit) (k : ℕ) → i < n → slice_get ls i ≡ Some (line.Seen l k) → SeenRight p fin u ls (suc i) l (line_of (ats p fin u ls) k)
 
   below-or : (i n : ℕ) → i < suc n → (i < n) ⊎ (i ≡ n)
   below-or i n h = by (nat_lt i n) refl
@@ -154,7 +149,7 @@ module _ (p : Program) (fin : State) (u : Sub) (ls : List Line) where
       by true e = inl (lt-from i n e)
       by false e = inr (let k : i ≡ n = grind (arith, nat_tests, e, h) in k)
 
-  seen-more : (xs : List Line) (l : Line) → IsNext ls xs l → ((lit : Lit) (k : ℕ) → l ≡ line.Seen lit k → SeenRight (suc (length xs)) lit (line_of (ats p fin u ls) k))
+  seen-more : (xs : List Line) (l : Line) → IsNext ls xs l → ((lit : Lit) (k : ℕ) → l ≡ line.Seen lit k → SeenRight p fin u ls (suc (length xs)) lit (line_of (ats p fin u ls) k))
       → AreSeen (length xs) → AreSeen (length (xs ++ l ∷ []))
   seen-more xs l h this before i lit k less e =
       let in_all : i < suc (length xs) = subst (λ (n : ℕ). i < n) (long-one xs l) less in
@@ -163,7 +158,7 @@ module _ (p : Program) (fin : State) (u : Sub) (ls : List Line) where
         | inr q ↦ (
             let is : Some l ≡ Some (line.Seen lit k) = sym h.there ∙ ap (slice_get ls) (sym q) ∙ e in
             let same : l ≡ line.Seen lit k = cc is in
-            subst (λ (n : ℕ). SeenRight (suc n) lit (line_of (ats p fin u ls) k)) (sym q) (this lit k same)
+            subst (λ (n : ℕ). SeenRight p fin u ls (suc n) lit (line_of (ats p fin u ls) k)) (sym q) (this lit k same)
             )
       ]
 
@@ -379,15 +374,23 @@ module _ (p : Program) (fin : State) (u : Sub) (ls : List Line) where
 
   -- ---- the end of a literal
 
-  spans-none : (at : ℕ) (f g : Bool) (ts : List Want) (b : Built) → Spans p fin u ls at f [] ts b → Spans p fin u ls at g [] ts b
-  spans-none at f g ts b h = spans-negative p fin u ls at f g [] ts b tt h
+  -- where no literal is open, none has an end that is to come
+  spans-none : (at : ℕ) (firm : Bool) (ts : List Want) (b : Built) → Spans p fin u ls at firm [] ts b
+  spans-none at firm [] b = tt
+  spans-none at firm (want_node d ∷ ts) b = spans-none (at + lines_of (first_tree b.nodes)) (firm && is_firm (first_tree b.nodes)) ts (record b { nodes = drop 1 b.nodes })
+  spans-none at firm (want_rule a k ∷ ts) b = spans-none (at + (1 + lines_at (first_entry b.covers).1)) true ts (record b { covers = drop 1 b.covers })
+  spans-none at firm (want_check k c ∷ ts) b = spans-none (at + (1 + lines_at (first_entry b.checks).1)) true ts (record b { checks = drop 1 b.checks })
+  spans-none at firm (want_match bs ps k first ∷ ts) b = spans-none (at + lines_at (first_case b.cases)) true ts (record b { cases = drop 1 b.cases })
+  spans-none at firm (want_void ∷ ts) b = spans-none (at + lines_at (first_case b.cases)) true ts (record b { cases = drop 1 b.cases })
+  spans-none at firm (want_leave ∷ ts) b = spans-none at true ts b
+  spans-none at firm (want_close ∷ ts) b = spans-none at true ts b
 
   -- what is left where the literal ends, by whether its mark moves on
   spans-left : (at : ℕ) (a : Literal) (rest : List Literal) (ts : List Want) (b : Built) (firm : Bool)
       → is_firm (node_of p fin u ls a) ≡ firm → Ends p fin u ls a at true
       → Spans p fin u ls at firm rest ts b → moves_mark a rest ≡ false → Spans p fin u ls at true rest ts b
   spans-left at a rest ts b true e n h k = h
-  spans-left at a [] ts b false e n h k = spans-none at false true ts b h
+  spans-left at a [] ts b false e n h k = spans-none at true ts b
   spans-left at a (x ∷ rest) ts b false e n h k = by a.loops a.lit.positive x.lit.positive refl refl refl k
     where
       by : (l y q : Bool) → a.loops ≡ l → a.lit.positive ≡ y → x.lit.positive ≡ q → (l && y && q) ≡ false → Spans p fin u ls at true (x ∷ rest) ts b
@@ -476,19 +479,19 @@ module _ (p : Program) (fin : State) (u : Sub) (ls : List Line) where
       let h = next-line ls v.lines l shape.begun in
       let later = known-later (suc (length v.lines)) (suc (suc (length v.lines))) (omega arith) v.literals pt.known in
       let one = known-among (suc (length v.lines)) v.literals m.one m.told pt.known in
-      let right : SeenRight (suc (length v.lines)) m.lit (line_of (ats p fin u ls) m.one.number) =
+      let right : SeenRight p fin u ls (suc (length v.lines)) m.lit (line_of (ats p fin u ls) m.one.number) =
       record {
         literal = one.literal;
         node = subst (λ (z : Lit). IsTreeOf z (node_of p fin u ls m.one)) m.same
             (node-tree m.one.lit (node_of p fin u ls m.one) one.node (one.firm m.done m.firm));
         ended = one.ended m.done;
       } in
-      let this : (lit : Lit) (k : ℕ) → l ≡ line.Seen lit k → SeenRight (suc (length v.lines)) lit (line_of (ats p fin u ls) k) =
+      let this : (lit : Lit) (k : ℕ) → l ≡ line.Seen lit k → SeenRight p fin u ls (suc (length v.lines)) lit (line_of (ats p fin u ls) k) =
       λ lit k e. (
       let same : m.lit ≡ lit = cc e in
       let number : m.one.number ≡ k = cc e in
-      subst (λ (z : Lit). SeenRight (suc (length v.lines)) z (line_of (ats p fin u ls) k)) same
-      (subst (λ (z : ℕ). SeenRight (suc (length v.lines)) m.lit (line_of (ats p fin u ls) z)) number right)
+      subst (λ (z : Lit). SeenRight p fin u ls (suc (length v.lines)) z (line_of (ats p fin u ls) k)) same
+      (subst (λ (z : ℕ). SeenRight p fin u ls (suc (length v.lines)) m.lit (line_of (ats p fin u ls) z)) number right)
       ) in
       subst Past (sym m.next) (past-line v l v.literals v.cases m.behind later (seen-more v.lines l h this pt.seen) (subst SpansAt m.next (spans-sees v w m h pt.spans)))
 
@@ -601,6 +604,13 @@ module _ (p : Program) (fin : State) (u : Sub) (ls : List Line) where
         known = pt.known;
         seen = pt.seen;
       })
+
+  pub past-begun : (ws : List Want) → Past (record { lines = []; literals = []; cases = []; wants = ws })
+  past-begun ws = record {
+    spans = spans-none 1 true ws (coming p fin u ls []);
+    known = tt;
+    seen = λ i l n less e. absurd (omega (arith, less));
+  }
 
   -- the whole trail: back from the last view and on from the first
   pub record Passed (start v : View) : Type 0 where

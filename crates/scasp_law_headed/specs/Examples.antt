@@ -23,7 +23,7 @@ is_none [] = true
 is_none (t ∷ ts) = false
 
 -- nothing is left to do
-abbrev is_finished : State → Bool
+abbrev pub is_finished : State → Bool
 is_finished s = is_none s.work
 
 -- ---- p(f(X), Y) :- Y \= b, not q(X, Y). q(c, a). ?- p(Z, W), not p(Z, a). Terms and a disequation, and a case of q(c, a) that is void.

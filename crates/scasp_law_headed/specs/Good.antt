@@ -1,8 +1,9 @@
 -- Trees as the lines of the search make them, as they read in the certificate.
-use Rattle.std.specs.Prelude.{◌≡◌, ⊤, ℕ, suc, pred, ◌+◌, ◌<◌, Bool, true, false, not, Option, Some, None, List, [], ◌∷◌, ◌++◌, drop, length, map}
+use Rattle.std.specs.Prelude.{◌≡◌, ⊤, ℕ, suc, pred, ◌+◌, ◌<◌, ◌≤◌, Bool, true, false, not, Option, Some, None, List, [], ◌∷◌, ◌++◌, drop, length, map}
 use Rattle.std.specs.List.{filter, list_all}
 use Rattle.scasp_checker_rules.specs.Ancestors.{entry_at, is_negated_before}
 use Rattle.scasp_cert.specs.Lines.{lines_of, lines_at}
+use Rattle.scasp_checker_rules.specs.Accepted.{IsTreeOf}
 use Rattle.scasp_cert.specs.Trees.{Tree, Trees, Branch, Branches, pos_tree, neg_tree, loop_tree, seen_tree, test_tree, no_tree, tree, split, void, leaf, head, no_branch, branch}
 use Rattle.scasp_lines.specs.Below.{rule_numbers}
 use Rattle.scasp_lines.specs.Dues.{Due, goal, fact, nothing}
@@ -87,6 +88,12 @@ module _ (p : Program) (f : State) (v : Sub) (ls : List Line) where
     pub line : line_at at ≡ Some (line.Seen lit number)
     pub to_is : to ≡ line_of ats number
     pub scope : list_all (λ k. among (line_of cats k) (map (λ c. c.at) rs)) (cases_of p f v number) ≡ true
+
+  -- The tree on line `to` is of the literal, no loop leads out of it, and it ends before the other line.
+  pub record SeenRight (at : ℕ) (l : Lit) (to : ℕ) : Type 0 where
+    pub literal : is_literal_line (line_at to) ≡ true
+    pub node : IsTreeOf l (node_at to)
+    pub ended : to + lines_of (node_at to) ≤ at
 
   abbrev pub ChecksLine : ℕ → ℕ → Type 0
   ChecksLine at k = (first : ℕ) × (line_at at ≡ Some (line.Check k first))
