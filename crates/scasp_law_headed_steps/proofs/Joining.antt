@@ -1,8 +1,8 @@
 -- What comes of a state where two terms that differ are equated: one binding more, and maybe a number test and more equations.
 use Rattle.std.specs.List.{list_all}
-use Rattle.std.specs.Prelude.{Bool, List, [], false, if◌then◌else◌, length, map, max, min, nat_eq, nat_lt, not, true, zero, ℕ, ◌&&◌, ◌++◌, ◌<◌, ◌∷◌, ◌≡◌, ◌≤◌}
-use Rattle.std.proofs.Common.{ap, append_assoc, arith, refl, subst, suc, sym, ◌∙◌, ◌≢◌}
-use Rattle.std.proofs.lemmas.Bool.{and_parts, eqb-false, eqb-true, ltb-false, ltb-true, ne_eqb, or_parts, true≢false}
+use Rattle.std.specs.Prelude.{Bool, List, [], false, if◌then◌else◌, length, map, max, min, nat_eq, nat_lt, not, true, zero, ℕ, ◌&&◌, ◌++◌, ◌<◌, ◌∷◌, ◌≡◌, ◌≤◌, ◌⊎◌}
+use Rattle.std.proofs.Common.{ap, append_assoc, arith, inl, inr, refl, subst, suc, sym, ◌∙◌, ◌≢◌}
+use Rattle.std.proofs.lemmas.Bool.{and_parts, eqb-false, eqb-true, ltb-false, ltb-true, ne_eqb, or_cases, or_parts, true≢false}
 use Rattle.std.proofs.lemmas.List.{append-nil, map-append}
 use Rattle.std.proofs.lemmas.List.Elements.{Contains-push}
 use Rattle.scasp_hint.proofs.SatisfyingLemmas.{sat-sorted}
@@ -165,6 +165,8 @@ pub record Joins (s : State) (t u : Tm) (r : State) : Type 0 where
   pub left : List Pair
   pub work : r.work ≡ equations_of left ++ s.work
   pub same : (v : Sub) → Each (Equal v) (map equation r.bound) → Each (PairEqual v) left → under v t ≡ under v u
+  pub case_count : r.cases ≡ s.cases
+  pub binders : (z : ℕ) → is_bound_in more_bound z ≡ true → (t ≡ var z) ⊎ (u ≡ var z)
 
 -- no equation is left
 abbrev pub JoinsAlone : State → Tm → Tm → State → Type 0
@@ -175,6 +177,13 @@ pub last-equal : (bs : List Binding) (x : ℕ) (t : Tm) (v : Sub) → Each (Equa
 last-equal bs x t v h =
     Each-member (Equal v) (map equation (bs ++ binding x t ∷ [])) (equation (binding x t)) h (Contains-map equation (bs ++ binding x t ∷ []) (binding x t) (Contains-push bs (binding x t)))
     ∙ ap (under v) (viewed t)
+
+one-binder : (x : ℕ) (t : Tm) (z : ℕ) → is_bound_in (binding x t ∷ []) z ≡ true → x ≡ z
+one-binder x t z e = by (or_cases (nat_eq x z) false e)
+  where
+    by : (nat_eq x z ≡ true) ⊎ (false ≡ true) → x ≡ z
+    by (inl h) = eqb-true x z h
+    by (inr h) = absurd (true≢false (sym h))
 
 -- one binding more
 bound-joins : (s : State) (x : ℕ) (t : Tm) → Kept s → is_bound_in s.bound x ≡ false → EachVar (λ y. (is_bound_in s.bound y ≡ false) × (y ≢ x)) t → EachState (JoinsAlone s (var x) t) (bound_if sat (bind s x t)).states
@@ -197,6 +206,8 @@ bound-joins s x t h e k = by (sat (holds_of (bind s x t))) refl
           left = [];
           work = refl;
           same = λ v m n. last-equal s.bound x t v m;
+          case_count = refl;
+          binders = λ z f. inl (ap var (one-binder x t z f));
         },
         refl,
       ),
@@ -217,7 +228,13 @@ turned-joins s t u r j = record {
   left = j.left;
   work = j.work;
   same = λ v m n. sym (j.same v m n);
+  case_count = j.case_count;
+  binders = λ z f. turned (j.binders z f);
 }
+  where
+    turned : {A B : Type 0} → A ⊎ B → B ⊎ A
+    turned (inl a) = inr a
+    turned (inr b) = inl b
 
 turned-alone : (s : State) (t u : Tm) (r : State) → JoinsAlone s t u r → JoinsAlone s u t r
 unfolding turned-joins
@@ -288,6 +305,8 @@ module _ (s : State) (solved : Solved (length s.made) s.bound) (bindings : Each 
         left = j.left;
         work = j.work;
         same = j.same;
+        case_count = j.case_count;
+        binders = j.binders;
       }
 
       by : (b : Bool) → b ≡ false
@@ -312,6 +331,8 @@ module _ (s : State) (solved : Solved (length s.made) s.bound) (bindings : Each 
     left = j.left;
     work = j.work;
     same = j.same;
+    case_count = j.case_count;
+    binders = j.binders;
   }
 
   pub number-joins : (x : ℕ) (q : Number) → Found s x → EachState (JoinsAlone s (var x) (num q)) (variable_number sat s x q).states
@@ -358,7 +379,13 @@ module _ (s : State) (solved : Solved (length s.made) s.bound) (bindings : Each 
         same = λ v m e.
             j.same v m (Each-right (PairEqual v) (pairs new ts) j.left e)
             ∙ ap (app f) (args-equal v new ts (parts-many (next_variable s) (length (items ts))) (Each-left (PairEqual v) (pairs new ts) j.left e));
+        case_count = j.case_count;
+        binders = λ z k. by z (j.binders z k);
       }
+        where
+          by : (z : ℕ) → (var x ≡ var z) ⊎ (app f (new_parts (next_variable s) (length (items ts))) ≡ var z) → (var x ≡ var z) ⊎ (app f ts ≡ var z)
+          by z (inl k) = inl k
+          by z (inr k) = absurd (cc k)
 
       by : (b : Bool) → EachState (Joins s (var x) (app f ts)) (if b then fails else each (before (equations (new_parts (next_variable s) (length (items ts))) ts)) (becomes_shape sat s x f (length (items ts)))).states
       by true = tt

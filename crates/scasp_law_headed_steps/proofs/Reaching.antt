@@ -218,7 +218,7 @@ module _ (p : Program) (headed : list_all is_headed p.clauses ≡ true) (s : Sta
 -- ---- all steps
 
 module _ (p : Problem) (q : Query) (is : IsHeaded p q) where
-  parts-of : (list_all is_headed p.program.clauses ≡ true) × (list_all (λ i. nat_eq (vars_of_clause p.program i.clause) 0) p.checks ≡ true)
+  pub parts-of : (list_all is_headed p.program.clauses ≡ true) × (list_all (λ i. nat_eq (vars_of_clause p.program i.clause) 0) p.checks ≡ true)
   parts-of = and_parts (list_all is_headed p.program.clauses) (list_all (λ i. nat_eq (vars_of_clause p.program i.clause) 0) p.checks) is.program
 
   first-firm : (z : ℕ) → z < length q.names → Firm (start q p.checks) z

@@ -53,21 +53,21 @@ abbrev parts_cases : State → Bool
 parts_cases s = has_universal_made s || list_any is_split s.lines
 
 -- so it is with some state that the walk meets within so many steps
-abbrev some_within : (State → Bool) → ℕ → Problem → Query → List State → Bool
+abbrev pub some_within : (State → Bool) → ℕ → Problem → Query → List State → Bool
 some_within f zero p q ss = false
 some_within f (suc n) p q [] = false
 some_within f (suc n) p q (s ∷ ss) = f s || some_within f n p q ((search_for p q).next s ++ ss)
 
-abbrev p : Tms → Atom
+abbrev pub p : Tms → Atom
 p ts = atom 2 ts
 
-abbrev q : Tms → Atom
+abbrev pub q : Tms → Atom
 q ts = atom 3 ts
 
-abbrev two : Tm → Tm → Tms
+abbrev pub two : Tm → Tm → Tms
 two t u = cons t (cons u nil)
 
-abbrev a : Tm
+abbrev pub a : Tm
 a = constant 6
 
 -- ---- p(f(X), Y) :- X #> 3, Y \= b, not q(X, Y). q(7, a). ?- p(Z, W), not p(Z, a). Terms, a disequation and a row.
@@ -79,13 +79,13 @@ seven = record { num = pos 7; den = pos 1; reduced = IsReduced-from_test (pos 7)
 abbrev above : Item
 above = LinearItem (record { vars = 0 ∷ []; row = row 0 (negsuc 0) (pos 3) op.Lt })
 
-abbrev ask_p : Query
+abbrev pub ask_p : Query
 ask_p = record {
   body = Call (is_true (p (two (var 0) (var 1)))) ∷ Call (is_not (p (two (var 0) a))) ∷ [];
   names = None ∷ None ∷ [];
 }
 
-abbrev rows : Program
+abbrev pub rows : Program
 unfolding gcd gcd_within
 rows =
     program
@@ -110,10 +110,10 @@ rows_parts_none = refl
 
 -- ---- p(X) :- not q(X). q(X) :- not p(X). ?- p(Z). It loops through negation.
 
-abbrev ask_loop : Query
+abbrev pub ask_loop : Query
 ask_loop = record { body = Call (is_true (p (one (var 0)))) ∷ []; names = None ∷ [] }
 
-abbrev even : Program
+abbrev pub even : Program
 even =
     program
     (rule 1 (p (one (var 0))) (Call (is_not (q (one (var 0)))) ∷ [])

@@ -1,0 +1,16 @@
+pub mod Ahead
+pub mod Backing
+pub mod Calls
+pub mod Casing
+pub mod Counting
+pub mod Ending
+pub mod Fitting
+pub mod Literals
+pub mod Matching
+pub mod Passing
+pub mod Reaching
+pub mod Readings
+pub mod Shapes
+pub mod Spanning
+pub mod Tests
+pub mod Views

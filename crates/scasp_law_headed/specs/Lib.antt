@@ -1,0 +1,5 @@
+pub mod Examples
+pub mod Finished
+pub mod Good
+pub mod Reading
+pub mod Wide
