@@ -72,11 +72,11 @@ a = constant 6
 
 -- ---- p(f(X), Y) :- X #> 3, Y \= b, not q(X, Y). q(7, a). ?- p(Z, W), not p(Z, a). Terms, a disequation and a row.
 
-abbrev seven : Number
+abbrev pub seven : Number
 unfolding gcd gcd_within
 seven = record { num = pos 7; den = pos 1; reduced = IsReduced-from_test (pos 7) (pos 1) refl }
 
-abbrev above : Item
+abbrev pub above : Item
 above = LinearItem (record { vars = 0 ∷ []; row = row 0 (negsuc 0) (pos 3) op.Lt })
 
 abbrev pub ask_p : Query
