@@ -1,12 +1,11 @@
--- Programs to which the law applies, with states that have nothing left to do; and one to which it does not.
+-- Programs to which the law applies, with states that have nothing left to do.
 use Rattle.std.specs.Prelude.{◌≡◌, Bool, true, false, List, [], ◌∷◌}
 use Rattle.std.proofs.Common.{refl}
 use Rattle.scasp_checker_rules.specs.ExampleWords.{program}
 use Rattle.scasp_law_headed_steps.specs.Calm.{IsHeaded}
-use Rattle.scasp_law_headed_steps.specs.Examples.{a, ask_loop, ask_p, even, p, q, rows, some_within, two}
+use Rattle.scasp_law_headed_steps.specs.Examples.{a, ask_loop, ask_p, even, p, q, some_within, two}
 use Rattle.scasp_law_sorted.specs.Asking.{is_rowless}
 use Rattle.scasp_lines.specs.Samples.{constant, is_not, one, rule}
-use Rattle.scasp_num.specs.Gcd.{gcd, gcd_within}
 use Rattle.scasp_rows.specs.PlainRows.{is_met}
 use Rattle.scasp_search_rules.specs.Successors.ExampleWords.{problem}
 use Rattle.scasp_search_rules.specs.Successors.Search.{start}
@@ -53,9 +52,3 @@ even_is_rowless = refl
 even_finishes : some_within is_finished 60 (problem even []) ask_loop (start ask_loop [] ∷ []) ≡ true
 unfolding is_met unifier
 even_finishes = refl
-
--- ---- a linear item: the law does not apply
-
-rows_is_none : is_rowless (problem rows []) ask_p ≡ false
-unfolding gcd gcd_within
-rows_is_none = refl

@@ -5,6 +5,7 @@ use Rattle.std.proofs.Common.{refl}
 use Rattle.scasp_checker_rules.specs.ExampleWords.{program, row}
 use Rattle.scasp_law_headed_steps.specs.Calm.{IsHeaded}
 use Rattle.scasp_law_headed_steps.specs.Examples.{p, q, some_within, two}
+use Rattle.scasp_law_sorted.specs.Asking.{is_rowless}
 use Rattle.scasp_lines.specs.Dues.{Due, fact, goal, nothing}
 use Rattle.scasp_lines.specs.Samples.{is_not, is_true, rule}
 use Rattle.scasp_num.specs.Arithmetic.{IsReduced-from_test}
@@ -64,6 +65,11 @@ wide =
 wide_is_headed : IsHeaded (problem wide []) ask_wide
 unfolding gcd gcd_within
 wide_is_headed = record { program = refl; query = refl; test = refl }
+
+-- the law does not apply
+wide_is_none : is_rowless (problem wide []) ask_wide ≡ false
+unfolding gcd gcd_within
+wide_is_none = refl
 
 abbrev is_nothing : Due → Bool
 is_nothing (fact None) = true
