@@ -40,12 +40,7 @@ fn placed_one(
 }
 
 /// The constraints that are no equations, as the bindings make them, where each variable is its place.
-fn placed(
-    alloc: Global,
-    list: &[Con],
-    bindings: &[Binding],
-    by: &Placing,
-) -> Result<Cons, Memory>
+fn placed(alloc: Global, list: &[Con], bindings: &[Binding], by: &Placing) -> Result<Cons, Memory>
     ensures { IfOk result (λ made. made ≡ placed (sub_of bindings.now) by.now.all.now list.now) }
 {
     let mut made = Cons::new(alloc);
@@ -59,12 +54,7 @@ fn placed(
 
 /// Values for these variables by a list, where the names of those that are no numbers start with `fresh`. Overflow exactly
 /// where the list's bindings cannot replace a row in the range of the numbers, or where the arithmetic of the sample overflows.
-fn sample_of(
-    alloc: Global,
-    fresh: u64,
-    order: &VarList,
-    list: &[Con],
-) -> Result<Terms, RowErr>
+fn sample_of(alloc: Global, fresh: u64, order: &VarList, list: &[Con]) -> Result<Terms, RowErr>
     ensures { Gives result (sampled fresh order.now list.now) }
 {
     let resolver = resolver_of(alloc, list)?;
