@@ -6,4 +6,5 @@ pub mod PairLemmas
 pub mod PieceLemmas
 pub mod PlaceLemmas
 pub mod ReadLemmas
+pub mod RootLemmas
 pub mod WalkLemmas

@@ -1,6 +1,8 @@
 -- Bindings in order.
 use Rattle.std.specs.Prelude.{◌≡◌, ◌<◌, ◌≤◌, ℕ, Bool, not, ◌||◌, nat_eq, if◌then◌else◌, List, [], ◌∷◌, Option, None, Some}
 use Rattle.std.specs.List.{filter, list_any}
+use Rattle.scasp_bound.specs.declared.roots.Root.{Root}
+use Rattle.scasp_bound.specs.declared.roots.Root.TheVariants as root
 use Rattle.scasp_syntax.specs.declared.con.Con.{Con}
 use Rattle.scasp_syntax.specs.declared.con.Con.TheVariants as con
 use Rattle.scasp_syntax.specs.declared.term.Term.TheVariants.{Var}
@@ -35,6 +37,12 @@ abbrev pub as_variable : Tm → Option ℕ
 as_variable (var x) = Some x
 as_variable (num q) = None
 as_variable (app f ts) = None
+
+-- how the term begins
+abbrev pub root_of : Tm → Root
+root_of (var x) = root.Var x
+root_of (num q) = root.Num q
+root_of (app f ts) = root.Name f
 
 -- what reads as a variable beyond n is that variable or a later one
 pub record ReadsDown (n : ℕ) (bs : List Binding) : Type 0 where

@@ -6,13 +6,14 @@ ghost use Rattle.scasp_syntax.specs.View.{tm_of};
 ghost use Rattle.scasp_unify.specs.Solving.{sub_of};
 ghost use Rattle.scasp_unify.specs.Unification.{term_vars, terms_vars};
 ghost use Rattle.scasp_trail.specs.Past.{earlier, is_marked, latest};
-ghost use Rattle.scasp_bound.specs.Bounds.{ReadsDown, among, as_variable, bound_in, equation, is_bound_in, unbound, without};
+ghost use Rattle.scasp_bound.specs.Bounds.{ReadsDown, among, as_variable, bound_in, equation, is_bound_in, root_of, unbound, without};
 ghost use Rattle.scasp_bound.specs.Inside.Falls.{Falls};
 ghost use Rattle.scasp_bound.specs.Inside.Gaps.{without_unless};
 
 use crate::listing::{copies, push_equations};
 use crate::places::{Place, binding_at, first_of, forget, is_among, note, take_out_of};
 use crate::reading::{Head, Piece, head_of, resolve_all};
+use crate::roots::Root;
 use crate::sameness::{Pair, are_same};
 use crate::variables::push_vars_of;
 use scasp_list::{Memory, Sequence};
@@ -175,6 +176,20 @@ impl Bound {
         match head_of(items, places, self.is_whole, 0, term) {
             Head::Var(x) => Some(x),
             Head::Num(_) | Head::Name(..) => None,
+        }
+    }
+
+    /// How the term begins, as the bindings read it. Nothing is copied.
+    #[tactic(auto, using(crate::proofs::RootLemmas::variable_begins, crate::proofs::RootLemmas::number_begins, crate::proofs::RootLemmas::name_begins))]
+    pub fn root_of(&self, term: &Term) -> Root
+        ensures { result ≡ root_of (under (sub_of self.now.now) (tm_of term.now)) }
+    {
+        let items = self.list.as_slice();
+        let places = self.places.as_slice();
+        match head_of(items, places, self.is_whole, 0, term) {
+            Head::Var(x) => Root::Var(x),
+            Head::Num(value) => Root::Num(value),
+            Head::Name(name, _) => Root::Name(name),
         }
     }
 

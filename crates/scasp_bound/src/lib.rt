@@ -5,7 +5,9 @@ mod bound;
 mod listing;
 mod places;
 mod reading;
+mod roots;
 mod sameness;
 mod variables;
 
 pub use bound::Bound;
+pub use roots::Root;

@@ -96,7 +96,7 @@ fn take<'a, F: Files, K: Sink>(
     tell(case, out)?;
     case.name = Some(name);
     case.is_right = true;
-    *world = World::new(alloc);
+    *world = World::new(alloc, disk.hash_keys());
     Ok(())
 }
 
@@ -107,7 +107,7 @@ pub fn are_right<F: Files, K: Sink>(
     text: &str,
     out: &mut K,
 ) -> Result<bool, OutputErr> {
-    let mut world = World::new(alloc);
+    let mut world = World::new(alloc, disk.hash_keys());
     let mut case = Case {
         name: None,
         is_right: true,

@@ -16,11 +16,12 @@ use crate::steps::LONGEST;
 use scasp_io::{Files, Sink, read_file, write_all};
 use scasp_system::{HostFiles, SystemFiles, SystemSink, command_words};
 use std::alloc::Global;
+use std::hash::RandomState;
 use std::process::ExitCode;
 use std::{env, io};
 
-/// The exit code where the system does not give the words.
-const NO_WORDS: u8 = 13;
+/// The exit code where the system does not give the words, or random keys.
+const NOT_GIVEN: u8 = 13;
 
 /// The text of the file, where it is read.
 fn text_of<F: Files>(alloc: Global, name: &str, disk: &mut F) -> Option<String> {
@@ -41,12 +42,15 @@ fn is_right<F: Files, K: Sink>(alloc: Global, name: &str, disk: &mut F, out: &mu
 
 fn main(rt: HostRuntime) -> ExitCode {
     let Ok(arguments) = env::args(&rt) else {
-        return ExitCode::from(NO_WORDS);
+        return ExitCode::from(NOT_GIVEN);
     };
     let Ok(names) = command_words(rt.alloc(), arguments) else {
-        return ExitCode::from(NO_WORDS);
+        return ExitCode::from(NOT_GIVEN);
     };
-    let mut disk = SystemFiles::new(rt.alloc(), HostFiles(&rt));
+    let Ok(keys) = RandomState::new(&rt) else {
+        return ExitCode::from(NOT_GIVEN);
+    };
+    let mut disk = SystemFiles::new(rt.alloc(), HostFiles(&rt), keys);
     let mut out = SystemSink::new(io::writer(&rt));
     let mut well = true;
     for name in names.as_slice() {

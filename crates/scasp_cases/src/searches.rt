@@ -6,6 +6,7 @@ use scasp_name::Names;
 use scasp_print::print_cert;
 use scasp_written::{Event, Written};
 use std::alloc::Global;
+use std::hash::RandomState;
 use std::str;
 
 /// A budget with some to spare.
@@ -63,36 +64,42 @@ fn met(alloc: Global, names: &Names, search: &mut Written, told: Told) -> Result
     expect(lines.as_slice() == told.lines.as_bytes() && search.calls() == told.calls)
 }
 
-/// A search for the query of the program, and the names of the program and of samples: `w0` and `w1`.
-fn search_of(
-    alloc: Global,
-    bytes: &[u8],
+/// The number of a query of the program that the bytes spell, whose names are hashed by the keys.
+#[derive(Clone, Copy)]
+struct Asked<'a> {
+    bytes: &'a [u8],
+    keys: RandomState,
     query: u64,
-    budget: u64,
-) -> Result<(Written, Names), Stop> {
-    let (program, mut names) = program_of(alloc, bytes)?;
-    if program.query(query).is_none() {
+}
+
+/// A search for the query, and the names of the program and of samples: `w0` and `w1`.
+fn search_of(alloc: Global, asked: Asked, budget: u64) -> Result<(Written, Names), Stop> {
+    let (program, mut names) = program_of(alloc, asked.bytes, asked.keys)?;
+    if program.query(asked.query).is_none() {
         return Err(Stop::NoStep);
     }
-    let search = Written::open(alloc, &program, query, budget, names.len())?;
+    let search = Written::open(alloc, &program, asked.query, budget, names.len())?;
     let _first = names.intern("w0")?;
     let _second = names.intern("w1")?;
     Ok((search, names))
 }
 
-/// The events of the query of the program within the budget are the ones that are told.
-fn all_met(
-    alloc: Global,
-    bytes: &[u8],
-    query: u64,
-    budget: u64,
-    events: &[Told],
-) -> Result<(), Stop> {
-    let (mut search, names) = search_of(alloc, bytes, query, budget)?;
+/// The events of the query within the budget are the ones that are told.
+fn all_met(alloc: Global, asked: Asked, budget: u64, events: &[Told]) -> Result<(), Stop> {
+    let (mut search, names) = search_of(alloc, asked, budget)?;
     for event in events {
         met(alloc, &names, &mut search, within(*event, budget))?;
     }
     expect(!events.is_empty())
+}
+
+/// The query of this number of the program of the file.
+fn asked_of<'a>(world: &'a World, name: &str, query: &str) -> Result<Asked<'a>, Stop> {
+    Ok(Asked {
+        bytes: world.file(name)?,
+        keys: world.files.keys,
+        query: number_of(query)?,
+    })
 }
 
 /// The events of the query are those of the text: for each of them within the budget that just serves for it, and within one less;
@@ -101,16 +108,15 @@ pub fn events(alloc: Global, world: &World, rest: &[&str], text: &[u8]) -> Resul
     let ([name, query, budgets @ ..], Ok(text)) = (rest, str::from_utf8(text)) else {
         return Err(Stop::NoStep);
     };
-    let query = number_of(query)?;
-    let bytes = world.file(name)?;
+    let asked = asked_of(world, name, query)?;
     let told = events_of(alloc, text)?;
     let all = told.as_slice();
     for event in all {
-        all_met(alloc, bytes, query, event.calls, all)?;
-        all_met(alloc, bytes, query, event.calls.saturating_sub(1), all)?;
+        all_met(alloc, asked, event.calls, all)?;
+        all_met(alloc, asked, event.calls.saturating_sub(1), all)?;
     }
     for budget in budgets {
-        all_met(alloc, bytes, query, number_of(budget)?, all)?;
+        all_met(alloc, asked, number_of(budget)?, all)?;
     }
     Ok(())
 }
@@ -120,8 +126,8 @@ pub fn answers(alloc: Global, world: &World, rest: &[&str]) -> Result<(), Stop> 
     let [name, query, number] = rest else {
         return Err(Stop::NoStep);
     };
-    let bytes = world.file(name)?;
-    let (mut search, _names) = search_of(alloc, bytes, number_of(query)?, SERVES)?;
+    let asked = asked_of(world, name, query)?;
+    let (mut search, _names) = search_of(alloc, asked, SERVES)?;
     for _answer in 0..number_of(number)? {
         expect(matches!(search.next()?, Event::Answer(_)))?;
     }

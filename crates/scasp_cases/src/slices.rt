@@ -9,6 +9,7 @@ use scasp_search::{Advance, Search};
 use scasp_syntax::Program;
 use scasp_written::{Event, Written};
 use std::alloc::Global;
+use std::hash::RandomState;
 
 /// The slices in which a search goes on to its next event, again and again.
 static MIXED: [u64; 8] = [0, 1, 2, 0, 5, 1, 1, 1_000];
@@ -34,9 +35,9 @@ fn with_samples(mut names: Names) -> Result<Names, Stop> {
     Ok(names)
 }
 
-/// The program that the bytes spell.
-fn text_of(alloc: Global, bytes: &[u8]) -> Result<Text, Stop> {
-    let (program, names) = program_of(alloc, bytes)?;
+/// The program that the bytes spell, whose names are hashed by the keys.
+fn text_of(alloc: Global, bytes: &[u8], keys: RandomState) -> Result<Text, Stop> {
+    let (program, names) = program_of(alloc, bytes, keys)?;
     let fresh = names.len();
     let names = with_samples(names)?;
     Ok(Text {
@@ -197,7 +198,7 @@ pub fn agree(alloc: Global, world: &World, rest: &[&str]) -> Result<(), Stop> {
     let [name, budgets @ ..] = rest else {
         return Err(Stop::NoStep);
     };
-    let text = text_of(alloc, world.file(name)?)?;
+    let text = text_of(alloc, world.file(name)?, world.files.keys)?;
     for budget in budgets {
         all_agree(alloc, &text, number_of(budget)?)?;
     }
@@ -250,7 +251,7 @@ pub fn slices(alloc: Global, world: &mut World, rest: &[&str], text: &[u8]) -> R
         return Err(Stop::NoStep);
     };
     let (query, budget) = (number_of(query)?, number_of(budget)?);
-    let program = text_of(alloc, world.file(name)?)?;
+    let program = text_of(alloc, world.file(name)?, world.files.keys)?;
     world.printed = come_of(alloc, &program, query, budget, slices)?;
     expect(world.printed.as_slice() == text)
 }
@@ -275,6 +276,6 @@ pub fn pauses(alloc: Global, world: &World, rest: &[&str]) -> Result<(), Stop> {
         return Err(Stop::NoStep);
     };
     let (query, budget) = (number_of(query)?, number_of(budget)?);
-    let text = text_of(alloc, world.file(name)?)?;
+    let text = text_of(alloc, world.file(name)?, world.files.keys)?;
     spends(alloc, &text, query, budget)
 }

@@ -4,6 +4,7 @@ use scasp_io::{Bytes, CallList, MemFile, MemFileList, MemFiles, MemSink, Memory}
 use scasp_serve_top::serve;
 use scasp_top::{Status, scasp};
 use std::alloc::{AllocError, Global};
+use std::hash::RandomState;
 
 /// How many bytes may be printed.
 const ROOM: u64 = 100_000_000;
@@ -70,10 +71,10 @@ fn ended(
 }
 
 impl World {
-    /// No files, and a sound device.
-    pub fn new(alloc: Global) -> World {
+    /// No files, which tell these keys, and a sound device.
+    pub fn new(alloc: Global, keys: RandomState) -> World {
         World {
-            files: MemFiles::new(MemFileList::new(alloc), CallList::new(alloc)),
+            files: MemFiles::new(MemFileList::new(alloc), CallList::new(alloc), keys),
             device: SOUND,
             status: Status::Done,
             printed: Vec::new(alloc),

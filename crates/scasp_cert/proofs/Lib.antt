@@ -1,5 +1,5 @@
+pub mod BelowLemmas
 pub mod FlatLemmas
 pub mod FreeLemmas
-pub mod SkeletonLemmas
 pub mod ViewLemmas
 pub mod WalkLemmas

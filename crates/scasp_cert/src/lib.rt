@@ -5,13 +5,11 @@ mod certificate;
 mod count;
 mod flatness;
 mod lists;
-mod skeletons;
 mod tree;
 mod walk;
 
 pub use certificate::{Cert, Check, Checks, Clash, Clashes};
 pub use count::lines;
 pub use flatness::flat;
-pub use skeletons::skeleton;
 pub use tree::{Case, Cover, Covers, Node, Nodes};
 pub use walk::{Line, Walk};

@@ -1,3 +1,5 @@
+pub mod ClashWalkLemmas
 pub mod Judging
 pub mod KnownLemmas
+pub mod MapLemmas
 pub mod NameClashLemmas

@@ -11,14 +11,19 @@ use scasp_syntax::{Atom, DeepCopy};
 use scasp_tables::AtomTable;
 use scasp_worklist::{NumberList, NumberSet, NumberedRule, NumberedRules, least_set};
 use std::alloc::Global;
+use std::hash::RandomState;
 
 /// The least model of the rules, each atom once, in time linear in the rules (Dowling and Gallier 1984). The order is that in which
-/// the rules first name the atoms.
-pub fn closure(alloc: Global, rules: &DefiniteRules) -> Result<AtomList, Memory>
+/// the rules first name the atoms. The atoms are hashed by the keys.
+pub fn closure(
+    alloc: Global,
+    rules: &DefiniteRules,
+    random: RandomState,
+) -> Result<AtomList, Memory>
     ensures atoms { IfOk result (λ atoms. SameAtoms atoms (least_model rules.now)) }
     ensures distinct { IfOk result (λ atoms. IsTrue (are_distinct atoms)) }
 {
-    let mut table = AtomTable::new(alloc);
+    let mut table = AtomTable::new(alloc, random);
     let numbered = numbered_rules(alloc, &mut table, rules)?;
     let set = least_set(alloc, &numbered)?;
     atoms_in(alloc, &set, table.as_slice())

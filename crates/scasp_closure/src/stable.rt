@@ -13,12 +13,13 @@ use scasp_model::{AtomList, GroundClause, GroundProgram};
 use scasp_syntax::{Lit, Lits};
 use scasp_tables::AtomTable;
 use std::alloc::Global;
+use std::hash::RandomState;
 
-/// The table of the atoms of the list.
-fn table_of(alloc: Global, atoms: &AtomList) -> Result<AtomTable, Memory>
+/// The table of the atoms of the list, hashed by the keys.
+fn table_of(alloc: Global, atoms: &AtomList, random: RandomState) -> Result<AtomTable, Memory>
     ensures { IfOk result (λ table. table ≡ with_atoms [] atoms.now) }
 {
-    let mut table = AtomTable::new(alloc);
+    let mut table = AtomTable::new(alloc, random);
     for atom in atoms.as_slice() {
         table.put(alloc, atom)?;
     }
@@ -80,12 +81,17 @@ fn has_violation(alloc: Global, m: &AtomTable, g: &GroundProgram) -> Result<bool
 }
 
 /// Whether the atoms of the list are a stable model of the program: those of the least model of its
-/// reduct by them, with no denial whose body they make true (Gelfond and Lifschitz 1988).
-pub fn is_stable(alloc: Global, g: &GroundProgram, m: &AtomList) -> Result<bool, Memory>
+/// reduct by them, with no denial whose body they make true (Gelfond and Lifschitz 1988). The atoms are hashed by the keys.
+pub fn is_stable(
+    alloc: Global,
+    g: &GroundProgram,
+    m: &AtomList,
+    random: RandomState,
+) -> Result<bool, Memory>
     ensures { IfOk result (λ answer. IsTrue answer ↔ Stable g.now m.now) }
 {
-    let table = table_of(alloc, m)?;
-    is_stable_by(alloc, g, m, &table)
+    let table = table_of(alloc, m, random)?;
+    is_stable_by(alloc, g, m, &table, random)
 }
 
 /// The same, by the table of the list's atoms.
@@ -94,21 +100,27 @@ fn is_stable_by(
     g: &GroundProgram,
     m: &AtomList,
     table: &AtomTable,
+    random: RandomState,
 ) -> Result<bool, Memory>
     requires { table.now ≡ with_atoms [] m.now }
     ensures { IfOk result (λ answer. IsTrue answer ↔ Stable g.now m.now) }
 {
-    let model = reduced_model(alloc, g, table)?;
-    let reached = table_of(alloc, &model)?;
+    let model = reduced_model(alloc, g, table, random)?;
+    let reached = table_of(alloc, &model, random)?;
     is_reached(alloc, g, m, table, &model, &reached)
 }
 
 /// The least model of the reduct by the atoms of the table.
-fn reduced_model(alloc: Global, g: &GroundProgram, table: &AtomTable) -> Result<AtomList, Memory>
+fn reduced_model(
+    alloc: Global,
+    g: &GroundProgram,
+    table: &AtomTable,
+    random: RandomState,
+) -> Result<AtomList, Memory>
     ensures { IfOk result (λ model. SameAtoms model (least_model (reduct table.now g.now))) }
 {
     let rules = reduct(alloc, g, table)?;
-    closure(alloc, &rules)
+    closure(alloc, &rules, random)
 }
 
 /// Whether the model has the atoms of the list, and no denial's body is true there, by the tables of both.

@@ -14,7 +14,6 @@ use scasp_abduce::translate;
 use scasp_answers::{
     AnswerErr, AnswerFault, AnswerKind, BYTE_LIMIT as ANSWER_LIMIT, Entries, read_answers,
 };
-use scasp_depth::Nested;
 use scasp_io::{Files, ReadErr, read_file};
 use scasp_list::Memory;
 use scasp_name::Names;
@@ -22,6 +21,7 @@ use scasp_reader::{BYTE_LIMIT, read_program};
 use scasp_reader_terms::{Count, Fault, Kind, Stop};
 use scasp_syntax::Program;
 use std::alloc::Global;
+use std::hash::RandomState;
 
 /// The program that the bytes spell behind these names, as it is written, and the table of names then; or the line of the first fault.
 fn read_text_behind(alloc: Global, bytes: &[u8], names: Names) -> Result<(Program, Names), Halt>
@@ -29,10 +29,7 @@ fn read_text_behind(alloc: Global, bytes: &[u8], names: Names) -> Result<(Progra
     ensures err { IfErr result (λ halt. IfLine halt (RefusesProgramBehind names bytes.now)) }
 {
     match read_program(alloc, bytes, names) {
-        Ok((program, names)) => match program.serves_walks(alloc) {
-            Ok(()) => Ok((program, names)),
-            Err(Memory) => Err(Halt::Memory),
-        },
+        Ok(read) => Ok(read),
         Err(Stop::At(fault)) => Err(program_refusal(alloc, fault)),
         Err(Stop::Memory) => Err(Halt::Memory),
     }
@@ -61,12 +58,13 @@ fn next_text(alloc: Global, bytes: &[u8], names: Names) -> Result<(Program, Name
     }
 }
 
-/// The translation of the program that the bytes spell, and the table of names behind it; or the line of the first fault.
-pub fn read_text(alloc: Global, bytes: &[u8]) -> Result<(Program, Names), Halt>
+/// The translation of the program that the bytes spell, and the table of names behind it, which hashes them by the keys; or the
+/// line of the first fault.
+pub fn read_text(alloc: Global, bytes: &[u8], keys: RandomState) -> Result<(Program, Names), Halt>
     ensures ok { IfOk result (λ x. IsProgram (Some bytes.now) x.0 x.1) }
     ensures err { IfErr result (λ halt. IfLine halt (RefusesProgram bytes.now)) }
 {
-    let Ok(names) = Names::new(alloc) else {
+    let Ok(names) = Names::new(alloc, keys) else {
         return Err(Halt::Memory);
     };
     next_text(alloc, bytes, names)
@@ -108,7 +106,7 @@ pub fn written_in_file<F: Files>(
     ensures stays { (other : List ℕ) → F.told files.new other ≡ F.told files.old other }
     ensures counts { (other : List ℕ) → F.faults files.old other ≤ F.faults files.new other }
 {
-    let Ok(names) = Names::new(alloc) else {
+    let Ok(names) = Names::new(alloc, files.hash_keys()) else {
         return Err(Halt::Memory);
     };
     next_written_in_file(alloc, file, names, files)
@@ -144,7 +142,7 @@ pub fn program_in_file<F: Files>(
     ensures stays { (other : List ℕ) → F.told files.new other ≡ F.told files.old other }
     ensures counts { (other : List ℕ) → F.faults files.old other ≤ F.faults files.new other }
 {
-    let Ok(names) = Names::new(alloc) else {
+    let Ok(names) = Names::new(alloc, files.hash_keys()) else {
         return Err(Halt::Memory);
     };
     next_program_in_file(alloc, file, names, files)

@@ -1,2 +1,3 @@
+pub mod AboveLemmas
 pub mod ApartLemmas
 pub mod LineLemmas

@@ -5,7 +5,8 @@ ghost use Rattle.scasp_syntax.specs.View.{tm_of};
 
 use scasp_list::Memory;
 use scasp_num::Coeff;
-use scasp_syntax::{Con, Term, Terms};
+use scasp_syntax::{Con, Term, Terms, Walk};
+use std::alloc::Global;
 
 /// Above the variable; past the range of numbers it is want of memory.
 fn behind(x: u64) -> Result<u64, Memory>
@@ -14,26 +15,37 @@ fn behind(x: u64) -> Result<u64, Memory>
     x.checked_add(1).ok_or(Memory)
 }
 
-/// Above each variable of the term.
-#[cycle(above)]
-fn above(term: &Term) -> Result<u64, Memory>
+/// Above each variable of the term. It takes memory for the terms that are still to be seen, and no machine stack.
+fn above(alloc: Global, term: &Term) -> Result<u64, Memory>
     ensures { IfOk result (λ number. number ≡ above (tm_of term.now)) }
 {
     match term {
         Term::Var(x) => behind(*x),
         Term::Num(_) => Ok(0),
-        Term::App(_, args) => above_all(args),
+        Term::App(_, args) => above_all(alloc, args),
     }
 }
 
-/// Above each variable of the terms.
-#[cycle(above)]
-pub fn above_all(terms: &Terms) -> Result<u64, Memory>
+/// Above each variable of the terms, with memory as `above`.
+#[tactic(auto, using(crate::proofs::AboveLemmas::variable_counted, crate::proofs::AboveLemmas::number_passed, crate::proofs::AboveLemmas::args_next, crate::proofs::AboveLemmas::no_args, crate::proofs::AboveLemmas::all_counted, scasp_unify::proofs::PartLemmas::less_left, scasp_unify::proofs::PartLemmas::less_entered))]
+pub fn above_all(alloc: Global, terms: &Terms) -> Result<u64, Memory>
     ensures { IfOk result (λ number. number ≡ above_all terms.now) }
 {
     let mut number = 0u64;
-    for term in terms.as_slice() {
-        number = number.max(above(term)?);
+    let mut left = Walk::over(alloc, terms.as_slice());
+    'terms: while let Some(term) = left.next() {
+        match term {
+            Term::Var(x) => {
+                number = number.max(behind(*x)?);
+            }
+            Term::Num(_) => {}
+            Term::App(_, args) => {
+                if args.len() == 0 {
+                    continue;
+                }
+                left.enter(args)?;
+            }
+        }
     }
     Ok(number)
 }
@@ -50,24 +62,26 @@ fn above_terms(coeffs: &[Coeff]) -> Result<u64, Memory>
 }
 
 /// Above each variable of the constraint.
-pub fn above_con(constraint: &Con) -> Result<u64, Memory>
+pub fn above_con(alloc: Global, constraint: &Con) -> Result<u64, Memory>
     ensures { IfOk result (λ number. number ≡ above_con constraint.now) }
 {
     match constraint {
-        Con::Eq(left, right) | Con::Neq(left, right) => Ok(above(left)?.max(above(right)?)),
+        Con::Eq(left, right) | Con::Neq(left, right) => {
+            Ok(above(alloc, left)?.max(above(alloc, right)?))
+        },
         Con::NotShape(x, _, _) => behind(*x),
-        Con::Num(term) | Con::NotNum(term) => above(term),
+        Con::Num(term) | Con::NotNum(term) => above(alloc, term),
         Con::Row(row) => above_terms(row.coeffs().as_slice()),
     }
 }
 
 /// Above each variable of the constraints.
-pub fn above_cons(constraints: &[Con]) -> Result<u64, Memory>
+pub fn above_cons(alloc: Global, constraints: &[Con]) -> Result<u64, Memory>
     ensures { IfOk result (λ number. number ≡ above_cons constraints.now) }
 {
     let mut number = 0u64;
     for constraint in constraints {
-        number = number.max(above_con(constraint)?);
+        number = number.max(above_con(alloc, constraint)?);
     }
     Ok(number)
 }

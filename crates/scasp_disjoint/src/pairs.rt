@@ -55,7 +55,7 @@ pub fn pair_list(
     ensures { IfOk result (λ made. made ≡ pair_list free given.now (told_of first.now) (told_of second.now)) }
 {
     let mut list = context(alloc, given, &first.opened)?;
-    let by = above_cons(list.as_slice())?.max(above_all(&first.atom.args)?);
+    let by = above_cons(alloc, list.as_slice())?.max(above_all(alloc, &first.atom.args)?);
     let raising = Raising { free, by };
     let behind = context(alloc, &[], &second.opened)?;
     push_raised(alloc, &raising, behind.as_slice(), &mut list)?;

@@ -11,7 +11,6 @@ ghost use Rattle.scasp_tables.specs.Tables.{is_member};
 
 use crate::fault::{DomainErr, DomainFault, DomainKind};
 use scasp_answers_terms::{Cursor, Stop, term};
-use scasp_depth::Nested;
 use scasp_name::Names;
 use scasp_syntax::Term;
 use scasp_tables::{Domain, Pushed};
@@ -62,7 +61,6 @@ fn term_in(alloc: Global, line: &[u8], names: &Names) -> Result<Term, Stop>
 fn join_term(alloc: Global, at: usize, term: Term, domain: &mut Domain) -> Result<(), DomainErr>
     ensures { Joins at (spec.joined (items domain.old) (Some (tm_of term))) result domain.new }
 {
-    term.serves_walks(alloc)?;
     match domain.push(alloc, term)? {
         Pushed::Added => Ok(()),
         Pushed::NotGround | Pushed::Repeated => Err(line_fault(at)),

@@ -32,7 +32,7 @@ fn read_members(alloc: Global, bytes: &[u8], names: &Names) -> Result<Domain, Do
     requires { length bytes.now ≤ spec.byte_limit }
     ensures { Told (spec.members_from (place_in names.now) [] 0 (split_lines bytes.now).lines (split_lines bytes.now).rest) result }
 {
-    let mut domain = Domain::new(alloc);
+    let mut domain = Domain::new(alloc, names.keys());
     let mut rest = bytes;
     let mut at = 0;
     while let Some(len) = line_len(rest) {

@@ -1,5 +1,4 @@
 pub mod SetLemmas
-mod EntryLemmas
 mod BucketLemmas
 mod StandingLemmas
 mod ReductLemmas

@@ -8,7 +8,7 @@ use Rattle.scasp_model.specs.declared.program.GroundClause.{GroundClause}
 use Rattle.scasp_sound.specs.MapLevels.{level_of}
 use Rattle.scasp_syntax.specs.declared.atom.Pred.{Pred}
 use Rattle.scasp_syntax.specs.declared.predicate_map.PredMap.{PredMap}
-use Rattle.scasp_extend_levels.specs.Entries.{entry_at}
+use Rattle.scasp_map.specs.Entries.{entry_at}
 use Rattle.scasp_extend_levels.specs.Numbered.{StandAll}
 use Rattle.scasp_extend_levels.specs.declared.buckets.Levels.{Levels}
 use Rattle.scasp_extend_levels.specs.declared.numbered.Level.{Level}

@@ -1,7 +1,7 @@
 //! The levelled model.
 ghost use Rattle.std.specs.Prelude.{◌++◌, List, IfOk, OnOk};
 ghost use Rattle.std.specs.List.{flat_map};
-ghost use Rattle.scasp_extend_levels.specs.Entries.{level_in, plus_in};
+ghost use Rattle.scasp_map.specs.Entries.{level_in, plus_in};
 ghost use Rattle.scasp_extend_levels.specs.Numbered.{StandAll};
 ghost use Rattle.scasp_extend_levels.specs.Sets.{with_atoms};
 ghost use Rattle.scasp_extend_levels.specs.Sorted.{IsSorted};
@@ -15,12 +15,12 @@ ghost use Rattle.scasp_worklist.specs.Numbered.{has};
 ghost use Rattle.std.specs.Prelude.{◌≡◌};
 
 use crate::buckets::Levels;
-use crate::entries::Entries;
 use crate::numbered::Level;
 use crate::sets::add_all;
 use crate::signs::{minus_by, plus_model};
 use crate::standings::standings_of;
 use scasp_closure::atoms_in;
+use scasp_map::Entries;
 use scasp_name::Memory;
 use scasp_syntax::Atom;
 use scasp_tables::AtomTable;
@@ -71,8 +71,9 @@ impl Levels {
         let Levels {
             entries,
             mut levels,
+            random,
         } = self;
-        let mut model = AtomTable::new(alloc);
+        let mut model = AtomTable::new(alloc, random);
         while let Some(lowest) = levels.pop_first() {
             let (level, here) = lowest;
             add_level(alloc, &entries, level, &here, &mut model)?;

@@ -2,7 +2,6 @@
 #![tactic(auto)]
 
 mod buckets;
-mod entries;
 mod levels;
 mod numbered;
 mod reducts;

@@ -9,6 +9,7 @@ use scasp_name::Memory;
 use scasp_syntax::{Atom, Lits};
 use scasp_tables::AtomTable;
 use std::alloc::Global;
+use std::hash::RandomState;
 
 /// A literal, by the number of its atom.
 #[derive(Clone, Copy, Debug)]
@@ -52,12 +53,12 @@ fn numbered_body(
 }
 
 impl Level {
-    /// No rules. It takes no memory.
-    pub(crate) fn new(alloc: Global) -> Level
+    /// No rules, over a table that is hashed by the keys. It takes no memory.
+    pub(crate) fn new(alloc: Global, random: RandomState) -> Level
         ensures { result.rules ≡ [] }
     {
         Level {
-            table: AtomTable::new(alloc),
+            table: AtomTable::new(alloc, random),
             rules: Sequence::new(alloc),
         }
     }

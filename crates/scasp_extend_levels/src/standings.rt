@@ -1,10 +1,10 @@
 //! What atoms are at a level.
 ghost use Rattle.std.specs.Prelude.{◌≡◌, map, IfOk};
-ghost use Rattle.scasp_extend_levels.specs.Entries.{level_in, plus_in};
+ghost use Rattle.scasp_map.specs.Entries.{level_in, plus_in};
 ghost use Rattle.scasp_extend_levels.specs.Numbered.{standing_at, standing_of};
 
-use crate::entries::{Entries, level_in, plus_in};
 use scasp_list::Sequence;
+use scasp_map::{Entries, level_in, plus_in};
 use scasp_name::Memory;
 use scasp_syntax::Atom;
 use scasp_tables::AtomTable;

@@ -112,7 +112,7 @@ fn left_within(
     if count_instances(program.clauses.as_slice(), members).is_none() {
         return Err(GroundErr::TooLarge);
     }
-    let mut made = Levels::new(alloc, map)?;
+    let mut made = Levels::new(alloc, map, domain.hash_keys())?;
     for clause in program.clauses.as_slice() {
         match push_left_of(alloc, domain, told, clause, &mut made) {
             Ok(()) => {}

@@ -126,7 +126,7 @@ pub fn said_over(
     ensures trues { IfOk result (λ told. told.trues ≡ with_atoms [] (true_atoms program.now (certificate_of cert.now) (valued (items values.now)) (items domain.now))) }
     ensures falses { IfOk result (λ told. told.falses ≡ with_atoms [] (false_atoms program.now (certificate_of cert.now) (valued (items values.now)) (items domain.now))) }
 {
-    let mut told = Told::new(alloc);
+    let mut told = Told::new(alloc, domain.hash_keys());
     let mut lines = Lines::of(alloc, program, cert)?;
     while let Some(line) = lines.next(alloc)? {
         take_line(alloc, domain, values, line, &mut told)?;

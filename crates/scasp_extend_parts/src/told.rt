@@ -6,6 +6,7 @@ use scasp_list::Memory;
 use scasp_syntax::{Atom, Lit};
 use scasp_tables::AtomTable;
 use std::alloc::Global;
+use std::hash::RandomState;
 
 /// The atoms that a certificate says are true, and those that it says are false.
 #[derive(Drop)]
@@ -15,14 +16,14 @@ pub struct Told {
 }
 
 impl Told {
-    /// No atoms. It takes no memory.
-    pub(crate) fn new(alloc: Global) -> Told
+    /// No atoms; those to come are hashed by the keys. It takes no memory.
+    pub(crate) fn new(alloc: Global, random: RandomState) -> Told
         ensures trues { result.trues ≡ [] }
         ensures falses { result.falses ≡ [] }
     {
         Told {
-            trues: AtomTable::new(alloc),
-            falses: AtomTable::new(alloc),
+            trues: AtomTable::new(alloc, random),
+            falses: AtomTable::new(alloc, random),
         }
     }
 

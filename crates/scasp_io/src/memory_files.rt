@@ -8,6 +8,7 @@ ghost use Rattle.scasp_io.specs.MemoryFiles.{after_read, is_refused};
 use crate::errors::Failed;
 use crate::lists::{Bytes, CallList, MemFile, MemFileList};
 use crate::outside::Files;
+use std::hash::RandomState;
 
 /// Files in memory, for tests. A read fails where its number, the first being 1, is among the
 /// failing ones, and where no file has the name; each failure is counted as a fault of every name.
@@ -20,17 +21,20 @@ pub struct MemFiles {
     pub calls: u64,
     /// How many of them failed, at most 2^64 - 1.
     pub faults: u64,
+    /// The keys that are told.
+    pub keys: RandomState,
 }
 
 impl MemFiles {
-    pub fn new(files: MemFileList, failing: CallList) -> MemFiles
-        ensures { result ≡ record { files = files; failing = failing; calls = 0; faults = 0 } }
+    pub fn new(files: MemFileList, failing: CallList, keys: RandomState) -> MemFiles
+        ensures { result ≡ record { files = files; failing = failing; calls = 0; faults = 0; keys = keys } }
     {
         MemFiles {
             files,
             failing,
             calls: 0,
             faults: 0,
+            keys,
         }
     }
 }
@@ -58,6 +62,10 @@ impl Files for MemFiles {
         }
         self.faults = self.faults.saturating_add(1);
         Err(Failed)
+    }
+
+    fn hash_keys(&self) -> RandomState {
+        self.keys
     }
 }
 

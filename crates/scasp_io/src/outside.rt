@@ -3,6 +3,7 @@ ghost use Rattle.scasp_io.specs.Counts.{Rose};
 ghost use Rattle.scasp_io.specs.Bytes.{Fills, behind};
 
 use crate::errors::Failed;
+use std::hash::RandomState;
 
 /// Where files are read from by their names.
 ///
@@ -21,6 +22,10 @@ pub trait Files {
         ensures cause { OnErr result (Rose (faults self.old name.now) (faults self.new name.now)) }
         ensures stays { (other : List ℕ) → told self.new other ≡ told self.old other }
         ensures counts { (other : List ℕ) → faults self.old other ≤ faults self.new other };
+
+    /// The keys by which tables over what the files hold are hashed. Whoever writes a file does not know keys that were drawn at
+    /// random. No promise depends on the keys, so nothing is said of them.
+    fn hash_keys(&self) -> RandomState;
 }
 
 /// Where bytes are written to.

@@ -7,18 +7,21 @@ use crate::memory_files::{copy_from, find_bytes};
 use crate::outside::{Files, Sink};
 use crate::whole::{read_file, write_all};
 use std::alloc::Global;
+use std::hash::RandomState;
 
 /// Files in memory that never fail. A name that no file has stands for no bytes.
 #[derive(Debug, Drop)]
 pub struct SureFiles {
     pub files: MemFileList,
+    /// The keys that are told.
+    pub keys: RandomState,
 }
 
 impl SureFiles {
-    pub fn new(files: MemFileList) -> SureFiles
-        ensures { result ≡ record { files = files } }
+    pub fn new(files: MemFileList, keys: RandomState) -> SureFiles
+        ensures { result ≡ record { files = files; keys = keys } }
     {
-        SureFiles { files }
+        SureFiles { files, keys }
     }
 }
 
@@ -32,6 +35,10 @@ impl Files for SureFiles {
             Some(bytes) => Ok(copy_from(bytes.as_slice(), at, buffer)),
             None => Ok(0),
         }
+    }
+
+    fn hash_keys(&self) -> RandomState {
+        self.keys
     }
 }
 

@@ -1,12 +1,14 @@
 -- Literals whose first arguments clash: a call sees none of them again, and that they differ holds as it reads.
-use Rattle.std.specs.Prelude.{◌≡◌, ℕ, Bool, true, false, not, ◌&&◌, ◌||◌, nat_eq, if◌then◌else◌, Option, None, Some, IfSome, is_none, option_map, List, [], ◌∷◌, ◌++◌, filter, map, refl}
+use Rattle.std.specs.Prelude.{◌≡◌, ℕ, Bool, true, false, not, ◌&&◌, ◌||◌, nat_eq, if◌then◌else◌, Option, None, Some, is_none, List, [], ◌∷◌, ◌++◌, filter, map, refl}
 use Rattle.std.specs.List.{list_any}
-use Rattle.std.proofs.Common.{ap, append-nil, subst, sym, ◌∙◌}
+use Rattle.std.proofs.Common.{ap, append-nil, sym, ◌∙◌}
 use Rattle.std.proofs.lemmas.Bool.{and_parts, true≢false}
 use Rattle.std.proofs.lemmas.Bool.Decides.{Decides-eqb}
 use Rattle.std.proofs.lemmas.List.Folds.{list_any-append}
+use Rattle.scasp_bound.specs.Bounds.{root_of}
+use Rattle.scasp_bound.specs.declared.roots.Root.{Root}
 use Rattle.scasp_loops.specs.Held.{literal_of}
-use Rattle.scasp_loops.specs.Inside.Asked.{clash, clash_if, first_of, is_left_firm, is_opposed, is_seen, opposed, standing, starts_apart}
+use Rattle.scasp_loops.specs.Inside.Asked.{clash, clash_if, first_root, is_left_firm, is_opposed, is_seen, opposed, standing, starts_apart}
 use Rattle.scasp_loops.specs.declared.entry.Entry.{Entry}
 use Rattle.scasp_loops.specs.declared.entry.Marks.{Marks}
 use Rattle.scasp_loops.proofs.TopLemmas.{none_of}
@@ -39,51 +41,38 @@ use Rattle.scasp_unify.specs.Solving.{sub_of}
 use Rattle.scasp_unify.specs.Unification.{term_vars, terms_vars}
 use Rattle.scasp_unify.specs.declared.bindings.Binding.{Binding}
 
--- ---- the first of some terms
+-- ---- how the first of some terms begins
 
-pub first_known : (bs : List Binding) (xs ys : List Term) (x r : Term) (ts : Tms) → tms_of xs ≡ ts → xs ≡ x ∷ ys → tm_of r ≡ under (sub_of bs) (tm_of x) → first_of (all_under (sub_of bs) ts) ≡ Some (tm_of r)
-first_known bs xs ys x r ts e n q = ap (λ (us : Tms). first_of (all_under (sub_of bs) us)) (sym e ∙ ap tms_of n) ∙ ap Some (sym q)
+pub none_begins : (bs : List Binding) (xs : List Term) (ts : Tms) → tms_of xs ≡ ts → xs ≡ [] → None ≡ first_root (all_under (sub_of bs) ts)
+none_begins bs xs ts e n = ap (λ (us : Tms). first_root (all_under (sub_of bs) us)) (ap tms_of (sym n) ∙ e)
+
+pub some_begins : (bs : List Binding) (xs ys : List Term) (x : Term) (ts : Tms) (r : Root) → tms_of xs ≡ ts → xs ≡ x ∷ ys → r ≡ root_of (under (sub_of bs) (tm_of x))
+    → Some r ≡ first_root (all_under (sub_of bs) ts)
+some_begins bs xs ys x ts r e n q = ap Some q ∙ ap (λ (us : Tms). first_root (all_under (sub_of bs) us)) (ap tms_of (sym n) ∙ e)
 
 -- ---- terms that clash
-
-pub number_stays : (v : Sub) (t u : Tm) (q : Number) → u ≡ num q → clash t u ≡ clash t (under v u)
-number_stays v t u q e = ap (clash t) e ∙ ap (λ (s : Tm). clash t (under v s)) (sym e)
-
-pub name_stays : (v : Sub) (t u : Tm) (f : ℕ) (us : Tms) → u ≡ app f us → clash t u ≡ clash t (under v u)
-name_stays v t u f us e = ap (clash t) e ∙ by t ∙ ap (λ (s : Tm). clash t (under v s)) (sym e)
-  where
-    by : (t : Tm) → clash t (app f us) ≡ clash t (app f (all_under v us))
-    by (var x) = refl
-    by (num q) = refl
-    by (app g ts) = refl
-
-pub none_apart : (bs : List Binding) (t : Tm) (xs : List Term) (l : Lit) → tms_of xs ≡ l.atom.args → xs ≡ [] → false ≡ starts_apart bs (Some t) l
-none_apart bs t xs l e n = ap (λ (us : Tms). clash_if (Some t) (first_of (all_under (sub_of bs) us))) (ap tms_of (sym n) ∙ e)
-
-pub some_apart : (bs : List Binding) (t : Tm) (xs ys : List Term) (x : Term) (l : Lit) (b : Bool) → tms_of xs ≡ l.atom.args → xs ≡ x ∷ ys → b ≡ clash t (under (sub_of bs) (tm_of x)) → b ≡ starts_apart bs (Some t) l
-some_apart bs t xs ys x l b e n q = q ∙ ap (λ (us : Tms). clash_if (Some t) (first_of (all_under (sub_of bs) us))) (ap tms_of (sym n) ∙ e)
 
 is-false : (b : Bool) → not b ≡ true → b ≡ false
 is-false true e = absurd (true≢false (sym e))
 is-false false e = refl
 
-no-clash : (t : Tm) → clash t t ≡ false
+no-clash : (t : Tm) → clash (root_of t) (root_of t) ≡ false
 no-clash (var x) = refl
 no-clash (num q) = ap not ((tm_decided (num q) (num q)).1 refl)
 no-clash (app f ts) = ap not ((Decides-eqb f f).1 refl)
 
-clash-apart : (t u : Tm) → clash t u ≡ true → same_tm u t ≡ false
+clash-apart : (t u : Tm) → clash (root_of t) (root_of u) ≡ true → same_tm u t ≡ false
 clash-apart t u c = by (same_tm u t) refl
   where
     by : (b : Bool) → same_tm u t ≡ b → same_tm u t ≡ false
-    by true e = absurd (true≢false (sym c ∙ ap (clash t) ((tm_decided u t).0 e) ∙ no-clash t))
+    by true e = absurd (true≢false (sym c ∙ ap (λ (s : Tm). clash (root_of t) (root_of s)) ((tm_decided u t).0 e) ∙ no-clash t))
     by false e = e
 
 -- the first of both, where it clashes with the other
-clash-first : (o : Option Tm) (ts us : Tms) → o ≡ first_of ts → clash_if o (first_of us) ≡ true → clash_if (first_of ts) (first_of us) ≡ true
-clash-first o ts us e c = ap (λ (p : Option Tm). clash_if p (first_of us)) (sym e) ∙ c
+clash-first : (o : Option Root) (ts us : Tms) → o ≡ first_root ts → clash_if o (first_root us) ≡ true → clash_if (first_root ts) (first_root us) ≡ true
+clash-first o ts us e c = ap (λ (p : Option Root). clash_if p (first_root us)) (sym e) ∙ c
 
-firsts-apart : (ts us : Tms) → clash_if (first_of ts) (first_of us) ≡ true → same_tms us ts ≡ false
+firsts-apart : (ts us : Tms) → clash_if (first_root ts) (first_root us) ≡ true → same_tms us ts ≡ false
 firsts-apart nil us c = absurd (true≢false (sym c))
 firsts-apart (cons t ts) nil c = absurd (true≢false (sym c))
 firsts-apart (cons t ts) (cons u us) c = ap (λ (b : Bool). b && same_tms us ts) (clash-apart t u c)
@@ -92,19 +81,18 @@ last-false : (p q : Bool) → q ≡ false → false ≡ (p && q)
 last-false true q e = sym e
 last-false false q e = refl
 
-pub unseen_clash : (bs : List Binding) (cases : List ℕ) (l : Lit) (first : Option Term) (e : Entry) (m : Marks) → IfSome first (λ t. first_of (all_under (sub_of bs) l.atom.args) ≡ Some (tm_of t))
-    → starts_apart bs (option_map tm_of first) e.lit ≡ true → false ≡ is_seen bs cases l (literal_of 0 e m)
-unseen_clash bs cases l None e m h c = absurd (true≢false (sym c))
-unseen_clash bs cases l (Some t) e m h c =
+pub unseen_clash : (bs : List Binding) (cases : List ℕ) (l : Lit) (first : Option Root) (e : Entry) (m : Marks) → first ≡ first_root (all_under (sub_of bs) l.atom.args)
+    → starts_apart bs first e.lit ≡ true → false ≡ is_seen bs cases l (literal_of 0 e m)
+unseen_clash bs cases l first e m h c =
     let us : Tms = all_under (sub_of bs) l.atom.args in
     let them : Tms = all_under (sub_of bs) e.lit.atom.args in
     last-false (is_left_firm cases (literal_of 0 e m)) _
     (none_of (not m.is_general) (same_bool e.lit.positive l.positive) (same_bool e.lit.atom.minus l.atom.minus) (nat_eq e.lit.atom.name l.atom.name) (same_tms them us)
-    (firsts-apart us them (clash-first (Some (tm_of t)) us them (sym h) c)))
+    (firsts-apart us them (clash-first first us them h c)))
 
 -- ---- disequations that hold as they read
 
-parts-clash : (t u : Tm) → clash t u ≡ true → parts t u ≡ None
+parts-clash : (t u : Tm) → clash (root_of t) (root_of u) ≡ true → parts t u ≡ None
 parts-clash (var x) u c = absurd (true≢false (sym c))
 parts-clash (num q) (var y) c = absurd (true≢false (sym c))
 parts-clash (num q) (num r) c = ap (λ (b : Bool). if b then Some [] else None) (is-false (same_number q r) c)
@@ -113,7 +101,7 @@ parts-clash (app f ts) (var y) c = absurd (true≢false (sym c))
 parts-clash (app f ts) (num r) c = refl
 parts-clash (app f ts) (app g us) c = ap (λ (b : Bool). if b then parts_each ts us else None) (is-false (nat_eq f g) c)
 
-lists-clash : (ts us : Tms) → clash_if (first_of ts) (first_of us) ≡ true → parts (list_term (items ts)) (list_term (items us)) ≡ None
+lists-clash : (ts us : Tms) → clash_if (first_root ts) (first_root us) ≡ true → parts (list_term (items ts)) (list_term (items us)) ≡ None
 lists-clash nil us c = absurd (true≢false (sym c))
 lists-clash (cons t ts) nil c = absurd (true≢false (sym c))
 lists-clash (cons t ts) (cons u us) c =
@@ -130,7 +118,7 @@ side-under v ts = ap (under v) (viewed (list_term (items ts))) ∙ list-under v 
 abbrev side : Sub → Tms → Term
 side v ts = term_with (under v (tm_of (term_with (list_term (items ts)))))
 
-clash-holds : (s : State) (o : Option Tm) (l : Lit) (a : Literal) → o ≡ first_of (all_under (meaning s) l.atom.args) → starts_apart s.bound o a.lit ≡ true
+clash-holds : (s : State) (o : Option Root) (l : Lit) (a : Literal) → o ≡ first_root (all_under (meaning s) l.atom.args) → starts_apart s.bound o a.lit ≡ true
     → holds_always (as_read s (differing l a)) ≡ true
 clash-holds s o l a e c =
     ap (λ (p : Option (List Part)). holds_always (by_parts (con.Neq left right) p)) none ∙ ap is_none none
@@ -231,19 +219,19 @@ free-of s l a e =
     (and_parts (not (same_bool a.lit.positive l.positive) && same_pred (pred_of a.lit.atom) (pred_of l.atom) && not a.is_general) (is_free s a.lit) e).1
 
 -- the constraints on these literals
-abbrev on_opposed : State → Option Tm → Lit → List Literal → List Con
+abbrev on_opposed : State → Option Root → Lit → List Literal → List Con
 on_opposed s o l ls = map (differing l) (filter (is_opposed s o l) ls)
 
 abbrev on_opposite : State → Lit → List Literal → List Con
 on_opposite s l ls = map (differing l) (filter (is_opposite s l) ls)
 
-assumed-same : (sat : List Con → Bool) (o : Option Tm) (l : Lit) (ls : List Literal) (t : State) → is_free t l ≡ true → o ≡ first_of (all_under (meaning t) l.atom.args)
+assumed-same : (sat : List Con → Bool) (o : Option Root) (l : Lit) (ls : List Literal) (t : State) → is_free t l ≡ true → o ≡ first_root (all_under (meaning t) l.atom.args)
     → assume_all sat (on_opposed t o l ls) t ≡ assume_all sat (on_opposite t l ls) t
 assumed-same sat o l [] t h k = refl
 assumed-same sat o l (a ∷ ls) t h k = by (is_opposite t l a) refl (starts_apart t.bound o a.lit) refl (assumed-same sat o l ls)
   where
     Rest : Type 0
-    Rest = (u : State) → is_free u l ≡ true → o ≡ first_of (all_under (meaning u) l.atom.args) → assume_all sat (on_opposed u o l ls) u ≡ assume_all sat (on_opposite u l ls) u
+    Rest = (u : State) → is_free u l ≡ true → o ≡ first_root (all_under (meaning u) l.atom.args) → assume_all sat (on_opposed u o l ls) u ≡ assume_all sat (on_opposite u l ls) u
 
     by : (b : Bool) → is_opposite t l a ≡ b → (c : Bool) → starts_apart t.bound o a.lit ≡ c → Rest
         → assume_all sat (map (differing l) (if not c && b then a ∷ filter (is_opposed t o l) ls else filter (is_opposed t o l) ls)) t
@@ -255,19 +243,18 @@ assumed-same sat o l (a ∷ ls) t h k = by (is_opposite t l a) refl (starts_apar
         assumed-then sat t (differing l a) (assume_all sat (on_opposed t o l ls)) (assume_all sat (on_opposite t l ls)) (no-universals t l a h (free-of t l a e)) (r t h k) (λ c. r (with_given t c) h k)
 
 -- in order, those that are left are assumed as all are
-left-out : (sat : List Con → Bool) (s : State) (l : Lit) (first : Option Term) → IfSome first (λ t. first_of (all_under (meaning s) l.atom.args) ≡ Some (tm_of t))
-    → assume_all sat (map (differing l) (opposed s (option_map tm_of first) l)) s ≡ assume_all sat (map (differing l) (opposites s l)) s
-left-out sat s l None h = refl
-left-out sat s l (Some t) h = by (is_free s l) refl
+left-out : (sat : List Con → Bool) (s : State) (l : Lit) (first : Option Root) → first ≡ first_root (all_under (meaning s) l.atom.args)
+    → assume_all sat (map (differing l) (opposed s first l)) s ≡ assume_all sat (map (differing l) (opposites s l)) s
+left-out sat s l first h = by (is_free s l) refl
   where
     by : (b : Bool) → is_free s l ≡ b
-        → assume_all sat (map (differing l) (if b then filter (is_opposed s (Some (tm_of t)) l) s.literals else [])) s ≡ assume_all sat (map (differing l) (if b then filter (is_opposite s l) s.literals else [])) s
-    by true e = assumed-same sat (Some (tm_of t)) l s.literals s e (sym h)
+        → assume_all sat (map (differing l) (if b then filter (is_opposed s first l) s.literals else [])) s ≡ assume_all sat (map (differing l) (if b then filter (is_opposite s l) s.literals else [])) s
+    by true e = assumed-same sat first l s.literals s e h
     by false e = refl
 
-pub assumed_alike : (s : State) (made : List Made) (bs : List Binding) (ls : List Literal) (l : Lit) (first : Option Term) (cs : List Con) → s.literals ≡ ls → s.bound ≡ bs → s.made ≡ made
-    → IfSome first (λ t. first_of (all_under (sub_of bs) l.atom.args) ≡ Some (tm_of t)) → cs ≡ map (differing l) (opposed (standing made bs ls) (option_map tm_of first) l)
+pub assumed_alike : (s : State) (made : List Made) (bs : List Binding) (ls : List Literal) (l : Lit) (first : Option Root) (cs : List Con) → s.literals ≡ ls → s.bound ≡ bs → s.made ≡ made
+    → first ≡ first_root (all_under (sub_of bs) l.atom.args) → cs ≡ map (differing l) (opposed (standing made bs ls) first l)
     → (sat : List Con → Bool) → assume_all sat cs s ≡ assume_all sat (map (differing l) (opposites s l)) s
 assumed_alike s made bs ls l first cs e b m h n sat =
-    ap (λ (ds : List Con). assume_all sat ds s) (n ∙ (λ i. map (differing l) (opposed (standing (sym m i) (sym b i) (sym e i)) (option_map tm_of first) l)))
-    ∙ left-out sat s l first (subst (λ (xs : List Binding). IfSome first (λ t. first_of (all_under (sub_of xs) l.atom.args) ≡ Some (tm_of t))) (sym b) h)
+    ap (λ (ds : List Con). assume_all sat ds s) (n ∙ (λ i. map (differing l) (opposed (standing (sym m i) (sym b i) (sym e i)) first l)))
+    ∙ left-out sat s l first (h ∙ ap (λ (xs : List Binding). first_root (all_under (sub_of xs) l.atom.args)) (sym b))

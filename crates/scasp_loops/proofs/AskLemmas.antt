@@ -4,6 +4,7 @@ use Rattle.std.proofs.lemmas.Bool.{and_parts, cases_order}
 use Rattle.std.proofs.lemmas.Bool.Decides.{Decides-eqb}
 use Rattle.std.proofs.lemmas.List.{at_drop_more, drop_all, reverse-append, take_all}
 use Rattle.std.proofs.lemmas.Option.{get_or_from_slice_get, slice_get_within}
+use Rattle.scasp_bound.specs.declared.roots.Root.{Root}
 use Rattle.scasp_loops.specs.Held.{literal_of}
 use Rattle.scasp_loops.specs.Inside.Asked.{is_alike, is_left_firm, is_not, is_opposed, is_repeated, is_seen, only_if, opposed, standing, starts_apart}
 use Rattle.scasp_loops.specs.Inside.Hinted.{Within, is_done, is_other, is_past, key_of, lit_key}
@@ -25,7 +26,6 @@ use Rattle.scasp_search_state.specs.Words.{first_number}
 use Rattle.scasp_search_rules.specs.Successors.Variables.{meaning}
 use Rattle.scasp_syntax.specs.Programs.{pred_of}
 use Rattle.scasp_syntax.specs.Same.{same_bool, same_tms}
-use Rattle.scasp_syntax.specs.Tm.{Tm}
 use Rattle.scasp_syntax.specs.Values.{all_under}
 use Rattle.scasp_syntax.specs.declared.con.Con.{Con}
 use Rattle.scasp_syntax.specs.declared.atom.Lit.{Lit}
@@ -377,19 +377,19 @@ last-false : (p q : Bool) → q ≡ false → (p && q) ≡ false
 last-false true q e = e
 last-false false q e = refl
 
-other_unopposed : (s : State) (f : Option Tm) (l : Lit) (a : Literal) → is_other (opposite_key l) a ≡ true → is_opposed s f l a ≡ false
+other_unopposed : (s : State) (f : Option Root) (l : Lit) (a : Literal) → is_other (opposite_key l) a ≡ true → is_opposed s f l a ≡ false
 other_unopposed s f l a o = last-false (not (starts_apart s.bound f a.lit)) (is_opposite s l a) (other-unopposed s l a o)
 
-unopposed_key : (s : State) (f : Option Tm) (l : Lit) (ls : List Literal) (key lo hi : ℕ) → key ≡ opposite_key l → Within (is_other key) lo hi ls → Within (is_not (is_opposed s f l)) lo hi ls
+unopposed_key : (s : State) (f : Option Root) (l : Lit) (ls : List Literal) (key lo hi : ℕ) → key ≡ opposite_key l → Within (is_other key) lo hi ls → Within (is_not (is_opposed s f l)) lo hi ls
 unopposed_key s f l ls key lo hi k w =
     within_not (is_opposed s f l) (opposite_key l) lo hi ls (other_unopposed s f l) (subst (λ (j : ℕ). Within (is_other j) lo hi ls) k w)
 
-pub apart_start : (s : State) (f : Option Tm) (l : Lit) (ls : List Literal) (key left count : ℕ) → key ≡ opposite_key l → left ≤ count → length ls ≤ count → Within (is_other key) left count ls
+pub apart_start : (s : State) (f : Option Root) (l : Lit) (ls : List Literal) (key left count : ℕ) → key ≡ opposite_key l → left ≤ count → length ls ≤ count → Within (is_other key) left count ls
     → map (differing l) (filter (is_opposed s f l) (drop left ls)) ≡ reverse []
 apart_start s f l ls key left count k h n w =
     ap (map (differing l)) (none_behind (is_opposed s f l) left count ls h n (unopposed_key s f l ls key left count k w))
 
-pub apart_next : (s : State) (f : Option Tm) (l : Lit) (es : List Entry) (ms : List Marks) (key to left : ℕ) (e : Entry) (m : Marks) (is : Bool) (made now : List Con) → key ≡ opposite_key l
+pub apart_next : (s : State) (f : Option Root) (l : Lit) (es : List Entry) (ms : List Marks) (key to left : ℕ) (e : Entry) (m : Marks) (is : Bool) (made now : List Con) → key ≡ opposite_key l
     → 0 < left → to ≤ left - 1 → slice_get es (left - 1) ≡ Some e → slice_get ms (left - 1) ≡ Some m → is ≡ is_opposed s f l (literal_of 0 e m)
     → Within (is_other key) to (left - 1) (literals_from 0 es ms) → now ≡ made ++ only_if is (differing l (literal_of 0 e m))
     → map (differing l) (filter (is_opposed s f l) (drop left (literals_from 0 es ms))) ≡ reverse made
@@ -405,6 +405,6 @@ apart_next s f l es ms key to left e m is made now k p t g h q w n i =
     by true = ap (λ (cs : List Con). differing l (literal_of 0 e m) ∷ cs) i ∙ sym (reverse-append made (differing l (literal_of 0 e m) ∷ []))
     by false = i ∙ ap reverse (sym (append-nil made))
 
-pub apart_whole : (s : State) (f : Option Tm) (l : Lit) (ls : List Literal) (left : ℕ) (made : List Con) → left ≤ 0 → map (differing l) (filter (is_opposed s f l) (drop left ls)) ≡ reverse made
+pub apart_whole : (s : State) (f : Option Root) (l : Lit) (ls : List Literal) (left : ℕ) (made : List Con) → left ≤ 0 → map (differing l) (filter (is_opposed s f l) (drop left ls)) ≡ reverse made
     → reverse made ≡ map (differing l) (filter (is_opposed s f l) ls)
 apart_whole s f l ls left made h i = sym i ∙ ap (λ (xs : List Literal). map (differing l) (filter (is_opposed s f l) xs)) (whole_left left ls h)

@@ -1,8 +1,8 @@
 //! Literals that a call repeats: the nearest one above, and one that is seen again.
-ghost use Rattle.std.specs.Prelude.{◌≡◌, ◌<◌, ◌≤◌, ℕ, false, filter, if◌then◌else◌, length, IfOk, IfSome, List, MatchOption, Some, ⊤};
+ghost use Rattle.std.specs.Prelude.{◌≡◌, ◌<◌, ◌≤◌, ℕ, false, filter, if◌then◌else◌, length, IfOk, List, MatchOption, Some, ⊤};
 ghost use Rattle.std.specs.List.{list_all};
 ghost use Rattle.scasp_loops.specs.Held.{literal_of};
-ghost use Rattle.scasp_loops.specs.Inside.Asked.{first_of, is_alike, is_left_firm, is_not, is_repeated, is_seen};
+ghost use Rattle.scasp_loops.specs.Inside.Asked.{first_root, is_alike, is_left_firm, is_not, is_repeated, is_seen};
 ghost use Rattle.scasp_loops.specs.Inside.Hinted.{AreHinted, AreHints, Within, lit_key};
 ghost use Rattle.scasp_loops.specs.Inside.Kept.{literals_in};
 ghost use Rattle.scasp_loops.specs.Inside.Open.{IsLast, open_among};
@@ -12,12 +12,11 @@ ghost use Rattle.scasp_search_rules.specs.Successors.Calls.{is_firm, is_same, ne
 ghost use Rattle.scasp_search_rules.specs.Successors.Reading.{among};
 ghost use Rattle.scasp_search_state.specs.Words.{first_number};
 ghost use Rattle.scasp_syntax.specs.Values.{all_under};
-ghost use Rattle.scasp_syntax.specs.View.{tm_of};
 ghost use Rattle.scasp_syntax.specs.declared.atom.Lit.{Lit as ThisLit};
 ghost use Rattle.scasp_unify.specs.Solving.{sub_of};
 ghost use Rattle.scasp_unify.specs.declared.bindings.Binding.{Binding};
 
-use crate::called::{Called, known_first, starts_apart};
+use crate::called::{Called, first_root, starts_apart};
 use crate::entry::{Entry, Marks};
 use crate::hints::{all_start_before, around_before, key_of, same_among, same_before};
 use crate::innermost::{entry_at, last_open, marks_at};
@@ -242,10 +241,10 @@ fn is_seen(
     entry: &Entry,
     marks: Marks,
 ) -> Result<bool, Memory>
-    requires { IfSome call.now.first (λ t. first_of (all_under (sub_of call.now.bound.now.now) call.now.lit.now.atom.args) ≡ Some (tm_of t)) }
+    requires { call.now.first ≡ first_root (all_under (sub_of call.now.bound.now.now) call.now.lit.now.atom.args) }
     ensures { IfOk result (λ seen. seen ≡ is_seen call.now.bound.now.now cases.now call.now.lit.now (literal_of 0 entry.now marks)) }
 {
-    if starts_apart(alloc, call.bound, &call.first, &entry.lit)? {
+    if starts_apart(call.bound, &call.first, &entry.lit) {
         return Ok(false);
     }
     if is_alike(&entry.lit, call.lit) && is_left_firm(entry, marks, cases) {
@@ -301,7 +300,7 @@ pub(crate) fn first_seen(
     let marks = lists.marks.as_slice();
     let key = key_of(lit.positive, lit.atom.name);
     let floor = floor_of(bound, lists.raised, lit);
-    let first = known_first(alloc, bound, &lit.atom.args)?;
+    let first = first_root(bound, &lit.atom.args);
     let call = Called { bound, lit, first };
     let mut found = None;
     let mut left = same_among(latest, key, marks.len());

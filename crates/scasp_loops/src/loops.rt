@@ -11,7 +11,7 @@ ghost use Rattle.scasp_syntax.specs.declared.con.Con.{Con as ThisCon};
 ghost use Rattle.scasp_trail.specs.Past.{earlier, is_marked, latest};
 
 use crate::asking::{first_seen, nearest_open};
-use crate::called::{Called, known_first};
+use crate::called::{Called, first_root};
 use crate::ending::{end_each, note_each};
 use crate::entry::{Entered, Entry, Marks};
 use crate::innermost::{end_last, entry_at, loop_out, marks_at, note_done};
@@ -169,7 +169,7 @@ impl Loops {
         ensures { (s : State) → s.literals ≡ self.now.now → s.bound ≡ bound.now.now → s.made ≡ variables.now.now → IfOk result (λ made. (sat : List ThisCon → Bool) → assume_all sat made s ≡ assume_all sat (map (differing lit.now) (opposites s lit.now)) s) }
     {
         let latest = self.latest.as_slice();
-        let first = known_first(alloc, bound, &lit.atom.args)?;
+        let first = first_root(bound, &lit.atom.args);
         let call = Called { bound, lit, first };
         let made = apart_from_opposites(alloc, &self.lists, latest, variables, &call)?;
         Ok(made)

@@ -1,5 +1,5 @@
 //! Literals of the other sign.
-ghost use Rattle.std.specs.Prelude.{◌≡◌, ◌≤◌, [], ◌++◌, filter, length, map, option_map, reverse, IfOk, OnOk};
+ghost use Rattle.std.specs.Prelude.{◌≡◌, ◌≤◌, [], ◌++◌, filter, length, map, reverse, IfOk, OnOk};
 ghost use Rattle.scasp_loops.specs.Held.{literal_of};
 ghost use Rattle.scasp_loops.specs.Inside.Asked.{is_opposed, only_if, opposed, standing};
 ghost use Rattle.scasp_loops.specs.Inside.Hinted.{AreHinted};
@@ -75,9 +75,9 @@ fn is_opposed(
     entry: &Entry,
     marks: Marks,
 ) -> Result<bool, Memory>
-    ensures { IfOk result (λ is. is ≡ is_opposed (standing variables.now.now call.now.bound.now.now []) (option_map tm_of call.now.first) call.now.lit.now (literal_of 0 entry.now marks)) }
+    ensures { IfOk result (λ is. is ≡ is_opposed (standing variables.now.now call.now.bound.now.now []) call.now.first call.now.lit.now (literal_of 0 entry.now marks)) }
 {
-    if starts_apart(alloc, call.bound, &call.first, &entry.lit)? {
+    if starts_apart(call.bound, &call.first, &entry.lit) {
         return Ok(false);
     }
     is_opposite(alloc, call.bound, variables, call.lit, entry, marks)
@@ -154,7 +154,7 @@ fn all_differing(
 ) -> Result<Cons, Memory>
     requires fit { length lists.now.marks.now ≤ length lists.now.entries.now }
     requires hinted { AreHinted (literals_in lists.now) lists.now.hints.now latest.now }
-    ensures { IfOk result (λ made. made ≡ map (differing call.now.lit.now) (filter (is_opposed (standing variables.now.now call.now.bound.now.now []) (option_map tm_of call.now.first) call.now.lit.now) (literals_in lists.now))) }
+    ensures { IfOk result (λ made. made ≡ map (differing call.now.lit.now) (filter (is_opposed (standing variables.now.now call.now.bound.now.now []) call.now.first call.now.lit.now) (literals_in lists.now))) }
 {
     let entries = lists.entries.as_slice();
     let marks = lists.marks.as_slice();
@@ -184,7 +184,7 @@ pub(crate) fn apart_from_opposites(
 ) -> Result<Cons, Memory>
     requires fit { length lists.now.marks.now ≤ length lists.now.entries.now }
     requires hinted { AreHinted (literals_in lists.now) lists.now.hints.now latest.now }
-    ensures { IfOk result (λ made. made ≡ map (differing call.now.lit.now) (opposed (standing variables.now.now call.now.bound.now.now (literals_in lists.now)) (option_map tm_of call.now.first) call.now.lit.now)) }
+    ensures { IfOk result (λ made. made ≡ map (differing call.now.lit.now) (opposed (standing variables.now.now call.now.bound.now.now (literals_in lists.now)) call.now.first call.now.lit.now)) }
 {
     if is_free(alloc, call.bound, variables, call.lit)? {
         all_differing(alloc, lists, latest, variables, call)

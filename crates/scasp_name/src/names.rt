@@ -5,17 +5,19 @@ ghost use Rattle.scasp_name.specs.Texts.{has_text, with_text, list_names, AreDis
 use crate::{Memory, NameId};
 use indexmap::IndexSet;
 use std::alloc::Global;
+use std::hash::RandomState;
 use std::marker::Model;
 
 /// A list of distinct texts, in order of first use.
 pub struct Names {
-    texts: IndexSet<String>,
+    texts: IndexSet<String, RandomState>,
+    keys: RandomState,
 }
 
 impl Drop for Names {
     /// Frees the texts. The crates above call this, and need not prove how each part is freed.
     fn drop(self) {
-        let Names { texts } = self;
+        let Names { texts, keys: _ } = self;
         drop(texts);
     }
 }
@@ -32,14 +34,20 @@ impl Model for Names {
 }
 
 impl Names {
-    /// The table of the two names of lists.
-    pub fn new(alloc: Global) -> Result<Names, Memory>
+    /// The table of the two names of lists. The texts are hashed by the keys: whoever writes a program does not know keys
+    /// that were drawn at random, so no choice of names makes the table slow.
+    pub fn new(alloc: Global, keys: RandomState) -> Result<Names, Memory>
         ensures { IfOk result (λ names. names ≡ list_names) }
     {
-        let mut texts = IndexSet::new(alloc);
+        let mut texts = IndexSet::with_hasher(alloc, keys);
         texts.insert(String::from_str(alloc, "[]")?)?;
         texts.insert(String::from_str(alloc, "[|]")?)?;
-        Ok(Names { texts })
+        Ok(Names { texts, keys })
+    }
+
+    /// The keys by which the texts are hashed, for other tables over what the same files hold.
+    pub fn keys(&self) -> RandomState {
+        self.keys
     }
 
     /// The name of the text, which goes last where it is new. Old names keep their texts.

@@ -10,6 +10,7 @@ use crate::words::stem;
 use scasp_name::Memory;
 use smallvec::SmallVec;
 use std::alloc::Global;
+use std::hash::RandomState;
 
 /// A subtree: how deep its first line stands, how many lines it has, and its class.
 #[derive(Clone, Copy)]
@@ -68,12 +69,16 @@ fn add_root<'a>(
     Ok(root)
 }
 
-/// The subtree of each line.
-pub(crate) fn marks_of(alloc: Global, lines: &[Line<'_>]) -> Result<Vec<Root>, Memory>
+/// The subtree of each line, by a table that is hashed by the keys.
+pub(crate) fn marks_of(
+    alloc: Global,
+    lines: &[Line<'_>],
+    random: RandomState,
+) -> Result<Vec<Root>, Memory>
     ensures { IfOk result (λ marks. spec.AreMarks (read_all lines.now) marks.items) }
 {
     let mut left = lines.len();
-    let mut table = Table::with_room(alloc, left)?;
+    let mut table = Table::with_room(alloc, left, random)?;
     let mut roots = Vec::new(alloc);
     let mut marks = Vec::with_capacity(alloc, left)?;
     while left > 0 {

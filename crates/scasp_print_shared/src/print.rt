@@ -21,5 +21,5 @@ pub fn print_shared(
     ensures { IfOk result (λ text. text.items ≡ shared_text (block_text names.now (certificate_of cert.now) answer)) }
 {
     let block = print_cert(alloc, names, cert, answer)?;
-    share(alloc, &block)
+    share(alloc, &block, names.keys())
 }

@@ -12,7 +12,7 @@ use indexmap::IndexSet;
 use scasp_name::Memory;
 use smallvec::SmallVec;
 use std::alloc::Global;
-use std::hash::{Hash, Hasher};
+use std::hash::{Hash, Hasher, RandomState};
 use std::marker::Model;
 
 /// The words of a line without a line number at their end, and the classes of the subtrees right below it.
@@ -51,7 +51,7 @@ impl<'a> Hash for Key<'a> {
 /// Distinct keys, each with its place.
 #[derive(Drop)]
 pub(crate) struct Table<'a> {
-    keys: IndexSet<Key<'a>>,
+    keys: IndexSet<Key<'a>, RandomState>,
 }
 
 impl<'a> Model for Table<'a> {
@@ -64,12 +64,16 @@ impl<'a> Model for Table<'a> {
 }
 
 impl<'a> Table<'a> {
-    /// No keys, with room for so many.
-    pub(crate) fn with_room(alloc: Global, count: usize) -> Result<Table<'a>, Memory>
+    /// No keys, with room for so many, which are hashed by these random keys.
+    pub(crate) fn with_room(
+        alloc: Global,
+        count: usize,
+        random: RandomState,
+    ) -> Result<Table<'a>, Memory>
         ensures { IfOk result (λ table. table ≡ []) }
     {
         Ok(Table {
-            keys: IndexSet::with_capacity(alloc, count)?,
+            keys: IndexSet::with_capacity_and_hasher(alloc, count, random)?,
         })
     }
 

@@ -13,6 +13,7 @@ use crate::put::{put_copy, put_line};
 use crate::search::least_copy;
 use scasp_name::Memory;
 use smallvec::SmallVec;
+use std::hash::RandomState;
 
 /// Puts the line, or the copy that stands for its subtree; gives back how many lines behind it are left out.
 fn put_next(
@@ -41,12 +42,16 @@ fn put_next(
     }
 }
 
-/// Puts the numbered lines at the end, with their copies.
-pub(crate) fn put_shared(out: &mut Vec<u8>, lines: &[Line<'_>]) -> Result<(), Memory>
+/// Puts the numbered lines at the end, with their copies, which a table finds that is hashed by the keys.
+pub(crate) fn put_shared(
+    out: &mut Vec<u8>,
+    lines: &[Line<'_>],
+    random: RandomState,
+) -> Result<(), Memory>
     ensures { OnOk result (out.new.items ≡ out.old.items ++ flat_map piece_text (spec.shared_lines [] (read_all lines.now))) }
 {
     let alloc = *out.allocator();
-    let marks = marks_of(alloc, lines)?;
+    let marks = marks_of(alloc, lines, random)?;
     let mut places = Vec::new(alloc);
     let mut left_out = 0usize;
     for line in 0..lines.len() {

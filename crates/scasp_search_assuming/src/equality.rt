@@ -67,10 +67,10 @@ fn equate_pairs<M: Situation>(alloc: Global, at: &mut M, pairs: Pairs) -> Result
 pub fn equate_terms<M: Situation>(
     alloc: Global,
     at: &mut M,
-    left: &Term,
-    right: &Term,
+    left: Term,
+    right: Term,
 ) -> Result<bool, SearchErr>
-    ensures now { Goes result (equate_terms sat (M.now at.old) (tm_of left.now) (tm_of right.now)) (M.now at.new) }
+    ensures now { Goes result (equate_terms sat (M.now at.old) (tm_of left) (tm_of right)) (M.now at.new) }
     ensures points { IfOk result (λ _. M.points at.new ≡ M.points at.old) }
 {
     let pairs = pairs_read(alloc, at, left, right)?;

@@ -2,7 +2,6 @@
 
 mod building;
 mod certificate;
-mod depth;
 mod given;
 mod numbering;
 mod renaming;

@@ -44,7 +44,7 @@ fn done<M: Foresees>(
 {
     match task {
         Task::Show(item) => shown(alloc, program, at, &item),
-        Task::Equate(left, right) => equate_terms(alloc, at, &left, &right),
+        Task::Equate(left, right) => equate_terms(alloc, at, left, right),
         Task::Assume(constraint) => assume(alloc, at, &constraint),
         Task::Differ(pairs, aim) => differ_terms(alloc, at, pairs, aim),
         Task::Become { x, term, rest, aim } => same_value(alloc, at, x, &term, rest, aim),

@@ -9,6 +9,7 @@ use crate::opener::Opener;
 use crate::retrying::read_retrying;
 use scasp_io::{Failed, Files};
 use std::alloc::Global;
+use std::hash::RandomState;
 use std::io;
 use std::io::Read;
 
@@ -33,6 +34,7 @@ pub struct SystemFiles<S: Opener> {
     opener: S,
     current: Option<OpenFile<S::File>>,
     faults: u64,
+    keys: RandomState,
     ghost stands: { ForSome current (λ o. StandsAt (S.told opener (string_bytes o.name)) o.at (S.File.remaining o.file)) } by { Π_prop (λ o. →_prop (StandsAt-prop (S.told opener (string_bytes o.name)) o.at (S.File.remaining o.file))) },
 }
 
@@ -54,8 +56,8 @@ fn skip<R: Read>(file: &mut R, count: u64) -> io::Result<()>
 }
 
 impl<S: Opener> SystemFiles<S> {
-    /// The files of the opener. No fault is counted yet.
-    pub fn new(alloc: Global, opener: S) -> SystemFiles<S>
+    /// The files of the opener, which tell these keys. No fault is counted yet.
+    pub fn new(alloc: Global, opener: S, keys: RandomState) -> SystemFiles<S>
         ensures told { (name : List ℕ) → ⟦<SystemFiles<S> as Files>⟧.told result name ≡ S.told opener name }
         ensures faults { (name : List ℕ) → ⟦<SystemFiles<S> as Files>⟧.faults result name ≡ 0 }
     {
@@ -64,6 +66,7 @@ impl<S: Opener> SystemFiles<S> {
             opener,
             current: None,
             faults: 0,
+            keys,
         }
     }
 
@@ -116,5 +119,9 @@ impl<S: Opener> Files for SystemFiles<S> {
                 Err(Failed)
             }
         }
+    }
+
+    fn hash_keys(&self) -> RandomState {
+        self.keys
     }
 }

@@ -8,6 +8,7 @@ use crate::keys::atom_key;
 use scasp_list::Memory;
 use scasp_syntax::{Atom, DeepCopy, Sequence};
 use std::alloc::Global;
+use std::hash::RandomState;
 use std::marker::Model;
 
 /// Distinct atoms, each with its number: its place, counted from 0.
@@ -35,13 +36,13 @@ impl Model for AtomTable {
 }
 
 impl AtomTable {
-    /// No atoms. It takes no memory.
-    pub fn new(alloc: Global) -> AtomTable
+    /// No atoms; those to come are hashed by the keys. It takes no memory.
+    pub fn new(alloc: Global, random: RandomState) -> AtomTable
         ensures { result ≡ [] }
     {
         AtomTable {
             atoms: Sequence::new(alloc),
-            keys: KeyTable::new(alloc),
+            keys: KeyTable::new(alloc, random),
         }
     }
 

@@ -12,6 +12,7 @@ use crate::pushed::Pushed;
 use scasp_list::Memory;
 use scasp_syntax::{Term, Terms, is_ground};
 use std::alloc::Global;
+use std::hash::RandomState;
 use std::marker::Model;
 
 /// A finite list of distinct ground terms, which clauses take for their variables.
@@ -19,6 +20,7 @@ use std::marker::Model;
 pub struct Domain {
     terms: Terms,
     keys: KeyTable,
+    random: RandomState,
 }
 
 impl Model for Domain {
@@ -38,14 +40,20 @@ impl Model for Domain {
 }
 
 impl Domain {
-    /// The empty domain. It takes no memory.
-    pub fn new(alloc: Global) -> Domain
+    /// The empty domain, whose members will be hashed by the keys. It takes no memory.
+    pub fn new(alloc: Global, random: RandomState) -> Domain
         ensures { result ≡ nil }
     {
         Domain {
             terms: Terms::new(alloc),
-            keys: KeyTable::new(alloc),
+            keys: KeyTable::new(alloc, random),
+            random,
         }
+    }
+
+    /// The keys by which the members are hashed, for other tables over terms of the domain.
+    pub fn hash_keys(&self) -> RandomState {
+        self.random
     }
 
     /// The number of members.

@@ -5,12 +5,13 @@ ghost use Rattle.scasp_name.specs.Texts.{has_text};
 use indexmap::IndexSet;
 use scasp_list::Memory;
 use std::alloc::Global;
+use std::hash::RandomState;
 use std::marker::Model;
 
 /// Distinct lists of numbers, each with its place.
 #[derive(Drop)]
 pub(crate) struct KeyTable {
-    keys: IndexSet<Vec<u64>>,
+    keys: IndexSet<Vec<u64>, RandomState>,
 }
 
 impl Model for KeyTable {
@@ -22,12 +23,12 @@ impl Model for KeyTable {
 }
 
 impl KeyTable {
-    /// No keys. It takes no memory.
-    pub(crate) fn new(alloc: Global) -> KeyTable
+    /// No keys; those to come are hashed by these random keys. It takes no memory.
+    pub(crate) fn new(alloc: Global, random: RandomState) -> KeyTable
         ensures { result ≡ [] }
     {
         KeyTable {
-            keys: IndexSet::new(alloc),
+            keys: IndexSet::with_hasher(alloc, random),
         }
     }
 

@@ -6,6 +6,7 @@ use scasp_io::{
 };
 use scasp_test_samples::one;
 use std::alloc::Global;
+use std::hash::RandomState;
 use std::test::Fail;
 
 /// The length of the file `p`, the name that is read, the number of the read that fails, and the limit; and what is answered, if
@@ -88,9 +89,9 @@ const READINGS: &[Reading] = &[
 ];
 
 /// Whether the bytes are read, or refused, as they should be.
-fn is_read(alloc: Global, row: &Reading) -> Result<bool, Memory> {
+fn is_read(alloc: Global, row: &Reading, keys: RandomState) -> Result<bool, Memory> {
     let bytes = sample(alloc, row.length)?;
-    let mut files = failing_file(alloc, bytes.as_slice(), row.failing)?;
+    let mut files = failing_file(alloc, bytes.as_slice(), row.failing, keys)?;
     let is_answered = match read_file(alloc, &mut files, row.name, row.limit) {
         Ok(all) => row.error.is_none() && all.as_slice() == bytes.as_slice(),
         Err(error) => row.error == Some(error),
@@ -100,8 +101,9 @@ fn is_read(alloc: Global, row: &Reading) -> Result<bool, Memory> {
 
 #[test]
 fn reads_whole_files(rt: HostRuntime) -> Result<(), Fail> {
+    let keys = RandomState::new(&rt)?;
     for (number, row) in READINGS.iter().enumerate() {
-        assert!(rt; is_read(rt.alloc(), row)?, "at {number}");
+        assert!(rt; is_read(rt.alloc(), row, keys)?, "at {number}");
     }
     Ok(())
 }
@@ -143,7 +145,8 @@ fn writes_all_bytes(rt: HostRuntime) -> Result<(), Fail> {
 #[test]
 fn never_fails(rt: HostRuntime) -> Result<(), Fail> {
     let bytes = sample(rt.alloc(), 5_000)?;
-    let mut files = SureFiles::new(one_file(rt.alloc(), bytes.as_slice())?);
+    let file = one_file(rt.alloc(), bytes.as_slice())?;
+    let mut files = SureFiles::new(file, RandomState::new(&rt)?);
     let all = read_sure(rt.alloc(), &mut files, "p", 5_000)?;
     assert_eq!(rt; all.as_slice(), bytes.as_slice());
     assert!(rt; read_sure(rt.alloc(), &mut files, "q", 0)?.is_empty());

@@ -2,6 +2,7 @@
 use scasp_io::{Bytes, CallList, MemFile, MemFileList, MemFiles, Memory};
 use scasp_test_samples::one;
 use std::alloc::{AllocError, Global};
+use std::hash::RandomState;
 
 /// So many bytes, each other than the one before.
 pub(crate) fn sample(alloc: Global, length: u64) -> Result<Vec<u8>, AllocError> {
@@ -22,7 +23,12 @@ pub(crate) fn one_file(alloc: Global, bytes: &[u8]) -> Result<MemFileList, Memor
 }
 
 /// One file by the name `p`, of which the read of this number fails.
-pub(crate) fn failing_file(alloc: Global, bytes: &[u8], read: u64) -> Result<MemFiles, Memory> {
+pub(crate) fn failing_file(
+    alloc: Global,
+    bytes: &[u8],
+    read: u64,
+    keys: RandomState,
+) -> Result<MemFiles, Memory> {
     let calls: CallList = one(alloc, read)?;
-    Ok(MemFiles::new(one_file(alloc, bytes)?, calls))
+    Ok(MemFiles::new(one_file(alloc, bytes)?, calls, keys))
 }

@@ -6,6 +6,7 @@ use crate::samples::sample;
 use scasp_io::{Files, ReadErr, SinkFault, read_file, write_all};
 use scasp_system::{Opener, SystemFiles, SystemSink, command_words};
 use std::alloc::{AllocError, Global};
+use std::hash::RandomState;
 use std::io;
 use std::io::{Read, Write};
 use std::test::Fail;
@@ -96,7 +97,7 @@ fn reads_whole_files(rt: HostRuntime) -> Result<(), Fail> {
         name: "p",
         bytes: bytes.as_slice(),
     };
-    let mut files = SystemFiles::new(rt.alloc(), opener);
+    let mut files = SystemFiles::new(rt.alloc(), opener, RandomState::new(&rt)?);
     for row in rows {
         assert!(rt; is_read(rt.alloc(), &mut files, row, bytes.as_slice()));
     }
@@ -110,7 +111,7 @@ fn reads_at_any_byte(rt: HostRuntime) -> Result<(), Fail> {
         name: "p",
         bytes: bytes.as_slice(),
     };
-    let mut files = SystemFiles::new(rt.alloc(), opener);
+    let mut files = SystemFiles::new(rt.alloc(), opener, RandomState::new(&rt)?);
     let mut buffer = [0u8; 8];
     let rows: [(usize, usize); 8] = [
         (0, 8),
@@ -133,7 +134,7 @@ fn reads_at_any_byte(rt: HostRuntime) -> Result<(), Fail> {
 #[test]
 fn a_read_that_fails_is_counted(rt: HostRuntime) -> Result<(), Fail> {
     let opener = Stuttering { bytes: b"abcdefgh" };
-    let mut files = SystemFiles::new(rt.alloc(), opener);
+    let mut files = SystemFiles::new(rt.alloc(), opener, RandomState::new(&rt)?);
     let mut buffer = [0u8; 8];
     assert_eq!(rt; files.read("p", 0, &mut buffer), Ok(3));
     assert!(rt; files.read("p", 3, &mut buffer).is_err());

@@ -5,6 +5,7 @@ use scasp_name::Names;
 use scasp_syntax::Program;
 use scasp_tables::Domain;
 use std::alloc::Global;
+use std::hash::RandomState;
 use std::test::Fail;
 
 /// A program, how many numbers there are, and the instances.
@@ -49,16 +50,17 @@ fn are_instances(
     Ok(text.as_slice() == instances.as_bytes())
 }
 
-fn has_instances(alloc: Global, row: &Row) -> Result<bool, Fail> {
-    let (program, names) = read(alloc, row.program)?;
-    let domain = numbers(alloc, row.members)?;
+fn has_instances(alloc: Global, row: &Row, keys: RandomState) -> Result<bool, Fail> {
+    let (program, names) = read(alloc, row.program, keys)?;
+    let domain = numbers(alloc, row.members, keys)?;
     are_instances(alloc, &program, &names, &domain, row.instances)
 }
 
 #[test]
 fn grounds(rt: HostRuntime) -> Result<(), Fail> {
+    let keys = RandomState::new(&rt)?;
     for row in &ROWS {
-        assert!(rt; has_instances(rt.alloc(), row)?);
+        assert!(rt; has_instances(rt.alloc(), row, keys)?);
     }
     Ok(())
 }

@@ -4,6 +4,7 @@ use scasp_ground::{GroundErr, ground};
 use scasp_syntax::Program;
 use scasp_tables::Domain;
 use std::alloc::Global;
+use std::hash::RandomState;
 use std::test::Fail;
 
 /// A program, how many numbers there are, and what comes of it.
@@ -65,24 +66,26 @@ fn count(alloc: Global, program: &Program, domain: &Domain) -> Result<usize, Gro
     Ok(made.len())
 }
 
-fn comes_to(alloc: Global, row: &Row) -> Result<bool, Fail> {
-    let (program, _names) = read(alloc, row.program)?;
-    let domain = numbers(alloc, row.members)?;
+fn comes_to(alloc: Global, row: &Row, keys: RandomState) -> Result<bool, Fail> {
+    let (program, _names) = read(alloc, row.program, keys)?;
+    let domain = numbers(alloc, row.members, keys)?;
     Ok(count(alloc, &program, &domain) == row.outcome)
 }
 
 #[test]
 fn counts_instances(rt: HostRuntime) -> Result<(), Fail> {
+    let keys = RandomState::new(&rt)?;
     for row in &LARGE {
-        assert!(rt; comes_to(rt.alloc(), row)?);
+        assert!(rt; comes_to(rt.alloc(), row, keys)?);
     }
     Ok(())
 }
 
 #[test]
 fn tells_overflows(rt: HostRuntime) -> Result<(), Fail> {
+    let keys = RandomState::new(&rt)?;
     for row in &OVERFLOWS {
-        assert!(rt; comes_to(rt.alloc(), row)?);
+        assert!(rt; comes_to(rt.alloc(), row, keys)?);
     }
     Ok(())
 }

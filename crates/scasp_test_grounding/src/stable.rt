@@ -4,6 +4,7 @@ use scasp_ground::ground;
 use scasp_model::{AtomList, GroundProgram};
 use scasp_syntax::Program;
 use std::alloc::Global;
+use std::hash::RandomState;
 use std::test::Fail;
 
 /// A program, how many numbers there are, facts that are tried as a model, and whether they are stable.
@@ -73,36 +74,45 @@ fn are_told(
     made: &GroundProgram,
     atoms: &AtomList,
     is_stable: bool,
+    keys: RandomState,
 ) -> Result<bool, Fail> {
     let by_rounds = scasp_model::is_stable(alloc, made, atoms)?;
-    let by_worklist = scasp_closure::is_stable(alloc, made, atoms)?;
+    let by_worklist = scasp_closure::is_stable(alloc, made, atoms, keys)?;
     Ok(by_rounds == is_stable && by_worklist == is_stable)
 }
 
-fn is_told_of(alloc: Global, program: &Program, atoms: &AtomList, row: &Row) -> Result<bool, Fail> {
-    let domain = numbers(alloc, row.members)?;
+fn is_told_of(
+    alloc: Global,
+    program: &Program,
+    atoms: &AtomList,
+    row: &Row,
+    keys: RandomState,
+) -> Result<bool, Fail> {
+    let domain = numbers(alloc, row.members, keys)?;
     let made = ground(alloc, program, &domain)?;
-    are_told(alloc, &made, atoms, row.is_stable)
+    are_told(alloc, &made, atoms, row.is_stable, keys)
 }
 
-fn is_told(alloc: Global, row: &Row) -> Result<bool, Fail> {
-    let (program, names) = read(alloc, row.program)?;
+fn is_told(alloc: Global, row: &Row, keys: RandomState) -> Result<bool, Fail> {
+    let (program, names) = read(alloc, row.program, keys)?;
     let atoms = atoms_in(alloc, row.atoms, names)?;
-    is_told_of(alloc, &program, &atoms, row)
+    is_told_of(alloc, &program, &atoms, row, keys)
 }
 
 #[test]
 fn tells_by_what_is_denied(rt: HostRuntime) -> Result<(), Fail> {
+    let keys = RandomState::new(&rt)?;
     for row in &NEGATIONS {
-        assert!(rt; is_told(rt.alloc(), row)?);
+        assert!(rt; is_told(rt.alloc(), row, keys)?);
     }
     Ok(())
 }
 
 #[test]
 fn tells_by_what_is_founded(rt: HostRuntime) -> Result<(), Fail> {
+    let keys = RandomState::new(&rt)?;
     for row in &CHAINS {
-        assert!(rt; is_told(rt.alloc(), row)?);
+        assert!(rt; is_told(rt.alloc(), row, keys)?);
     }
     Ok(())
 }

@@ -7,11 +7,12 @@ use scasp_reader::read_program;
 use scasp_syntax::{Atom, DeepCopy, Lits, Program, Sequence, Term};
 use scasp_tables::Domain;
 use std::alloc::Global;
+use std::hash::RandomState;
 use std::test::Fail;
 
-/// The program that the text spells, with its names.
-pub(crate) fn read(alloc: Global, text: &str) -> Result<(Program, Names), Fail> {
-    let names = Names::new(alloc)?;
+/// The program that the text spells, with its names, which are hashed by the keys.
+pub(crate) fn read(alloc: Global, text: &str, keys: RandomState) -> Result<(Program, Names), Fail> {
+    let names = Names::new(alloc, keys)?;
     Ok(read_program(alloc, text.as_bytes(), names)?)
 }
 
@@ -32,9 +33,9 @@ pub(crate) fn atoms_in(alloc: Global, text: &str, names: Names) -> Result<AtomLi
     heads(alloc, &facts)
 }
 
-/// The numbers from 0 on.
-pub(crate) fn numbers(alloc: Global, count: u64) -> Result<Domain, Fail> {
-    let mut domain = Domain::new(alloc);
+/// The numbers from 0 on, hashed by the keys.
+pub(crate) fn numbers(alloc: Global, count: u64, keys: RandomState) -> Result<Domain, Fail> {
+    let mut domain = Domain::new(alloc, keys);
     for number in 0..count {
         let _pushed = domain.push(alloc, Term::Num(Rat::new(i128::from(number), 1)?))?;
     }

@@ -4,6 +4,7 @@ use crate::texts::{Pieces, text_of};
 use scasp_io::Memory;
 use scasp_top::Status;
 use std::alloc::Global;
+use std::hash::RandomState;
 use std::process::Abort;
 use std::test::Fail;
 
@@ -27,7 +28,7 @@ static FILES: [Pieces; 2] = [
 ];
 
 /// Whether the check of the file refuses it.
-fn is_refused(alloc: Global, file: &Pieces) -> Result<bool, Memory> {
+fn is_refused(alloc: Global, keys: RandomState, file: &Pieces) -> Result<bool, Memory> {
     let text = text_of(alloc, file)?;
     let command = Command {
         words: &["check", "p", "a"],
@@ -35,18 +36,18 @@ fn is_refused(alloc: Global, file: &Pieces) -> Result<bool, Memory> {
         answers: text.as_str(),
     };
     let line = "1.1 refused 0 wrong query\nchecked 1\n";
-    prints(alloc, &command, line, Status::Refused)
+    prints(alloc, keys, &command, line, Status::Refused)
 }
 
-fn check_files(rt: &impl Abort, alloc: Global) -> Result<(), Memory> {
+fn check_files(rt: &impl Abort, alloc: Global, keys: RandomState) -> Result<(), Memory> {
     for (number, file) in FILES.iter().enumerate() {
-        assert!(rt; is_refused(alloc, file)?, "at {number}");
+        assert!(rt; is_refused(alloc, keys, file)?, "at {number}");
     }
     Ok(())
 }
 
 #[test]
 fn deep_terms_are_refused(rt: HostRuntime) -> Result<(), Fail> {
-    check_files(&rt, rt.alloc())?;
+    check_files(&rt, rt.alloc(), RandomState::new(&rt)?)?;
     Ok(())
 }

@@ -4,84 +4,61 @@ use crate::texts::{EMPTY, Pieces, text_of};
 use scasp_io::Memory;
 use scasp_top::Status;
 use std::alloc::Global;
+use std::hash::RandomState;
 use std::process::Abort;
 use std::test::Fail;
 
-/// A program, what is printed for a command on it, and the status.
+/// A command on a program with a long list, and what is printed for it.
 #[derive(Clone, Copy)]
 struct Case {
     words: &'static [&'static str],
-    program: Pieces,
     printed: &'static str,
-    status: Status,
 }
 
 /// The answers that are checked.
 const ANSWERS: &str =
     "scasp 1\nanswer 1.1 []\nsample []\ntree\n pos q rule 2 []\nmap p/1 0 +\nmap q/0 0 +\nend\n% domain any\nstopped 1\n";
 
-/// A fact with a list of 9,000 elements, which the query is not about.
+/// A fact with a list of 100,000 elements, which the query is not about.
 const LIST: Pieces = Pieces {
     before: "p([a",
     piece: ",a",
-    times: 8_999,
+    times: 99_999,
     behind: "]). q. ?- q.",
     ..EMPTY
 };
 
-/// The same with so many elements that the list nests too deep.
-const LONG_LIST: Pieces = Pieces {
-    times: 29_999,
-    ..LIST
-};
-
-static CASES: [Case; 4] = [
+static CASES: [Case; 2] = [
     Case {
         words: &["run", "p"],
-        program: LIST,
         printed: ANSWERS,
-        status: Status::Done,
     },
     Case {
         words: &["check", "p", "a"],
-        program: LIST,
         printed: "1.1 right any\nchecked 1\n",
-        status: Status::Done,
-    },
-    Case {
-        words: &["run", "p"],
-        program: LONG_LIST,
-        printed: "",
-        status: Status::Memory,
-    },
-    Case {
-        words: &["check", "p", "a"],
-        program: LONG_LIST,
-        printed: "",
-        status: Status::Memory,
     },
 ];
 
-/// Whether the command prints what it should, and ends so.
-fn is_told(alloc: Global, case: &Case) -> Result<bool, Memory> {
-    let program = text_of(alloc, &case.program)?;
+/// Whether the command prints what it should, and ends well.
+fn is_told(alloc: Global, keys: RandomState, case: &Case) -> Result<bool, Memory> {
+    let program = text_of(alloc, &LIST)?;
     let command = Command {
         words: case.words,
         program: program.as_str(),
         answers: ANSWERS,
     };
-    prints(alloc, &command, case.printed, case.status)
+    prints(alloc, keys, &command, case.printed, Status::Done)
 }
 
-fn check_cases(rt: &impl Abort, alloc: Global) -> Result<(), Memory> {
+fn check_cases(rt: &impl Abort, alloc: Global, keys: RandomState) -> Result<(), Memory> {
     for (number, case) in CASES.iter().enumerate() {
-        assert!(rt; is_told(alloc, case)?, "at {number}");
+        assert!(rt; is_told(alloc, keys, case)?, "at {number}");
     }
     Ok(())
 }
 
 #[test]
 fn long_programs_are_told(rt: HostRuntime) -> Result<(), Fail> {
-    check_cases(&rt, rt.alloc())?;
+    check_cases(&rt, rt.alloc(), RandomState::new(&rt)?)?;
     Ok(())
 }

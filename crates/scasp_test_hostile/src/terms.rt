@@ -4,6 +4,7 @@ use crate::texts::{EMPTY, Pieces, text_of};
 use scasp_io::Memory;
 use scasp_top::Status;
 use std::alloc::Global;
+use std::hash::RandomState;
 use std::process::Abort;
 use std::test::Fail;
 
@@ -29,37 +30,35 @@ fn answer(alloc: Global, depth: u64) -> Result<String, Memory> {
     Ok(text)
 }
 
-/// How deep the term is, what the check prints, and the status. Deeper than 10,000 it is want of memory.
-const TERMS: &[(u64, &str, Status)] = &[
-    (1, "1.1 right any\nchecked 1\n", Status::Done),
-    (5_000, "1.1 right any\nchecked 1\n", Status::Done),
-    (10_001, "", Status::Memory),
-    (100_000, "", Status::Memory),
-];
+/// How deep the term is.
+const DEPTHS: &[u64] = &[1, 10_001, 100_000];
 
-/// Whether the check of the answer prints this, and ends so.
-fn is_told(alloc: Global, depth: u64, printed: &str, status: Status) -> Result<bool, Memory> {
+/// Whether the check of the answer finds it right.
+fn is_right(alloc: Global, keys: RandomState, depth: u64) -> Result<bool, Memory> {
     let text = answer(alloc, depth)?;
     let command = Command {
         words: &["check", "p", "a"],
         program: "p(X). ?- p(Y).",
         answers: text.as_str(),
     };
-    prints(alloc, &command, printed, status)
+    prints(
+        alloc,
+        keys,
+        &command,
+        "1.1 right any\nchecked 1\n",
+        Status::Done,
+    )
 }
 
-fn check_terms(rt: &impl Abort, alloc: Global) -> Result<(), Memory> {
-    for (depth, printed, status) in TERMS {
-        assert!(rt;
-            is_told(alloc, *depth, printed, *status)?,
-            "of depth {depth}"
-        );
+fn check_terms(rt: &impl Abort, alloc: Global, keys: RandomState) -> Result<(), Memory> {
+    for depth in DEPTHS {
+        assert!(rt; is_right(alloc, keys, *depth)?, "of depth {depth}");
     }
     Ok(())
 }
 
 #[test]
-fn deep_terms_are_told(rt: HostRuntime) -> Result<(), Fail> {
-    check_terms(&rt, rt.alloc())?;
+fn deep_terms_are_right(rt: HostRuntime) -> Result<(), Fail> {
+    check_terms(&rt, rt.alloc(), RandomState::new(&rt)?)?;
     Ok(())
 }

@@ -3,6 +3,7 @@ use crate::commands::{Command, prints};
 use scasp_io::Memory;
 use scasp_top::Status;
 use std::alloc::Global;
+use std::hash::RandomState;
 use std::process::Abort;
 use std::test::Fail;
 
@@ -40,20 +41,26 @@ const TREES: &[(u64, &str, Status)] = &[
 ];
 
 /// Whether the check of so many lines prints this, and ends so.
-fn is_told(alloc: Global, lines: u64, printed: &str, status: Status) -> Result<bool, Memory> {
+fn is_told(
+    alloc: Global,
+    keys: RandomState,
+    lines: u64,
+    printed: &str,
+    status: Status,
+) -> Result<bool, Memory> {
     let text = tree(alloc, lines)?;
     let command = Command {
         words: &["check", "p", "a"],
         program: "p :- p. ?- p.",
         answers: text.as_str(),
     };
-    prints(alloc, &command, printed, status)
+    prints(alloc, keys, &command, printed, status)
 }
 
-fn check_trees(rt: &impl Abort, alloc: Global) -> Result<(), Memory> {
+fn check_trees(rt: &impl Abort, alloc: Global, keys: RandomState) -> Result<(), Memory> {
     for (lines, printed, status) in TREES {
         assert!(rt;
-            is_told(alloc, *lines, printed, *status)?,
+            is_told(alloc, keys, *lines, printed, *status)?,
             "of {lines} lines"
         );
     }
@@ -62,6 +69,6 @@ fn check_trees(rt: &impl Abort, alloc: Global) -> Result<(), Memory> {
 
 #[test]
 fn deep_trees_are_told(rt: HostRuntime) -> Result<(), Fail> {
-    check_trees(&rt, rt.alloc())?;
+    check_trees(&rt, rt.alloc(), RandomState::new(&rt)?)?;
     Ok(())
 }

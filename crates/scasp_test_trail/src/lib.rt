@@ -10,6 +10,8 @@ mod frames;
 #[cfg(test)]
 mod loops;
 #[cfg(test)]
+mod pending;
+#[cfg(test)]
 mod told;
 #[cfg(test)]
 mod trail;

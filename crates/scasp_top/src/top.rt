@@ -55,7 +55,7 @@ pub fn scasp<F: Files, K: Sink>(
         Ok(Command::Check { program, answers }) => {
             check_files(alloc, program.as_str(), answers.as_str(), files, out)
         }
-        Ok(Command::Trial { n }) => try_nodes(alloc, n, out),
+        Ok(Command::Trial { n }) => try_nodes(alloc, n, files.hash_keys(), out),
         Ok(
             Command::Extend {
                 program,

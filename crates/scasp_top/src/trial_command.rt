@@ -15,6 +15,7 @@ use scasp_list::Memory;
 use scasp_name::Names;
 use scasp_syntax::Program;
 use std::alloc::Global;
+use std::hash::RandomState;
 
 /// How many calls a trial may make.
 const TRIAL_BUDGET: u64 = 50_000;
@@ -41,29 +42,29 @@ fn program_line(alloc: Global, n: u32, program: &Program, names: &Names) -> Resu
 }
 
 /// The line of the trial of so many nodes; or, what does not occur, of the first fault of its program.
-fn trial_of(alloc: Global, n: u32) -> Result<Halt, Memory>
+fn trial_of(alloc: Global, n: u32, keys: RandomState) -> Result<Halt, Memory>
     ensures { IfOk result (λ halt. IfLine halt (TriesNodes n)) }
 {
     let text = trial_program(alloc, n)?;
-    match read_text(alloc, text.as_slice()) {
+    match read_text(alloc, text.as_slice(), keys) {
         Ok((program, names)) => program_line(alloc, n, &program, &names),
         Err(halt) => Ok(halt),
     }
 }
 
 /// What is printed for the trial of so many nodes.
-fn trial_halt(alloc: Global, n: u32) -> Halt
+fn trial_halt(alloc: Global, n: u32, keys: RandomState) -> Halt
     ensures { IfLine result (TriesNodes n) }
 {
-    match trial_of(alloc, n) {
+    match trial_of(alloc, n, keys) {
         Ok(halt) => halt,
         Err(Memory) => Halt::Memory,
     }
 }
 
-/// Tries the program of so many nodes, and prints what it comes to.
-pub(crate) fn try_nodes<K: Sink>(alloc: Global, n: u32, out: &mut K) -> Status
+/// Tries the program of so many nodes, whose names are hashed by the keys, and prints what it comes to.
+pub(crate) fn try_nodes<K: Sink>(alloc: Global, n: u32, keys: RandomState, out: &mut K) -> Status
     ensures { (o : Outside) → Reports (Outputs (Some (command.Trial n)) o) (K.taken out.old) (K.taken out.new) (K.faults out.old) (K.faults out.new) result }
 {
-    tell(&trial_halt(alloc, n), out)
+    tell(&trial_halt(alloc, n, keys), out)
 }

@@ -8,11 +8,12 @@ use scasp_print_words::{put, put_number};
 use scasp_system::{HostFiles, SystemFiles, SystemSink, command_words};
 use scasp_view_top::view;
 use std::alloc::Global;
+use std::hash::RandomState;
 use std::process::ExitCode;
 use std::{env, io};
 
-/// The exit code where the system does not give the words.
-const NO_WORDS: u8 = 13;
+/// The exit code where the system does not give the words, or random keys.
+const NOT_GIVEN: u8 = 13;
 
 /// The longest file of lines.
 const LONGEST: u64 = 65_536;
@@ -81,12 +82,15 @@ fn show_file<F: Files, K: Sink>(alloc: Global, name: &str, disk: &mut F, out: &m
 
 fn main(rt: HostRuntime) -> ExitCode {
     let Ok(arguments) = env::args(&rt) else {
-        return ExitCode::from(NO_WORDS);
+        return ExitCode::from(NOT_GIVEN);
     };
     let Ok(names) = command_words(rt.alloc(), arguments) else {
-        return ExitCode::from(NO_WORDS);
+        return ExitCode::from(NOT_GIVEN);
     };
-    let mut disk = SystemFiles::new(rt.alloc(), HostFiles(&rt));
+    let Ok(keys) = RandomState::new(&rt) else {
+        return ExitCode::from(NOT_GIVEN);
+    };
+    let mut disk = SystemFiles::new(rt.alloc(), HostFiles(&rt), keys);
     let mut out = SystemSink::new(io::writer(&rt));
     let mut well = true;
     for name in names.as_slice() {

@@ -40,7 +40,7 @@ fn differ_by_terms(
 ) -> Result<bool, Memory>
     ensures { IfOk result (λ is. is ≡ is_none (fault_of (pair_list (free_of (certificate_of cert.now)) cert.now.given (told_of first.now) (told_of second.now)) hint.Terms)) }
 {
-    if differ_by_names(first, second) {
+    if differ_by_names(alloc, first, second)? {
         return Ok(true);
     }
     let free = cert.sample.len() as u64;

@@ -8,7 +8,6 @@ use crate::pairs::accept_apart;
 use crate::walk::{accept_lines, with_table};
 use scasp_cert::Cert;
 use scasp_checker_answer::{CheckErr, accept_answer, accept_map, accept_sample};
-use scasp_depth::Nested;
 use scasp_syntax::Program;
 use std::alloc::Global;
 
@@ -22,7 +21,6 @@ pub fn accept(alloc: Global, program: &Program, cert: &Cert) -> Result<(), Check
     ensures { Judges result (faults program.now (certificate_of cert.now)) }
 {
     accept_answer(alloc, program, cert)?;
-    cert.serves_walks(alloc)?;
     let tabled = with_table(alloc, program, cert)?;
     accept_lines(alloc, &tabled)?;
     accept_apart(alloc, &tabled.common, &tabled.table)?;

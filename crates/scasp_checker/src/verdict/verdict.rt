@@ -13,9 +13,10 @@ ghost use Rattle.scasp_checker.specs.declared.verdict.verdict.Verdict.TheVariant
 use crate::verdict::acceptance::accept;
 use scasp_cert::{Cert, Checks};
 use scasp_checker_answer::CheckErr;
-use scasp_graph::{MapFault, map_holds};
+use scasp_graph::MapFault;
 use scasp_law_promise::see_rows;
 use scasp_list::Memory;
+use scasp_map::first_fault;
 use scasp_syntax::{Program, RuleList};
 use std::alloc::Global;
 
@@ -56,8 +57,8 @@ pub fn check(alloc: Global, program: &Program, cert: &Cert) -> Result<Verdict, C
     see_rows(cert);
     accept(alloc, program, cert)?;
     let covered = covered(alloc, &cert.checks)?;
-    match map_holds(program, &covered, &cert.map) {
-        Ok(()) => Ok(Verdict::Right),
-        Err(fault) => Ok(Verdict::Joins(fault)),
+    match first_fault(alloc, program, &covered, &cert.map)? {
+        None => Ok(Verdict::Right),
+        Some(fault) => Ok(Verdict::Joins(fault)),
     }
 }

@@ -3,38 +3,38 @@ ghost use Rattle.std.specs.Prelude.{◌≡◌, IfOk};
 ghost use Rattle.scasp_lines.specs.Places.{is_universal};
 ghost use Rattle.scasp_lines_places.specs.Places.View.{place_of};
 ghost use Rattle.scasp_syntax.specs.View.{tm_of};
-ghost use Rattle.scasp_unify.specs.Parts.{occurs, occurs_among};
+ghost use Rattle.scasp_unify.specs.Parts.{occurs};
 ghost use Rattle.scasp_checker_rules.specs.Splits.{is_equated, is_split_between, is_split_variable, may_split};
 
 use crate::line_faults::within::Universal;
 use scasp_checker_answer::{Scope, any_of_terms, has_any, has_either};
 use scasp_lines_places::{Replaced, under};
 use scasp_list::Memory;
-use scasp_syntax::{Con, Term, Terms};
+use scasp_syntax::{Con, Term};
 use std::alloc::Global;
 
-/// Whether the variable stands in the term. The recursion is as deep as the term.
-#[cycle(occurs)]
-fn occurs(x: u64, term: &Term) -> bool
-    ensures { result ≡ occurs x (tm_of term.now) }
-{
-    match term {
-        Term::Var(y) => x == *y,
-        Term::Num(_) => false,
-        Term::App(_, args) => occurs_among(x, args),
+/// One variable.
+#[derive(Drop)]
+struct Single {
+    x: u64,
+}
+
+impl Scope for Single {
+    ghost use Rattle.std.specs.Prelude.{nat_eq};
+
+    ghost known = { λ s y. nat_eq s.x y };
+
+    fn knows(&self, _alloc: Global, y: u64) -> Result<bool, Memory> {
+        Ok(self.x == y)
     }
 }
 
-#[cycle(occurs)]
-fn occurs_among(x: u64, terms: &Terms) -> bool
-    ensures { result ≡ occurs_among x terms.now }
+/// Whether the variable stands in the term. It takes memory for the terms that are still to be seen, and no machine stack.
+#[tactic(auto, using(crate::proofs::LineFaultsLemmas::SplitLemmas::single_occurs))]
+fn occurs(alloc: Global, x: u64, term: &Term) -> Result<bool, Memory>
+    ensures { IfOk result (λ answer. answer ≡ occurs x (tm_of term.now)) }
 {
-    for term in terms.as_slice() {
-        if occurs(x, term) {
-            return true;
-        }
-    }
-    false
+    has_any(alloc, &Single { x }, term)
 }
 
 /// Whether the variable is universal, and not in the other side as it is replaced.
@@ -53,7 +53,7 @@ fn is_split_variable(
         all: &universal.here.replaced,
     };
     let other = under(alloc, other, &replaced)?;
-    Ok(!occurs(x, &other))
+    Ok(!occurs(alloc, x, &other)?)
 }
 
 /// Whether the variable that is the left side, or else the right one, is a universal that is not in the other side; true

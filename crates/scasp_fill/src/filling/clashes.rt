@@ -98,7 +98,7 @@ fn put_pair(
 ) -> Result<(), Memory>
     ensures { OnOk result (made.new ≡ with_pair free given.now (told_of first.now, told_of second.now) made.old) }
 {
-    if differ_by_names(first, second) {
+    if differ_by_names(alloc, first, second)? {
         return Ok(());
     }
     let list = pair_list(alloc, free, given, first, second)?;

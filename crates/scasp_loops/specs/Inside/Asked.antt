@@ -1,6 +1,9 @@
 -- What is asked of literals, in states that have what the answer needs and nothing else.
 use Rattle.std.specs.Prelude.{ℕ, Bool, true, false, not, ◌&&◌, nat_eq, if◌then◌else◌, Option, None, Some, List, [], ◌∷◌, filter}
 use Rattle.std.specs.List.{list_all}
+use Rattle.scasp_bound.specs.Bounds.{root_of}
+use Rattle.scasp_bound.specs.declared.roots.Root.{Root}
+use Rattle.scasp_bound.specs.declared.roots.Root.TheVariants as root
 use Rattle.scasp_readings.specs.Readings.{reading}
 use Rattle.scasp_search_rules.specs.Successors.Calls.{is_firm, is_free, is_opposite, is_same}
 use Rattle.scasp_search_rules.specs.Successors.Reading.{among}
@@ -9,7 +12,7 @@ use Rattle.scasp_search_rules.specs.declared.states.state.Literal.{Literal}
 use Rattle.scasp_search_rules.specs.declared.states.state.Made.{Made}
 use Rattle.scasp_search_rules.specs.declared.states.state.State.{State}
 use Rattle.scasp_syntax.specs.Same.{same_bool, same_number}
-use Rattle.scasp_syntax.specs.Tm.{Tm, Tms, var, num, app, nil, cons}
+use Rattle.scasp_syntax.specs.Tm.{Tms, nil, cons}
 use Rattle.scasp_syntax.specs.Values.{all_under}
 use Rattle.scasp_syntax.specs.declared.atom.Lit.{Lit}
 use Rattle.scasp_syntax.specs.declared.con.Con.{Con}
@@ -46,32 +49,33 @@ only_if false c = []
 
 -- ---- first arguments that clash
 
--- the two begin in different ways, whatever their variables stand for
-abbrev pub clash : Tm → Tm → Bool
-clash (var x) u = false
-clash (num q) (var y) = false
-clash (num q) (num r) = not (same_number q r)
-clash (num q) (app g us) = true
-clash (app f ts) (var y) = false
-clash (app f ts) (num r) = true
-clash (app f ts) (app g us) = not (nat_eq f g)
+-- terms that begin so are different, whatever their variables stand for
+abbrev pub clash : Root → Root → Bool
+clash (root.Var x) r = false
+clash (root.Num q) (root.Var y) = false
+clash (root.Num q) (root.Num r) = not (same_number q r)
+clash (root.Num q) (root.Name g) = true
+clash (root.Name f) (root.Var y) = false
+clash (root.Name f) (root.Num r) = true
+clash (root.Name f) (root.Name g) = not (nat_eq f g)
 
-abbrev pub clash_if : Option Tm → Option Tm → Bool
+abbrev pub clash_if : Option Root → Option Root → Bool
 clash_if None o = false
-clash_if (Some t) None = false
-clash_if (Some t) (Some u) = clash t u
+clash_if (Some r) None = false
+clash_if (Some r) (Some s) = clash r s
 
-abbrev pub first_of : Tms → Option Tm
-first_of nil = None
-first_of (cons t ts) = Some t
+-- how the first of the terms begins
+abbrev pub first_root : Tms → Option Root
+first_root nil = None
+first_root (cons t ts) = Some (root_of t)
 
--- the first argument of the literal, as the bindings read it, clashes with this term
-abbrev pub starts_apart : List Binding → Option Tm → Lit → Bool
-starts_apart bs o l = clash_if o (first_of (all_under (sub_of bs) l.atom.args))
+-- the first argument of the literal, as the bindings read it, clashes with a term that begins so
+abbrev pub starts_apart : List Binding → Option Root → Lit → Bool
+starts_apart bs o l = clash_if o (first_root (all_under (sub_of bs) l.atom.args))
 
--- it is opposite, and its first argument does not clash with this term
-abbrev pub is_opposed : State → Option Tm → Lit → Literal → Bool
+-- it is opposite, and its first argument does not clash with a term that begins so
+abbrev pub is_opposed : State → Option Root → Lit → Literal → Bool
 is_opposed s o l a = not (starts_apart s.bound o a.lit) && is_opposite s l a
 
-abbrev pub opposed : State → Option Tm → Lit → List Literal
+abbrev pub opposed : State → Option Root → Lit → List Literal
 opposed s o l = if is_free s l then filter (is_opposed s o l) s.literals else []

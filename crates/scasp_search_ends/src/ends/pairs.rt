@@ -31,7 +31,7 @@ fn is_apart(
     if !is_pair(first, second) {
         return Ok(true);
     }
-    if clash_among(&first.atom.args, &second.atom.args) {
+    if clash_among(alloc, &first.atom.args, &second.atom.args)? {
         return Ok(true);
     }
     let list = pair_list(alloc, free, given, first, second)?;

@@ -12,13 +12,11 @@ ghost use Rattle.scasp_syntax.specs.Values.{all_under};
 ghost use Rattle.scasp_unify.specs.Negations.{new_parts};
 
 use crate::finished::building::{literal_lines, trees_built};
-use crate::finished::depth::lines_serve;
 use crate::finished::given::{given_lines, once};
 use crate::finished::numbering::free_variables;
 use crate::finished::renaming::lines_renamed;
 use crate::finished::universals::push_all_universals;
 use scasp_cert::{Cert, Checks, Clashes, Nodes};
-use scasp_depth::Nested;
 use scasp_lines_places::{all_under, new_parts};
 use scasp_list::Memory;
 use scasp_sample::{Placing, cons_renamed};
@@ -42,13 +40,6 @@ struct Told {
     terms: Terms,
     given: Cons,
     lines: Lines,
-}
-
-/// Want of memory where a term that is told nests too deep for walks that go down by calls.
-fn told_serves(alloc: Global, told: &Told) -> Result<(), Memory> {
-    told.terms.serves_walks(alloc)?;
-    told.given.serves_walks(alloc)?;
-    lines_serve(alloc, told.lines.as_slice())
 }
 
 fn tell(alloc: Global, state: &State, queried: u64) -> Result<Told, Memory>
@@ -137,7 +128,6 @@ pub fn certificate_at(
     ensures { IfOk result (λ made. certificate_of made ≡ certificate_at (problem_about about.now.program.now about.now.query about.now.map.now) state.now queried) }
 {
     let told = tell(alloc, state, queried)?;
-    told_serves(alloc, &told)?;
     let (free, all) = variables(alloc, about.program, state, &told)?;
     let by = Placing {
         all: all.as_slice(),

@@ -1,47 +1,80 @@
 //! The universal variables that begin at a line.
-ghost use Rattle.std.specs.Prelude.{◌≡◌, ◌++◌, ◌∷◌, [], IfOk, OnOk, filter, not};
+ghost use Rattle.std.specs.Prelude.{◌≡◌, ◌<◌, ◌+◌, ◌++◌, ◌∷◌, ◌&&◌, [], IfOk, OnOk, filter, length, nat_eq, not};
 ghost use Rattle.std.specs.List.{flat_map};
 ghost use Rattle.scasp_search_rules.specs.Successors.Calls.{head_args};
 ghost use Rattle.scasp_search_rules.specs.Successors.Numbering.{all_met, line_universals, met, universal_variables};
 ghost use Rattle.scasp_search_rules.specs.Successors.Reading.{among, count_from};
+ghost use Rattle.scasp_syntax.specs.Tm.{items, weight, weight_s};
 ghost use Rattle.scasp_syntax.specs.View.{tm_of};
 
 use scasp_list::Memory;
+use scasp_name::NameId;
 use scasp_search_calls::{head_args, vars_of_clause};
 use scasp_search_constraints::among;
 use scasp_search_rules::{Line, Lines};
 use scasp_search_terms::constraints::push_all_vars;
-use scasp_syntax::{Atom, Program, Term, Terms, VarList};
+use scasp_syntax::{Atom, Program, Term, Terms, VarList, Walk};
 use std::alloc::Global;
 
-/// Puts the head variables that a part of a literal gives a meaning to behind those found before.
-#[cycle(push_met)]
-fn push_met(head: &Term, part: &Term, found: &mut VarList) -> Result<(), Memory>
-    ensures { OnOk result (found.new ≡ found.old ++ met (tm_of head.now) (tm_of part.now)) }
+/// Whether the names are the same and have as many arguments.
+fn is_same_shape(first: NameId, args: &Terms, second: NameId, others: &Terms) -> bool
+    ensures { result ≡ (nat_eq first second && nat_eq (length (items args.now)) (length (items others.now))) }
+{
+    first == second && args.len() == others.len()
+}
+
+/// Puts the head variables that a part of a literal gives a meaning to behind those found before. If both have arguments and one
+/// shape, their arguments are left to be met before what was left.
+#[tactic(auto, using(crate::proofs::FinishedLemmas::MetLemmas::variable_met, crate::proofs::FinishedLemmas::MetLemmas::args_met, crate::proofs::FinishedLemmas::MetLemmas::number_passed, crate::proofs::FinishedLemmas::MetLemmas::number_met, crate::proofs::FinishedLemmas::MetLemmas::args_next, crate::proofs::FinishedLemmas::MetLemmas::shapes_apart, scasp_unify::proofs::PartLemmas::less_apart))]
+fn push_met<'a>(
+    head: &'a Term,
+    part: &'a Term,
+    heads: &mut Walk<'a>,
+    parts: &mut Walk<'a>,
+    found: &mut VarList,
+) -> Result<(), Memory>
+    ensures met { OnOk result (found.new ++ all_met heads.new parts.new ≡ found.old ++ (met (tm_of head.now) (tm_of part.now) ++ all_met heads.old parts.old)) }
+    ensures less { OnOk result (weight_s heads.new < weight (tm_of head.now) + weight_s heads.old) }
 {
     match (head, part) {
-        (Term::Var(x), _) => found.push(*x),
-        (Term::App(_, args), Term::Var(_)) => push_all_vars(args, found),
+        (Term::Var(x), _) => {
+            found.push(*x)?;
+            Ok(())
+        }
+        (Term::App(_, args), Term::Var(_)) => {
+            push_all_vars(args, found)?;
+            Ok(())
+        }
         (Term::App(first, args), Term::App(second, others)) => {
-            if first == second && args.len() == others.len() {
-                push_all_met(args, others, found)
-            } else {
-                Ok(())
+            if !is_same_shape(*first, args, *second, others) {
+                return Ok(());
             }
+            heads.enter(args)?;
+            parts.enter(others)?;
+            Ok(())
         }
         (Term::App(_, _), Term::Num(_)) | (Term::Num(_), _) => Ok(()),
     }
 }
 
-#[cycle(push_met)]
-fn push_all_met(heads: &Terms, parts: &Terms, found: &mut VarList) -> Result<(), Memory>
+/// Puts the head variables that the parts of a literal give a meaning to behind those found before. It takes memory for the terms
+/// that are still to be met, and no machine stack.
+#[tactic(auto, using(crate::proofs::FinishedLemmas::MetLemmas::pair_met, crate::proofs::FinishedLemmas::MetLemmas::no_heads, crate::proofs::FinishedLemmas::MetLemmas::no_parts))]
+fn push_all_met(
+    alloc: Global,
+    heads: &Terms,
+    parts: &Terms,
+    found: &mut VarList,
+) -> Result<(), Memory>
     ensures { OnOk result (found.new ≡ found.old ++ all_met heads.now parts.now) }
 {
-    let others = parts.as_slice();
-    for (place, head) in heads.as_slice().iter().enumerate() {
-        if place < others.len() {
-            push_met(head, &others[place], found)?;
-        }
+    let mut left = Walk::over(alloc, heads.as_slice());
+    let mut others = Walk::over(alloc, parts.as_slice());
+    'pairs: while let Some(head) = left.next() {
+        let Some(part) = others.next() else {
+            return Ok(());
+        };
+        push_met(head, part, &mut left, &mut others, found)?;
     }
     Ok(())
 }
@@ -58,7 +91,7 @@ fn met_by(
 {
     let head = head_args(alloc, program, rule, first)?;
     let mut found = VarList::new(alloc);
-    push_all_met(&head, &atom.args, &mut found)?;
+    push_all_met(alloc, &head, &atom.args, &mut found)?;
     Ok(found)
 }
 

@@ -6,14 +6,16 @@ use crate::worked::trees::certificate;
 use crate::worked::written::Told::{Equal, HasNotShape, IsNot};
 use crate::worked::written::Written::{A, B, F, V};
 use crate::worked::written::{Sample, Told};
-use scasp_cert::{flat, lines, skeleton};
+use scasp_cert::{flat, lines};
 use scasp_checker::{CheckErr, Reason, Refusal, check};
 use scasp_checker_answer::same_con;
 use scasp_disjoint::{ApartErr, apart, context, pair};
 use scasp_hint::HintFault;
 use scasp_name::Memory;
+use scasp_skeleton::skeleton;
 use scasp_syntax::{Cons, Hint};
 use std::alloc::Global;
+use std::hash::RandomState;
 use std::process::Abort;
 use std::test::Fail;
 
@@ -107,23 +109,25 @@ pub fn same_list(
 
 fn context_is(
     alloc: Global,
+    keys: RandomState,
     sample: &Sample,
     line: u64,
     expected: Option<&[Told]>,
 ) -> Result<bool, Memory> {
-    let program = program(alloc, sample.text)?;
+    let program = program(alloc, keys, sample.text)?;
     let cert = certificate(alloc, sample)?;
     same_list(alloc, context(alloc, &program, &cert, line)?, expected)
 }
 
 fn pair_is(
     alloc: Global,
+    keys: RandomState,
     sample: &Sample,
     first: u64,
     second: u64,
     expected: Option<&[Told]>,
 ) -> Result<bool, Memory> {
-    let program = program(alloc, sample.text)?;
+    let program = program(alloc, keys, sample.text)?;
     let cert = certificate(alloc, sample)?;
     same_list(
         alloc,
@@ -134,36 +138,40 @@ fn pair_is(
 
 fn shown_apart(
     alloc: Global,
+    keys: RandomState,
     sample: &Sample,
     first: u64,
     second: u64,
 ) -> Result<Result<(), ApartErr>, Memory> {
-    let program = program(alloc, sample.text)?;
+    let program = program(alloc, keys, sample.text)?;
     let cert = certificate(alloc, sample)?;
     Ok(apart(alloc, &program, &cert, first, second, &Hint::Terms))
 }
 
 #[test]
 fn lines_have_their_contexts(rt: HostRuntime) -> Result<(), Fail> {
+    let keys = RandomState::new(&rt)?;
     for (sample, line, expected) in CONTEXTS {
-        assert!(rt; context_is(rt.alloc(), sample, *line, *expected)?);
+        assert!(rt; context_is(rt.alloc(), keys, sample, *line, *expected)?);
     }
     Ok(())
 }
 
 #[test]
 fn pairs_have_their_lists(rt: HostRuntime) -> Result<(), Fail> {
+    let keys = RandomState::new(&rt)?;
     for (sample, first, second, expected) in PAIRS {
-        assert!(rt; pair_is(rt.alloc(), sample, *first, *second, *expected)?);
+        assert!(rt; pair_is(rt.alloc(), keys, sample, *first, *second, *expected)?);
     }
     Ok(())
 }
 
 #[test]
 fn lines_are_shown_apart(rt: HostRuntime) -> Result<(), Fail> {
+    let keys = RandomState::new(&rt)?;
     for (sample, first, second, expected) in APART {
         assert_eq!(rt;
-            shown_apart(rt.alloc(), sample, *first, *second)?,
+            shown_apart(rt.alloc(), keys, sample, *first, *second)?,
             *expected
         );
     }
@@ -185,8 +193,12 @@ fn lines_are_counted(rt: HostRuntime) -> Result<(), Fail> {
 }
 
 /// What the checker says of the sample's skeleton, which has no steps.
-fn skeleton_is_refused(alloc: Global, sample: &Sample) -> Result<(u64, Option<CheckErr>), Memory> {
-    let program = program(alloc, sample.text)?;
+fn skeleton_is_refused(
+    alloc: Global,
+    keys: RandomState,
+    sample: &Sample,
+) -> Result<(u64, Option<CheckErr>), Memory> {
+    let program = program(alloc, keys, sample.text)?;
     let cert = certificate(alloc, sample)?;
     let bare = skeleton(alloc, &cert)?;
     Ok((lines(alloc, &bare)?, check(alloc, &program, &bare).err()))
@@ -199,6 +211,7 @@ fn skeletons_have_no_steps(rt: HostRuntime) -> Result<(), Fail> {
         reason: Reason::HintNotReached,
     };
     let expected = (13, Some(CheckErr::Refused(refusal)));
-    assert_eq!(rt; skeleton_is_refused(rt.alloc(), &DENIAL)?, expected);
+    let keys = RandomState::new(&rt)?;
+    assert_eq!(rt; skeleton_is_refused(rt.alloc(), keys, &DENIAL)?, expected);
     Ok(())
 }

@@ -6,6 +6,7 @@ use scasp_reader::read_program;
 use scasp_syntax::{Atom, Con, Cons, Hint, Program, Term, Terms};
 use scasp_test_samples::{Name, atom, one};
 use std::alloc::Global;
+use std::hash::RandomState;
 
 fn constant(alloc: Global, place: u64) -> Term {
     Term::App(NameId::new(place), Terms::new(alloc))
@@ -100,17 +101,17 @@ pub fn applied(alloc: Global, name: Name, args: &[Written]) -> Result<Atom, Memo
 /// The names of predicates and terms, each at the place that the tables give it: the first one is at 2.
 const NAMES: &[&str] = &["p", "q", "r", "s", "t", "u", "v", "a", "b", "c", "f"];
 
-fn names(alloc: Global) -> Result<Names, Memory> {
-    let mut table = Names::new(alloc)?;
+fn names(alloc: Global, keys: RandomState) -> Result<Names, Memory> {
+    let mut table = Names::new(alloc, keys)?;
     for name in NAMES {
         table.intern(name)?;
     }
     Ok(table)
 }
 
-/// The program of this text. A text that is refused is want of memory, which no table expects.
-pub fn program(alloc: Global, text: &str) -> Result<Program, Memory> {
-    let table = names(alloc)?;
+/// The program of this text, whose names are hashed by the keys. A text that is refused is want of memory, which no table expects.
+pub fn program(alloc: Global, keys: RandomState, text: &str) -> Result<Program, Memory> {
+    let table = names(alloc, keys)?;
     match read_program(alloc, text.as_bytes(), table) {
         Ok((program, _)) => Ok(program),
         Err(_) => Err(Memory),

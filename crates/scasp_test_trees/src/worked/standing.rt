@@ -16,6 +16,7 @@ use scasp_name::Memory;
 use scasp_syntax::{Lit, Program, same_lit};
 use scasp_test_samples::{Name, P, Q, R, S};
 use std::alloc::Global;
+use std::hash::RandomState;
 use std::test::Fail;
 
 /// What a line is due for: a literal, true or false; a constraint; nothing, since it is no line of a node.
@@ -172,16 +173,22 @@ fn all_stand(
     Ok(lines.next(alloc)?.is_none())
 }
 
-fn sample_stands(alloc: Global, sample: &Sample, expected: &[Standing]) -> Result<bool, Memory> {
-    let program = program(alloc, sample.text)?;
+fn sample_stands(
+    alloc: Global,
+    keys: RandomState,
+    sample: &Sample,
+    expected: &[Standing],
+) -> Result<bool, Memory> {
+    let program = program(alloc, keys, sample.text)?;
     let cert = certificate(alloc, sample)?;
     all_stand(alloc, &program, &cert, expected)
 }
 
 #[test]
 fn lines_have_their_dues_and_contexts(rt: HostRuntime) -> Result<(), Fail> {
+    let keys = RandomState::new(&rt)?;
     for (sample, expected) in STANDING {
-        assert!(rt; sample_stands(rt.alloc(), sample, expected)?);
+        assert!(rt; sample_stands(rt.alloc(), keys, sample, expected)?);
     }
     Ok(())
 }

@@ -1,7 +1,8 @@
 //! A certificate of several forms, made, counted and taken to its skeleton.
 use crate::certificates::made::{boxed, certificate, covers, nodes};
-use scasp_cert::{Case, Cert, Check, Clash, Node, Nodes, flat, lines, skeleton};
+use scasp_cert::{Case, Cert, Check, Clash, Node, Nodes, flat, lines};
 use scasp_name::Memory;
+use scasp_skeleton::skeleton;
 use scasp_syntax::{Con, Hint, Term};
 use scasp_test_samples::{P, atom, literal};
 use std::alloc::Global;

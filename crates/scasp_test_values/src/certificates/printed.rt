@@ -8,6 +8,7 @@ use scasp_print::print_cert;
 use scasp_syntax::{Atom, Con, Cons, Hint, Pred, PredMap, Term, Terms};
 use scasp_test_samples::{Literal, Name, P, Q, R, S, T, atom, literal, map_of, one, pred};
 use std::alloc::Global;
+use std::hash::RandomState;
 use std::process::Abort;
 use std::test::Fail;
 
@@ -72,8 +73,8 @@ end
 ";
 
 /// The names `p`, `q`, `not`, `ok` and `it's`, from number 2.
-fn table(alloc: Global) -> Result<Names, Fail> {
-    let mut names = Names::new(alloc)?;
+fn table(alloc: Global, keys: RandomState) -> Result<Names, Fail> {
+    let mut names = Names::new(alloc, keys)?;
     for text in ["p", "q", "not", "ok", "it's"] {
         let _ = names.intern(text)?;
     }
@@ -339,9 +340,14 @@ fn all_forms(alloc: Global) -> Result<Cert, Memory> {
     Ok(cert)
 }
 
-fn test_block(rt: &impl Abort, alloc: Global, cert: &Cert, block: &str) -> Result<(), Fail> {
-    let names = table(alloc)?;
-    let text = print_cert(alloc, &names, cert, 1)?;
+fn test_block(
+    rt: &impl Abort,
+    alloc: Global,
+    names: &Names,
+    cert: &Cert,
+    block: &str,
+) -> Result<(), Fail> {
+    let text = print_cert(alloc, names, cert, 1)?;
     assert!(rt; text.as_slice() == block.as_bytes());
     Ok(())
 }
@@ -349,9 +355,10 @@ fn test_block(rt: &impl Abort, alloc: Global, cert: &Cert, block: &str) -> Resul
 #[test]
 fn certificates_are_written(rt: HostRuntime) -> Result<(), Fail> {
     let alloc = rt.alloc();
-    test_block(&rt, alloc, &fact(alloc, Nodes::new(alloc))?, FACT)?;
-    test_block(&rt, alloc, &even_loop(alloc)?, EVEN_LOOP)?;
-    test_block(&rt, alloc, &all_forms(alloc)?, ALL_FORMS)?;
-    test_block(&rt, alloc, &numbers(alloc)?, NUMBERS)?;
+    let names = table(alloc, RandomState::new(&rt)?)?;
+    test_block(&rt, alloc, &names, &fact(alloc, Nodes::new(alloc))?, FACT)?;
+    test_block(&rt, alloc, &names, &even_loop(alloc)?, EVEN_LOOP)?;
+    test_block(&rt, alloc, &names, &all_forms(alloc)?, ALL_FORMS)?;
+    test_block(&rt, alloc, &names, &numbers(alloc)?, NUMBERS)?;
     Ok(())
 }

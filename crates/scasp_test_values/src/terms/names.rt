@@ -1,5 +1,6 @@
 //! Tables of names.
 use scasp_name::{NIL, NameId, Names, PAIR};
+use std::hash::RandomState;
 use std::process::Abort;
 use std::test::Fail;
 
@@ -28,7 +29,7 @@ fn look_up(rt: &impl Abort, names: &Names) {
 
 #[test]
 fn names_have_the_places_of_their_texts(rt: HostRuntime) -> Result<(), Fail> {
-    let mut names = Names::new(rt.alloc())?;
+    let mut names = Names::new(rt.alloc(), RandomState::new(&rt)?)?;
     enter(&rt, &mut names)?;
     look_up(&rt, &names);
     Ok(())

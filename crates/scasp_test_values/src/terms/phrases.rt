@@ -4,6 +4,7 @@ use scasp_reader_terms::Reader;
 use scasp_reader_tokens::{Placed, tokens};
 use scasp_syntax::{Term, size};
 use std::alloc::Global;
+use std::hash::RandomState;
 use std::test::Fail;
 
 /// Texts, and the size of the term at the front, if there is one.
@@ -21,9 +22,9 @@ fn term(alloc: Global, all: &[Placed], names: Names) -> Option<Term> {
     reader.term(alloc, 200).ok()
 }
 
-fn size_of(alloc: Global, bytes: &[u8]) -> Result<Option<u64>, Fail> {
+fn size_of(alloc: Global, bytes: &[u8], keys: RandomState) -> Result<Option<u64>, Fail> {
     let all = tokens(alloc, bytes)?;
-    let names = Names::new(alloc)?;
+    let names = Names::new(alloc, keys)?;
     match term(alloc, all.as_slice(), names) {
         Some(term) => Ok(Some(size(alloc, &term)?)),
         None => Ok(None),
@@ -32,8 +33,9 @@ fn size_of(alloc: Global, bytes: &[u8]) -> Result<Option<u64>, Fail> {
 
 #[test]
 fn terms_are_read(rt: HostRuntime) -> Result<(), Fail> {
+    let keys = RandomState::new(&rt)?;
     for (bytes, wanted) in &TEXTS {
-        assert_eq!(rt; size_of(rt.alloc(), bytes)?, *wanted);
+        assert_eq!(rt; size_of(rt.alloc(), bytes, keys)?, *wanted);
     }
     Ok(())
 }

@@ -1,7 +1,7 @@
 use Rattle.std.proofs.Common.{◌≡◌, ◌∙◌, List, map, sym, ap, subst}
 use Rattle.scasp_closure.specs.Reading.{atoms_in}
 use Rattle.scasp_syntax.specs.declared.atom.Atom.{Atom}
-use Rattle.scasp_extend_levels.specs.Entries.{level_in, plus_in}
+use Rattle.scasp_map.specs.Entries.{level_in, plus_in}
 use Rattle.scasp_extend_levels.specs.Numbered.{StandAll, standing_of}
 use Rattle.scasp_extend_levels.specs.Scenes.{Scene, inside, read}
 use Rattle.scasp_extend_levels.specs.Sets.{with_atoms}

@@ -1,5 +1,5 @@
 use Rattle.std.proofs.Common.{◌≡◌, ◌++◌, drop, map}
-use Rattle.scasp_extend_levels.specs.Entries.{level_in, plus_in}
+use Rattle.scasp_map.specs.Entries.{level_in, plus_in}
 use Rattle.scasp_extend_levels.specs.Numbered.{standing_of}
 use Rattle.scasp_extend_levels.proofs.standings.standings_of.Given as goal
 

@@ -1,6 +1,4 @@
 use Rattle.std.proofs.Common.{◌≡◌, ◌-◌, [], List, Some, ap, arith, slice_get, subst, sym, ◌∙◌}
-use Rattle.std.specs.Prelude.{option_map}
-use Rattle.scasp_syntax.specs.View.{tm_of}
 use Rattle.scasp_loops.specs.Inside.Asked.{standing}
 use Rattle.scasp_loops.specs.Inside.Hinted.{AreHints}
 use Rattle.scasp_loops.specs.Inside.Zipped.{literals_from}
@@ -20,7 +18,7 @@ literals-preserved c =
     let marks : slice_get ms at ≡ Some c.marks_at.result = ap (λ (xs : List Marks). slice_get xs at) (sym c.as_slice-marks.ensures) ∙ c.marks_at.ensures in
     let hints : AreHints ls c.as_slice-hints.result.now = subst (AreHints ls) (sym c.as_slice-hints.ensures) c.requires.hinted.hints in
     record {
-      made = apart_next (standing c.args.variables.now.now c.args.call.now.bound.now.now []) (option_map tm_of c.args.call.now.first) c.args.call.now.lit.now es ms c.key_of-key.result c.same_before-left.result c.literals.left c.entry_at-entry.result.now c.marks_at.result
+      made = apart_next (standing c.args.variables.now.now c.args.call.now.bound.now.now []) c.args.call.now.first c.args.call.now.lit.now es ms c.key_of-key.result c.same_before-left.result c.literals.left c.entry_at-entry.result.now c.marks_at.result
           c.in_ok-are_opposed.are_opposed c.literals.made c.push_differing.new.list c.key_of-key.ensures (omega arith) c.same_before-left.ensures.place entry marks c.in_ok-are_opposed.ensures
           (c.same_before-left.ensures.others ls hints) c.in_ok-push_differing.ensures c.literals.invariant.made;
       within = omega arith;

@@ -10,10 +10,10 @@ use Rattle.scasp_syntax.specs.declared.con.Con.{Con}
 use Rattle.scasp_syntax.specs.declared.hint.Hint.TheVariants as hint
 use Rattle.scasp_checker.proofs.pairs.pairs.differ_by_terms.Goals as goal
 
-pub returns-then-differ_by_names : goal.returns-then-differ_by_names
-returns-then-differ_by_names c =
+pub returns-then-branch : goal.returns-then-branch
+returns-then-branch c =
     let cert = c.args.cert.now in
-    sym (ap is_none (named-apart (free_of (certificate_of cert)) cert.given (told_of c.args.first.now) (told_of c.args.second.now) (sym c.differ_by_names.ensures ∙ c.if-differ_by_names.true)))
+    sym (ap is_none (named-apart (free_of (certificate_of cert)) cert.given (told_of c.args.first.now) (told_of c.args.second.now) (sym c.in_ok-differ_by_names.ensures ∙ c.if-branch.true)))
 
 pub returns : goal.returns
 returns c =

@@ -3,7 +3,7 @@ use Rattle.std.specs.BTreeMap.{get}
 use Rattle.std.specs.Ordering.{nat_cmp}
 use Rattle.scasp_sound.specs.MapLevels.{level_of, plus_of}
 use Rattle.scasp_syntax.specs.declared.atom.Pred.{Pred}
-use Rattle.scasp_extend_levels.specs.Entries.{entry_at}
+use Rattle.scasp_map.specs.Entries.{entry_at}
 use Rattle.scasp_extend_levels.proofs.LevelLemmas.{begins, empty-get, ends, step-by-map, taken}
 use Rattle.scasp_extend_levels.proofs.buckets.Levels.model.Goals as goal
 

@@ -4,7 +4,7 @@ use Rattle.std.specs.Ordering.{nat_cmp}
 use Rattle.scasp_sound.specs.MapLevels.{level_of}
 use Rattle.scasp_syntax.specs.declared.atom.Atom.{Atom}
 use Rattle.scasp_syntax.specs.declared.atom.Pred.{Pred}
-use Rattle.scasp_extend_levels.specs.Entries.{entry_at}
+use Rattle.scasp_map.specs.Entries.{entry_at}
 use Rattle.scasp_extend_levels.proofs.BucketLemmas.{sorted-more, sorted-same}
 use Rattle.scasp_extend_levels.proofs.buckets.Levels.push.Goals as goal
 

@@ -8,11 +8,11 @@ use Rattle.scasp_lines_walk.specs.Shown.TableView.{told_of}
 use Rattle.scasp_fill.proofs.FillingLemmas.ClashFoundLemmas.{by-hint, by-terms, by-unknown}
 use Rattle.scasp_fill.proofs.filling.clashes.put_pair.Goals as goal
 
-pub returns-then-differ_by_names : goal.returns-then-differ_by_names
-returns-then-differ_by_names c =
+pub returns-then-branch : goal.returns-then-branch
+returns-then-branch c =
     let a = told_of c.args.first.now in
     let b = told_of c.args.second.now in
-    by-terms c.args.free c.args.given.now a b c.args.made.now (named-apart c.args.free c.args.given.now a b (sym c.differ_by_names.ensures ∙ c.if-differ_by_names.true))
+    by-terms c.args.free c.args.given.now a b c.args.made.now (named-apart c.args.free c.args.given.now a b (sym c.in_ok-differ_by_names.ensures ∙ c.if-branch.true))
 
 pub returns-in-Shown : goal.returns-in-Shown
 returns-in-Shown c =

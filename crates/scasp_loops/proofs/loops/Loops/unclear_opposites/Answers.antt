@@ -7,5 +7,5 @@ use Rattle.scasp_loops.proofs.loops.Loops.unclear_opposites.Goals as goal
 
 pub returns : goal.returns
 returns c = λ s e b m.
-    assumed_alike s c.args.variables.now.now c.args.bound.now.now (literals_in c.self.inside.lists) c.args.lit.now c.in_ok-first.first c.in_ok-made.made
-    (e ∙ ap (λ (p : Past Literal). p.now) (sym c.self.view_is)) b m c.in_ok-first.ensures c.in_ok-made.ensures
+    assumed_alike s c.args.variables.now.now c.args.bound.now.now (literals_in c.self.inside.lists) c.args.lit.now c.first_root-first.result c.in_ok-made.made
+    (e ∙ ap (λ (p : Past Literal). p.now) (sym c.self.view_is)) b m c.first_root-first.ensures c.in_ok-made.ensures
